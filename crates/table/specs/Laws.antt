@@ -1,0 +1,279 @@
+-- Laws of the token table: the ways out of each reader, the two loops over the records, and what a good table's tokens are.
+-- Assumes nothing.
+use mathlib.Core.Path.{_≡_, refl, sym, ap, _∙_}
+use mathlib.Core.Bool.{Bool, true, false, _&&_, not}
+use mathlib.Core.List.{List, [], _∷_, _++_}
+use Prim.Native.Nat.{ℕ, zero, suc, _+_, _-_, _≤_, _<_}
+use native.Mathlib.Numerals.{add-one}
+use native.Mathlib.Omega.{arith}
+use lib.ListN.{length, getD, drop, drop-of-length-le, List·getD-eq-default}
+use lib.Seq.{drop-cons}
+use lib.Dec.{eqb, leb, ltb}
+use borrow.Author.Tests.{lt-ltb, le-ltb, le-leb, lt-leb, eq-eqb, ne-eqb, ltb-true, leb-true}
+use Rattle.text.specs.Bytes.{bytes}
+use Rattle.text.specs.Logic.{false-true, and-both}
+use Rattle.text.specs.Text.{stands}
+use Rattle.table.specs.Outcome.{Outcome, answered, refused}
+use Rattle.table.specs.declared.Mark.{Mark}
+use Rattle.table.specs.declared.Mark.the-variants.{Notice, Success, Error, Prompt}
+use Rattle.table.specs.declared.Record.{Record}
+use Rattle.table.specs.declared.Read.{Read}
+use Rattle.table.specs.declared.Read.the-variants.{Is, Faulty, End}
+use Rattle.table.specs.declared.Checked.{Checked}
+use Rattle.table.specs.declared.Checked.the-variants as checks
+use Rattle.table.specs.Table.{isPlain, allPlain, isText, orFaulty, textAt, promptAt, ifMark, marked, unlessEnd, recordAt, textOf, endOf, goodIf, goodAt, noMore, thenRule, rulingBy, ruling, outcome, thenRead, nthFrom, Token, tokenOf, thenTokens, tokensBy, tokens}
+
+-- The check's promise determines its answer.
+pub outcome-one : (r q : Checked) → outcome r ≡ outcome q → r ≡ q
+outcome-one (checks.Good n) (checks.Good m) e = cc
+outcome-one (checks.Good n) (checks.Faulty m) e = let z : _≡_ {A = ℕ} 0 1 = cc in absurd (omega arith)
+outcome-one (checks.Faulty n) (checks.Good m) e = let z : _≡_ {A = ℕ} 0 1 = cc in absurd (omega arith)
+outcome-one (checks.Faulty n) (checks.Faulty m) e = cc
+
+-- `isPlain`
+pub plain-low : (b : ℕ) → b < 0x20 → false ≡ isPlain b
+unfolding isPlain
+plain-low b h = rw (lt-leb 0x20 b h)
+
+pub plain-from : (b : ℕ) → 0x20 ≤ b → leb b 0x7E ≡ isPlain b
+unfolding isPlain
+plain-from b h = rw (le-leb 0x20 b h)
+
+-- `isText`: each test passed on the way to the loop over its bytes
+module _ (t : List ℕ) where
+  pub text-empty : length t ≡ 0 → false ≡ isText t
+  unfolding isText
+  text-empty e = rw (lt-leb 1 (length t) (omega arith))
+
+  module _ (a : (length t ≡ 0 → ⊥)) where
+    pub text-long : 32 < length t → false ≡ isText t
+    unfolding isText
+    text-long h = rw (le-leb 1 (length t) (omega arith), lt-leb (length t) 32 h)
+
+    module _ (b : length t ≤ 32) where
+      pub text-first : getD t 0 0 ≡ 32 → false ≡ isText t
+      unfolding isText
+      text-first h = rw (le-leb 1 (length t) (omega arith), le-leb (length t) 32 b, eq-eqb (getD t 0 0) 32 h)
+
+      module _ (c : (getD t 0 0 ≡ 32 → ⊥)) where
+        pub text-last : getD t (length t - 1) 0 ≡ 32 → false ≡ isText t
+        unfolding isText
+        text-last h = rw (le-leb 1 (length t) (omega arith), le-leb (length t) 32 b, ne-eqb (getD t 0 0) 32 c, eq-eqb (getD t (length t - 1) 0) 32 h)
+
+        pub text-plain : (getD t (length t - 1) 0 ≡ 32 → ⊥) → isText t ≡ allPlain t
+        unfolding isText
+        text-plain h = rw (le-leb 1 (length t) (omega arith), le-leb (length t) 32 b, ne-eqb (getD t 0 0) 32 c, ne-eqb (getD t (length t - 1) 0) 32 h)
+
+  pub all-more : (i : ℕ) → i < length t → isPlain (getD t i 0) ≡ true → allPlain (drop i t) ≡ allPlain (drop (i + 1) t)
+  unfolding allPlain
+  all-more i h e = rw (add-one, drop-cons t i 0 h, e)
+
+  pub all-stop : (i : ℕ) → i < length t → isPlain (getD t i 0) ≡ false → allPlain (drop i t) ≡ false
+  unfolding allPlain
+  all-stop i h e = rw (drop-cons t i 0 h, e)
+
+  pub all-end : (i : ℕ) → length t ≤ i → allPlain (drop i t) ≡ true
+  unfolding allPlain
+  all-end i h = rw (drop-of-length-le t h)
+
+-- `textAt` and `promptAt`
+module _ (m : Mark) (p : ℕ) (t : List ℕ) (k : ℕ) where
+  pub text-cut : length t ≤ k → Faulty ≡ textAt m p t k
+  unfolding textAt orFaulty
+  text-cut h = rw (le-ltb (k + getD t k 0) (length t) (omega arith))
+
+  module _ (l : ℕ) (e : l ≡ getD t k 0) where
+    pub text-past : length t ≤ k + l → Faulty ≡ textAt m p t k
+    unfolding textAt orFaulty
+    text-past h = rw (le-ltb (k + getD t k 0) (length t) (rw e at h))
+
+    pub text-read : k + l < length t → Is (record { mark = m; prompt = p; place = k + 1; len = l }) ≡ textAt m p t k
+    unfolding textAt orFaulty
+    text-read h = rw (e, lt-ltb (k + getD t k 0) (length t) (rw e at h))
+
+module _ (t : List ℕ) (k : ℕ) where
+  pub prompt-cut : length t ≤ k → Faulty ≡ promptAt t k
+  unfolding promptAt orFaulty
+  prompt-cut h = rw (le-ltb k (length t) h)
+
+  pub prompt-read : k < length t → textAt Prompt (getD t k 0) t (k + 1) ≡ promptAt t k
+  unfolding promptAt orFaulty
+  prompt-read h = rw (lt-ltb k (length t) h)
+
+-- `recordAt`: one level for each mark that doesn't stand
+module _ (t : List ℕ) (at : ℕ) where
+  pub read-end : length t ≤ at → End ≡ recordAt t at
+  unfolding recordAt unlessEnd
+  read-end h = rw (le-leb (length t) at h)
+
+  module _ (p : at < length t) where
+    at-mark : marked t at ≡ recordAt t at
+    unfolding recordAt unlessEnd
+    at-mark = rw (lt-leb (length t) at p)
+
+    pub read-notice : stands (bytes "UR") t at ≡ true → textAt Notice 0 t (at + 2) ≡ recordAt t at
+    unfolding marked ifMark
+    read-notice h = (rw h) ∙ at-mark
+
+    module _ (u : stands (bytes "UR") t at ≡ false) where
+      pub read-success : stands (bytes "CS") t at ≡ true → textAt Success 0 t (at + 2) ≡ recordAt t at
+      unfolding marked ifMark
+      read-success h = (rw (u, h)) ∙ at-mark
+
+      module _ (s : stands (bytes "CS") t at ≡ false) where
+        pub read-error : stands (bytes "CE") t at ≡ true → textAt Error 0 t (at + 2) ≡ recordAt t at
+        unfolding marked ifMark
+        read-error h = (rw (u, s, h)) ∙ at-mark
+
+        module _ (e : stands (bytes "CE") t at ≡ false) where
+          pub read-prompt : stands (bytes "CP") t at ≡ true → promptAt t (at + 2) ≡ recordAt t at
+          unfolding marked ifMark
+          read-prompt h = (rw (u, s, e, h)) ∙ at-mark
+
+          pub read-none : stands (bytes "CP") t at ≡ false → Faulty ≡ recordAt t at
+          unfolding marked ifMark
+          read-none h = (rw (u, s, e, h)) ∙ at-mark
+
+-- a record lies in its table
+abbrev Inside : List ℕ → Read → Type 0
+Inside t (Is r) = r .place + r .len ≤ length t
+Inside t Faulty = Unit {0}
+Inside t End = Unit {0}
+
+faulty-inside : (t : List ℕ) (b : Bool) (r : Read) → (b ≡ true → Inside t r) → Inside t (orFaulty b r)
+unfolding orFaulty
+faulty-inside t true r h = h refl
+faulty-inside t false r h = tt
+
+text-inside : (m : Mark) (p : ℕ) (t : List ℕ) (k : ℕ) → Inside t (textAt m p t k)
+unfolding textAt
+text-inside m p t k =
+    faulty-inside t (ltb (k + getD t k 0) (length t)) (Is (record { mark = m; prompt = p; place = k + 1; len = getD t k 0 }))
+    (λ e. omega (arith, ltb-true (k + getD t k 0) (length t) e))
+
+either-inside : (t : List ℕ) (b : Bool) (r q : Read) → Inside t r → Inside t q → Inside t (ifMark b r q)
+unfolding ifMark
+either-inside t true r q h g = h
+either-inside t false r q h g = g
+
+marked-inside : (t : List ℕ) (at : ℕ) → Inside t (marked t at)
+unfolding marked promptAt
+marked-inside t at =
+    let k = at + 2 in
+    either-inside t (stands (bytes "UR") t at) (textAt Notice 0 t k) _ (text-inside Notice 0 t k)
+    (either-inside t (stands (bytes "CS") t at) (textAt Success 0 t k) _ (text-inside Success 0 t k)
+    (either-inside t (stands (bytes "CE") t at) (textAt Error 0 t k) _ (text-inside Error 0 t k)
+    (either-inside t (stands (bytes "CP") t at) (promptAt t k) Faulty
+    (faulty-inside t (ltb k (length t)) (textAt Prompt (getD t k 0) t (k + 1)) (λ e. text-inside Prompt (getD t k 0) t (k + 1)))
+    tt)))
+
+read-inside : (t : List ℕ) (at : ℕ) → Inside t (recordAt t at)
+unfolding recordAt
+read-inside t at = go (leb (length t) at)
+  where
+    go : (b : Bool) → Inside t (unlessEnd b (marked t at))
+    go true = unfold unlessEnd in tt
+    go false = unfold unlessEnd in marked-inside t at
+
+good-inside : (t : List ℕ) (r : Read) → Inside t r → Inside t (goodIf t r)
+unfolding goodIf
+good-inside t (Is r) h = faulty-inside t (isText (textOf t r)) (Is r) (λ e. h)
+good-inside t Faulty h = tt
+good-inside t End h = tt
+
+pub record-inside : (t : List ℕ) (at : ℕ) (q : Read) (r : Record) → q ≡ recordAt t at → q ≡ Is r → r .place + r .len ≤ length t
+record-inside t at q r p e = rw (sym p ∙ e) at (read-inside t at)
+
+pub good-record-inside : (t : List ℕ) (at : ℕ) (q : Read) (r : Record) → q ≡ goodAt t at → q ≡ Is r → r .place + r .len ≤ length t
+unfolding goodAt
+good-record-inside t at q r p e = rw (sym p ∙ e) at (good-inside t (recordAt t at) (read-inside t at))
+
+-- the loop of `check`: n records are good, and the ruling is that on the rest
+pub record Counting (t : List ℕ) (at n : ℕ) : Type 0 where
+  pub few : n ≤ 64
+  pub is : ruling t ≡ rulingBy (64 - n) t at n
+
+pub counting-none : (t : List ℕ) → Counting t 0 0
+unfolding ruling
+counting-none t = record { few = omega arith; is = refl }
+
+module _ (t : List ℕ) (at n : ℕ) (w : Counting t at n) where
+  module _ (h : n < 64) (q : Read) (p : q ≡ goodAt t at) where
+    at-read : ruling t ≡ thenRule q n (λ x. rulingBy (64 - (n + 1)) t x (n + 1))
+    unfolding rulingBy
+    at-read =
+        let e : 64 - n ≡ suc (64 - (n + 1)) = omega arith in
+        w .is ∙ ap (λ (k : ℕ). rulingBy k t at n) e ∙ ap (λ (y : Read). thenRule y n (λ x. rulingBy (64 - (n + 1)) t x (n + 1))) (sym p)
+
+    pub check-end : q ≡ End → answered n ≡ ruling t
+    unfolding thenRule
+    check-end e = sym (rw e at at-read)
+
+    pub check-faulty : q ≡ Faulty → refused 2 (n ∷ []) ≡ ruling t
+    unfolding thenRule
+    check-faulty e = sym (rw e at at-read)
+
+    pub check-more : (r : Record) → q ≡ Is r → Counting t (r .place + r .len) (n + 1)
+    unfolding thenRule endOf
+    check-more r e = record { few = omega arith; is = rw e at at-read }
+
+  module _ (h : 64 ≤ n) where
+    at-last : ruling t ≡ noMore (leb (length t) at) n
+    unfolding rulingBy
+    at-last = let e : 64 - n ≡ 0 = omega arith in w .is ∙ ap (λ (k : ℕ). rulingBy k t at n) e
+
+    pub check-full : length t ≤ at → answered n ≡ ruling t
+    unfolding noMore
+    check-full e = sym (rw (le-leb (length t) at e) at at-last)
+
+    pub check-over : at < length t → refused 2 (n ∷ []) ≡ ruling t
+    unfolding noMore
+    check-over e = sym (rw (lt-leb (length t) at e) at at-last)
+
+-- the loop of `nth`: the record sought is number `left` from `at` on
+module _ (t : List ℕ) (k at left : ℕ) (w : nthFrom k t 0 ≡ nthFrom left t at) where
+  module _ (h : 0 < left) (q : Read) (p : q ≡ recordAt t at) where
+    at-nth : nthFrom k t 0 ≡ thenRead q (λ x. nthFrom (left - 1) t x)
+    unfolding nthFrom
+    at-nth =
+        let e : left ≡ suc (left - 1) = omega arith in
+        w ∙ ap (λ (n : ℕ). nthFrom n t at) e ∙ ap (λ (y : Read). thenRead y (λ x. nthFrom (left - 1) t x)) (sym p)
+
+    pub nth-end : q ≡ End → End ≡ nthFrom k t 0
+    unfolding thenRead
+    nth-end e = sym (rw e at at-nth)
+
+    pub nth-faulty : q ≡ Faulty → Faulty ≡ nthFrom k t 0
+    unfolding thenRead
+    nth-faulty e = sym (rw e at at-nth)
+
+    pub nth-more : (r : Record) → q ≡ Is r → nthFrom k t 0 ≡ nthFrom (left - 1) t (r .place + r .len)
+    unfolding thenRead endOf
+    nth-more r e = rw e at at-nth
+
+  pub nth-here : left ≤ 0 → (q : Read) → q ≡ recordAt t at → q ≡ nthFrom k t 0
+  unfolding nthFrom
+  nth-here h q p = let e : left ≡ 0 = omega arith in p ∙ sym (w ∙ ap (λ (n : ℕ). nthFrom n t at) e)
+
+-- `goodIf` by cases
+module _ (t : List ℕ) (at : ℕ) (q : Read) (p : q ≡ recordAt t at) where
+  pub good-faulty : q ≡ Faulty → Faulty ≡ goodAt t at
+  unfolding goodAt goodIf
+  good-faulty e = ap (goodIf t) (sym e ∙ p)
+
+  pub good-end : q ≡ End → End ≡ goodAt t at
+  unfolding goodAt goodIf
+  good-end e = ap (goodIf t) (sym e ∙ p)
+
+  module _ (r : Record) (e : q ≡ Is r) (x : List ℕ) (v : x ≡ textOf t r) (b : Bool) (w : b ≡ isText x) where
+    at-text : orFaulty b (Is r) ≡ goodAt t at
+    unfolding goodAt goodIf
+    at-text = ap (λ (c : Bool). orFaulty c (Is r)) (w ∙ ap isText v) ∙ ap (goodIf t) (sym e ∙ p)
+
+    pub good-bad : b ≡ false → Faulty ≡ goodAt t at
+    unfolding orFaulty
+    good-bad z = rw z at at-text
+
+    pub good-good : b ≡ true → Is r ≡ goodAt t at
+    unfolding orFaulty
+    good-good z = rw z at at-text

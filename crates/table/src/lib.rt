@@ -1,0 +1,205 @@
+// The token table of document 01 as it lies in memory: what atat's user hands over as a Parser and three functions is a slice of records here.
+// A record is a two-byte mark, for CP one prompt byte, a length byte and the text. It is known by its number, from 0.
+// Every function is total. `check` alone judges a table; the readers take the records as they lie, up to the first that can't be read.
+ghost use mathlib.Core.Path.{_≡_};
+ghost use Rattle.table.specs.Table.{isPlain, isText, textAt, promptAt, recordAt, textOf, goodAt, ruling, outcome, nthFrom};
+
+// What a record stands for: UR, CS, CE, CP.
+pub enum Mark {
+    Notice,
+    Success,
+    Error,
+    Prompt,
+}
+
+// A record: its mark, its prompt byte (0 for any mark but CP), and where its text lies in the table.
+pub struct Record {
+    pub mark: Mark,
+    pub prompt: u8,
+    pub place: usize,
+    pub len: usize,
+}
+
+// What reading at a place finds: a record, one that can't be read, or the table's end.
+pub enum Read {
+    Is(Record),
+    Faulty,
+    End,
+}
+
+// A good table with its number of records, or refusal 2 with the first faulty record's number.
+pub enum Checked {
+    Good(usize),
+    Faulty(usize),
+}
+
+// At most so many records.
+pub const MOST: usize = 64;
+
+// Is the byte one of 0x20 to 0x7E?
+fn is_plain(b: u8) -> bool
+    ensures { λ r. ⌜ r ≡ isPlain b ⌝ }
+{
+    if b < 0x20 {
+        return false;
+    }
+    b <= 0x7E
+}
+
+// A text has 1 to 32 bytes, each 0x20 to 0x7E, the first and the last no space.
+fn is_text(t: &[u8]) -> bool
+    ensures { λ r. ⌜ r ≡ isText (now (t .entry)) ⌝ }
+{
+    let n = t.len();
+    if n == 0 {
+        return false;
+    }
+    if 32 < n {
+        return false;
+    }
+    if t[0] == b' ' {
+        return false;
+    }
+    if t[n - 1] == b' ' {
+        return false;
+    }
+    let mut i = 0;
+    while i < n {
+        if !is_plain(t[i]) {
+            return false;
+        }
+        i += 1;
+    }
+    true
+}
+
+fn wide(b: u8) -> usize
+    ensures { λ r. ⌜ r ≡ b ⌝ }
+{
+    b as usize
+}
+
+// The rest of a record from its length byte on, which stands at k.
+fn text_at(t: &[u8], k: usize, mark: Mark, prompt: u8) -> Read
+    ensures { λ r. ⌜ r ≡ textAt mark prompt (now (t .entry)) k ⌝ }
+{
+    if t.len() <= k {
+        return Read::Faulty;
+    }
+    let len = wide(t[k]);
+    if t.len() - k <= len {
+        return Read::Faulty;
+    }
+    let place = k + 1;
+    Read::Is(Record {
+        mark: mark,
+        prompt: prompt,
+        place: place,
+        len: len,
+    })
+}
+
+// The rest of a CP record from its prompt byte on, which stands at k.
+fn prompt_at(t: &[u8], k: usize) -> Read
+    ensures { λ r. ⌜ r ≡ promptAt (now (t .entry)) k ⌝ }
+{
+    if t.len() <= k {
+        return Read::Faulty;
+    }
+    text_at(t, k + 1, Mark::Prompt, t[k])
+}
+
+// The record that begins at `at`, as it lies: whether its text keeps the rules is not asked.
+// At or past the table's end there is none.
+pub fn record_at(t: &[u8], at: usize) -> Read
+    ensures { λ r. ⌜ r ≡ recordAt (now (t .entry)) at ⌝ }
+{
+    if t.len() <= at {
+        return Read::End;
+    }
+    if text::matches_at(t, at, b"UR") {
+        return text_at(t, at + 2, Mark::Notice, 0);
+    }
+    if text::matches_at(t, at, b"CS") {
+        return text_at(t, at + 2, Mark::Success, 0);
+    }
+    if text::matches_at(t, at, b"CE") {
+        return text_at(t, at + 2, Mark::Error, 0);
+    }
+    if text::matches_at(t, at, b"CP") {
+        return prompt_at(t, at + 2);
+    }
+    Read::Faulty
+}
+
+// A record's text as a part of the table; the empty front part where the record doesn't lie in this table.
+pub fn text_of(t: &[u8], r: Record) -> &[u8]
+    ensures { λ x. ⌜ now x ≡ textOf (now (t .entry)) r ⌝ }
+{
+    text::part(t, r.place, r.len)
+}
+
+// The record that begins at `at`, faulty also where its text breaks a rule.
+fn good_at(t: &[u8], at: usize) -> Read
+    ensures { λ r. ⌜ r ≡ goodAt (now (t .entry)) at ⌝ }
+{
+    match record_at(t, at) {
+        Read::Is(r) => {
+            if !is_text(text_of(t, r)) {
+                return Read::Faulty;
+            }
+            Read::Is(r)
+        }
+        Read::Faulty => Read::Faulty,
+        Read::End => Read::End,
+    }
+}
+
+// Is the table good? The empty one is; a 65th record is faulty whatever it holds.
+pub fn check(t: &[u8]) -> Checked
+    ensures { λ r. ⌜ outcome r ≡ ruling (now (t .entry)) ⌝ }
+{
+    let mut at = 0;
+    let mut n = 0;
+    while n < MOST {
+        match good_at(t, at) {
+            Read::End => {
+                return Checked::Good(n);
+            }
+            Read::Faulty => {
+                return Checked::Faulty(n);
+            }
+            Read::Is(r) => {
+                at = r.place + r.len;
+                n += 1;
+            }
+        }
+    }
+    if at < t.len() {
+        return Checked::Faulty(n);
+    }
+    Checked::Good(n)
+}
+
+// Record number k as it lies. Where one before it can't be read it can't be either, and past the last there is none.
+pub fn nth(t: &[u8], k: usize) -> Read
+    ensures { λ r. ⌜ r ≡ nthFrom k (now (t .entry)) 0 ⌝ }
+{
+    let mut at = 0;
+    let mut left = k;
+    while 0 < left {
+        match record_at(t, at) {
+            Read::End => {
+                return Read::End;
+            }
+            Read::Faulty => {
+                return Read::Faulty;
+            }
+            Read::Is(r) => {
+                at = r.place + r.len;
+                left -= 1;
+            }
+        }
+    }
+    record_at(t, at)
+}

@@ -1,0 +1,235 @@
+-- What a caller may know of the definitions of `Text`, whatever their text. No caller unfolds a search.
+-- Rests on the steps of `Steps`; the search by induction on how far there is to go. Assumes nothing.
+use mathlib.Core.Path.{_≡_, refl, sym, ap, _∙_}
+use mathlib.Core.Logic.{_⊎_, ⊎-elim}
+use mathlib.Core.Bool.{Bool, true, false, _&&_}
+use mathlib.Core.List.{List, [], _∷_, _++_}
+use Prim.Native.Nat.{ℕ, zero, suc, _+_, _-_, _≤_, _<_}
+use native.Mathlib.Numerals.{add-one}
+use native.Mathlib.Nat.{not-suc-le-zero, le-of-suc-le-suc, eq-or-lt-of-le}
+use native.Mathlib.Omega.{arith}
+use lib.ListN.{length, getD, take, drop, length-drop, drop-of-length-le}
+use lib.Seq.{take-all, drop-cons, length-take-le, drop-drop, drop-append-le}
+use lib.Dec.{eqb}
+use borrow.Author.Tests.{eqb-true, le-leb, lt-leb}
+use Rattle.text.specs.Logic.{false-true, not-true-false, and-both, and-assoc, order}
+use Rattle.text.specs.Text.{leadAfter, lead, past, keepAfter, keep, trimmed, begins, stands, search, hereOr, findIn, orEmpty, partOf}
+use Rattle.text.specs.Steps.{stands-past, find-here, find-next, find-end, past-more, past-stop, past-end}
+use Rattle.text.specs.declared.Span.{Span}
+use Rattle.text.specs.declared.Found.{Found}
+use Rattle.text.specs.declared.Found.the-variants.{At, Nothing}
+
+-- What a search says. At k: t stands there, k is at or after i, and t stands nowhere between. Nothing: t stands nowhere from i on.
+pub record FoundAt (t s : List ℕ) (i k : ℕ) : Type 0 where
+  pub after : i ≤ k
+  pub here : stands t s k ≡ true
+  pub first : (j : ℕ) → i ≤ j → j < k → stands t s j ≡ false
+
+abbrev pub Says : List ℕ → List ℕ → ℕ → Found → Type 0
+Says t s i (At k) = FoundAt t s i k
+Says t s i Nothing = (j : ℕ) → i ≤ j → stands t s j ≡ false
+
+module _ (t s : List ℕ) where
+  none-past : (i : ℕ) → length s ≤ i → stands t s i ≡ false → (j : ℕ) → i ≤ j → stands t s j ≡ false
+  none-past i h e j g = sym (stands-past t s j (omega arith)) ∙ stands-past t s i h ∙ e
+
+  here-first : (i : ℕ) → stands t s i ≡ true → FoundAt t s i i
+  here-first i e = record { after = omega arith; here = e; first = λ j g k. absurd (omega arith) }
+
+  nearer : (i : ℕ) (r : Found) → stands t s i ≡ false → Says t s (i + 1) r → Says t s i r
+  nearer i (At k) e w =
+      record {
+        after = omega (arith, w .after);
+        here = w .here;
+        first = λ j g h. ⊎-elim (λ (q : i ≡ j). ap (stands t s) (sym q) ∙ e) (λ (q : i < j). w .first j (omega arith) h) (eq-or-lt-of-le g);
+      }
+  nearer i Nothing e w = λ j g. ⊎-elim (λ (q : i ≡ j). ap (stands t s) (sym q) ∙ e) (λ (q : i < j). w j (omega arith)) (eq-or-lt-of-le g)
+
+  at-end : (i : ℕ) → length s ≤ i → (b : Bool) → stands t s i ≡ b → Says t s i (findIn t s i)
+  at-end i h true e = rw (find-here t s i e) (here-first i e)
+  at-end i h false e = rw (find-end t s i h e) (none-past i h e)
+
+  inside : (i : ℕ) → i < length s → Says t s (i + 1) (findIn t s (i + 1)) → (b : Bool) → stands t s i ≡ b → Says t s i (findIn t s i)
+  inside i h w true e = rw (find-here t s i e) (here-first i e)
+  inside i h w false e = rw (find-next t s i h e) (nearer i (findIn t s (i + 1)) e w)
+
+  by-distance : (n i : ℕ) → length s ≤ i + n → Says t s i (findIn t s i)
+  by-distance zero i h = at-end i (omega arith) (stands t s i) refl
+  by-distance (suc n) i h =
+      ⊎-elim
+      (λ (q : i < length s). inside i q (by-distance n (i + 1) (omega arith)) (stands t s i) refl)
+      (λ (q : length s ≤ i). at-end i q (stands t s i) refl)
+      (order i (length s))
+
+  -- sound, least and complete in one
+  pub find-says : (i : ℕ) → Says t s i (findIn t s i)
+  find-says i = by-distance (length s) i (omega arith)
+
+  -- unique: only one answer says so
+  pub says-one : (i : ℕ) (r q : Found) → Says t s i r → Says t s i q → r ≡ q
+  says-one i (At j) (At k) w v =
+      ⊎-elim
+      (λ (p : j < k). absurd (false-true (w .here) (v .first j (w .after) p)))
+      (λ (p : k ≤ j). ⊎-elim (λ (q : k ≡ j). ap At (sym q)) (λ (q : k < j). absurd (false-true (v .here) (w .first k (v .after) q))) (eq-or-lt-of-le p))
+      (order j k)
+  says-one i (At j) Nothing w v = absurd (false-true (w .here) (v j (w .after)))
+  says-one i Nothing (At k) w v = absurd (false-true (v .here) (w k (v .after)))
+  says-one i Nothing Nothing w v = refl
+
+  pub find-is : (i : ℕ) (r : Found) → Says t s i r → findIn t s i ≡ r
+  find-is i r w = says-one i (findIn t s i) r (find-says i) w
+
+  -- the same from what a search answered
+  pub found-at : (i k : ℕ) → findIn t s i ≡ At k → FoundAt t s i k
+  found-at i k e = rw e at (find-says i)
+
+  pub found-none : (i : ℕ) → findIn t s i ≡ Nothing → (j : ℕ) → i ≤ j → stands t s j ≡ false
+  found-none i e = rw e at (find-says i)
+
+-- what stands, fits
+begins-fits : (t s : List ℕ) → begins t s ≡ true → length t ≤ length s
+unfolding begins
+begins-fits [] s e = omega arith
+begins-fits (x ∷ t) [] e = absurd (false-true e refl)
+begins-fits (x ∷ t) (y ∷ s) e = omega (arith, begins-fits t s (and-both (eqb y x) (begins t s) e .1))
+
+pub stands-fits : (t s : List ℕ) (i : ℕ) → 0 < length t → stands t s i ≡ true → i + length t ≤ length s
+unfolding stands
+stands-fits t s i p e = omega (arith, begins-fits t (drop i s) e, length-drop i s)
+
+pub stands-room : (t s : List ℕ) (i : ℕ) → stands t s i ≡ true → length t ≤ length s
+unfolding stands
+stands-room t s i e = omega (arith, begins-fits t (drop i s) e, length-drop i s)
+
+-- the first byte of what stands, and the rest
+pub stands-byte : (x : ℕ) (t s : List ℕ) (i : ℕ) → stands (x ∷ t) s i ≡ true → (i < length s) × ((getD s i 0 ≡ x) × (stands t s (i + 1) ≡ true))
+unfolding stands begins
+stands-byte x t s i e =
+    let h : i < length s = omega (arith, begins-fits (x ∷ t) (drop i s) e, length-drop i s) in
+    let q : eqb (getD s i 0) x && begins t (drop (suc i) s) ≡ true = rw (drop-cons s i 0 h) at e in
+    let w = and-both (eqb (getD s i 0) x) (begins t (drop (suc i) s)) q in
+    (h, (eqb-true (getD s i 0) x (w .0), rw add-one (w .1)))
+
+-- two texts one after the other; a beginning of what stands, stands
+begins-append : (t u s : List ℕ) → begins (t ++ u) s ≡ begins t s && begins u (drop (length t) s)
+unfolding begins
+begins-append [] u s = refl
+begins-append (x ∷ t) u [] = refl
+begins-append (x ∷ t) u (y ∷ s) = ap (λ (b : Bool). eqb y x && b) (begins-append t u s) ∙ sym (and-assoc (eqb y x) (begins t s) (begins u (drop (length t) s)))
+
+pub stands-append : (t u s : List ℕ) (i : ℕ) → stands (t ++ u) s i ≡ stands t s i && stands u s (i + length t)
+unfolding stands
+stands-append t u s i = begins-append t u (drop i s) ∙ ap (λ (l : List ℕ). begins t (drop i s) && begins u l) (drop-drop (length t) i s)
+
+pub stands-front : (t u s : List ℕ) (i : ℕ) → stands (t ++ u) s i ≡ true → stands t s i ≡ true
+stands-front t u s i e = and-both (stands t s i) (stands u s (i + length t)) (sym (stands-append t u s i) ∙ e) .0
+
+-- in a suffix: what stands in the rest, stands in the whole, and its first place moves with the front
+pub stands-drop : (t s : List ℕ) (k i : ℕ) → stands t (drop k s) i ≡ stands t s (k + i)
+unfolding stands
+stands-drop t s k i = rw drop-drop
+
+unfoldable pub moved : ℕ → Found → Found
+moved d (At k) = At (d + k)
+moved d Nothing = Nothing
+
+moved-here : (d i : ℕ) (b : Bool) (r q : Found) → r ≡ moved d q → hereOr b (d + i) r ≡ moved d (hereOr b i q)
+unfolding moved hereOr
+moved-here d i true r q e = refl
+moved-here d i false r q e = e
+
+search-moved : (t s : List ℕ) (d i : ℕ) → search t s (d + i) ≡ moved d (search t s i)
+unfolding search
+search-moved t [] d i = moved-here d i (begins t []) Nothing Nothing (unfold moved in refl)
+search-moved t (x ∷ s) d i =
+    let e : suc (d + i) ≡ d + suc i = omega arith in
+    moved-here d i (begins t (x ∷ s)) (search t s (suc (d + i))) (search t s (suc i)) (ap (search t s) e ∙ search-moved t s d (suc i))
+
+pub find-drop : (t s : List ℕ) (d i : ℕ) → findIn t s (d + i) ≡ moved d (findIn t (drop d s) i)
+unfolding findIn
+find-drop t s d i = ap (λ (l : List ℕ). search t l (d + i)) (sym (drop-drop i d s)) ∙ search-moved t (drop i (drop d s)) d i
+
+-- under append: what stands within s isn't changed by bytes behind it, nor is the first place
+begins-behind : (t s u : List ℕ) → length t ≤ length s → begins t (s ++ u) ≡ begins t s
+unfolding begins
+begins-behind [] s u h = refl
+begins-behind (x ∷ t) [] u h = absurd (omega arith)
+begins-behind (x ∷ t) (y ∷ s) u h = ap (λ (b : Bool). eqb y x && b) (begins-behind t s u (le-of-suc-le-suc h))
+
+pub stands-behind : (t s u : List ℕ) (i : ℕ) → i + length t ≤ length s → stands t (s ++ u) i ≡ stands t s i
+unfolding stands
+stands-behind t s u i h = rw (drop-append-le i s u (omega arith)) (begins-behind t (drop i s) u (rw length-drop (omega arith)))
+
+pub find-behind : (t s u : List ℕ) (i k : ℕ) → k + length t ≤ length s → findIn t s i ≡ At k → findIn t (s ++ u) i ≡ At k
+find-behind t s u i k h e =
+    let w = found-at t s i k e in
+    find-is t (s ++ u) i (At k)
+    (record {
+      after = w .after;
+      here = stands-behind t s u k h ∙ w .here;
+      first = λ j g l. stands-behind t s u j (omega arith) ∙ w .first j g l;
+    })
+
+-- blanks
+leadAfter-le : (b : Bool) (n m : ℕ) → n ≤ m → leadAfter b n ≤ suc m
+unfolding leadAfter
+leadAfter-le true n m h = omega arith
+leadAfter-le false n m h = omega arith
+
+pub lead-le : (f : ℕ → Bool) (s : List ℕ) → lead f s ≤ length s
+unfolding lead
+lead-le f [] = omega arith
+lead-le f (x ∷ s) = leadAfter-le (f x) (lead f s) (length s) (lead-le f s)
+
+lead-pass : (f : ℕ → Bool) (x : ℕ) (s : List ℕ) (b : Bool) → f x ≡ b → (p : ℕ) → p < leadAfter b (lead f s) → ((q : ℕ) → q < lead f s → f (getD s q 0) ≡ true) → f (getD (x ∷ s) p 0) ≡ true
+unfolding leadAfter
+lead-pass f x s true e zero h g = e
+lead-pass f x s true e (suc p) h g = g p (le-of-suc-le-suc h)
+lead-pass f x s false e p h g = absurd (not-suc-le-zero h)
+
+-- what is passed over passes the test, and the byte where it stops doesn't
+pub lead-passes : (f : ℕ → Bool) (s : List ℕ) (p : ℕ) → p < lead f s → f (getD s p 0) ≡ true
+unfolding lead
+lead-passes f [] p h = absurd (not-suc-le-zero h)
+lead-passes f (x ∷ s) p h = lead-pass f x s (f x) refl p h (lead-passes f s)
+
+pub past-bounds : (f : ℕ → Bool) (s : List ℕ) (i : ℕ) → (i ≤ past f s i) × (i ≤ length s → past f s i ≤ length s)
+unfolding past
+past-bounds f s i = (omega arith, λ h. omega (arith, lead-le f (drop i s), length-drop i s))
+
+keepAfter-le : (b : Bool) (n m : ℕ) → n ≤ m → keepAfter b n ≤ suc m
+unfolding keepAfter
+keepAfter-le true zero m h = omega arith
+keepAfter-le true (suc n) m h = omega arith
+keepAfter-le false n m h = omega arith
+
+pub keep-le : (f : ℕ → Bool) (s : List ℕ) → keep f s ≤ length s
+unfolding keep
+keep-le f [] = omega arith
+keep-le f (x ∷ s) = keepAfter-le (f x) (keep f s) (length s) (keep-le f s)
+
+pub trimmed-fits : (f : ℕ → Bool) (s : List ℕ) → trimmed f s .start + trimmed f s .len ≤ length s
+unfolding trimmed
+trimmed-fits f s = omega (arith, lead-le f s, keep-le f (drop (lead f s) s), length-drop (lead f s) s)
+
+-- parts: what `&s[a..]` holds, and how long `&s[e..k]` is
+pub rest : (s : List ℕ) (a : ℕ) → take (length s - a) (drop a s) ≡ drop a s
+rest s a = take-all (length s - a) (drop a s) (rw length-drop (omega arith))
+
+pub length-part : (s : List ℕ) (e k : ℕ) → e ≤ k → k ≤ length s → length (take (k - e) (drop e s)) ≡ k - e
+length-part s e k h g = length-take-le (k - e) (drop e s) (rw length-drop (omega arith))
+
+pub part-none : (s : List ℕ) (p len : ℕ) → length s < p + len → [] ≡ partOf s p len
+unfolding partOf orEmpty
+part-none s p len h = rw (lt-leb (p + len) (length s) h)
+
+pub part-is : (s : List ℕ) (p len : ℕ) → p + len ≤ length s → take len (drop p s) ≡ partOf s p len
+unfolding partOf orEmpty
+part-is s p len h = rw (le-leb (p + len) (length s) h)
+
+pub trim-is : (f : ℕ → Bool) (s : List ℕ) (a n : ℕ) → a ≡ past f s 0 → n ≡ keep f (take (length s - a) (drop a s)) → _≡_ {A = Span} (record { start = a; len = n }) (trimmed f s)
+unfolding trimmed past
+trim-is f s a n p q =
+    let l : a ≡ lead f s = p ∙ omega arith in
+    let e : n ≡ keep f (drop (lead f s) s) = q ∙ ap (keep f) (rest s a) ∙ ap (λ (k : ℕ). keep f (drop k s)) l in
+    λ i. record { start = l i; len = e i }

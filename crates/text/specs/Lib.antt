@@ -1,0 +1,5 @@
+pub mod Bytes
+pub mod Text
+pub mod Logic
+pub mod Steps
+pub mod Laws

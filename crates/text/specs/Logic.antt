@@ -1,0 +1,39 @@
+-- Small laws of tests and orders that every layer above uses, and the one law that says what an equation as a promise is worth.
+-- Assumes nothing.
+use mathlib.Core.Path.{_≡_, refl, sym, ap, _∙_}
+use mathlib.Core.Logic.{_⊎_, inl, inr}
+use mathlib.Core.Bool.{Bool, true, false, _&&_, _||_, cond}
+use native.Mathlib.Decide.{decLt}
+use Prim.Native.Nat.{ℕ, _≤_, _<_}
+use native.Mathlib.Omega.{arith}
+
+-- Where a promise is `r ≡ d`, any two results that it allows are equal.
+pub determined : {A : Type 0} {d r q : A} → r ≡ d → q ≡ d → r ≡ q
+determined p q = p ∙ sym q
+
+pub false-true : {b : Bool} → b ≡ true → b ≡ false → ⊥
+false-true p q = let z : _≡_ {A = ℕ} 0 1 = ap (λ (b : Bool). cond b 0 1) (sym p ∙ q) in omega arith
+
+pub not-true-false : (b : Bool) → (b ≡ true → ⊥) → b ≡ false
+not-true-false true h = absurd (h refl)
+not-true-false false h = refl
+
+pub and-both : (a b : Bool) → a && b ≡ true → (a ≡ true) × (b ≡ true)
+and-both true b e = (refl, e)
+and-both false b e = absurd (false-true e refl)
+
+pub and-false : (b : Bool) → b && false ≡ false
+and-false true = refl
+and-false false = refl
+
+pub and-assoc : (a b c : Bool) → a && b && c ≡ a && (b && c)
+and-assoc true b c = refl
+and-assoc false b c = refl
+
+pub or-none : (b : Bool) → b ≡ b || false
+or-none true = refl
+or-none false = refl
+
+-- a < b or b ≤ a, to be taken apart
+pub order : (a b : ℕ) → (a < b) ⊎ (b ≤ a)
+order a b = elim (decLt a b) [ yes p ↦ inl p | no n ↦ inr (omega arith) ]

@@ -1,0 +1,151 @@
+// Blanks, trimming and searching: the leaves of the digester.
+// They answer as the slice methods that atat's digest.rs leans on (trim_ascii, nom's multispace0 and take_until), by places in the caller's bytes.
+// Every function is total: none has a `requires`, and a place past the end has a stated answer.
+ghost use mathlib.Core.Path.{_≡_};
+ghost use Rattle.text.specs.Text.{isBlank, past, keep, trimmed, stands, findIn, partOf};
+
+// Which bytes count as blank: the space alone, document 01's run blanks, or its trim blanks.
+pub enum Blanks {
+    Space,
+    Run,
+    Trim,
+}
+
+// Where a search ended: at a place, or with nothing found.
+pub enum Found {
+    At(usize),
+    Nothing,
+}
+
+// A part of a slice, by where it starts and how long it is.
+pub struct Span {
+    pub start: usize,
+    pub len: usize,
+}
+
+// Space, tab, CR, LF.
+fn is_run(b: u8) -> bool
+    ensures { λ r. ⌜ r ≡ isBlank Blanks.Run b ⌝ }
+{
+    if b == b' ' {
+        return true;
+    }
+    if b == b'\t' {
+        return true;
+    }
+    if b == b'\r' {
+        return true;
+    }
+    b == b'\n'
+}
+
+// Space, tab, LF, form feed, CR: a run blank, or a form feed.
+fn is_trim(b: u8) -> bool
+    ensures { λ r. ⌜ r ≡ isBlank Blanks.Trim b ⌝ }
+{
+    if b == 0x0C {
+        return true;
+    }
+    is_run(b)
+}
+
+// Is b a blank of the set?
+pub fn is_blank(set: Blanks, b: u8) -> bool
+    ensures { λ r. ⌜ r ≡ isBlank set b ⌝ }
+{
+    match set {
+        Blanks::Space => b == b' ',
+        Blanks::Run => is_run(b),
+        Blanks::Trim => is_trim(b),
+    }
+}
+
+// The first place at or after `from` whose byte is no blank of the set; the end of s where there is none.
+// A place past the end is its own answer.
+pub fn skip(set: Blanks, s: &[u8], from: usize) -> usize
+    ensures { λ r. ⌜ r ≡ past (isBlank set) (now (s .entry)) from ⌝ }
+{
+    let mut i = from;
+    while i < s.len() {
+        if !is_blank(set, s[i]) {
+            return i;
+        }
+        i += 1;
+    }
+    i
+}
+
+// How long s is without the blanks that it ends in; 0 where it has nothing else.
+pub fn kept(set: Blanks, s: &[u8]) -> usize
+    ensures { λ r. ⌜ r ≡ keep (isBlank set) (now (s .entry)) ⌝ }
+{
+    let mut n = s.len();
+    while 0 < n {
+        if !is_blank(set, s[n - 1]) {
+            return n;
+        }
+        n -= 1;
+    }
+    n
+}
+
+// Where s starts and how long it is without the blanks at its two ends; where it has nothing else, its end and 0.
+pub fn trim(set: Blanks, s: &[u8]) -> Span
+    ensures { λ r. ⌜ r ≡ trimmed (isBlank set) (now (s .entry)) ⌝ }
+{
+    let a = skip(set, s, 0);
+    let n = kept(set, &s[a..]);
+    Span { start: a, len: n }
+}
+
+// Does t stand in s at `at`? The empty text stands everywhere, past the end too; no other text does there.
+pub fn matches_at(s: &[u8], at: usize, t: &[u8]) -> bool
+    ensures { λ r. ⌜ r ≡ stands (now (t .entry)) (now (s .entry)) at ⌝ }
+{
+    if s.len() < at {
+        return t.len() == 0;
+    }
+    if s.len() - at < t.len() {
+        return false;
+    }
+    let mut k = 0;
+    while k < t.len() {
+        if s[at + k] != t[k] {
+            return false;
+        }
+        k += 1;
+    }
+    true
+}
+
+// The first place at or after `from` where t stands in s, letter case exact. The empty text is found at `from`.
+pub fn find(s: &[u8], from: usize, t: &[u8]) -> Found
+    ensures { λ r. ⌜ r ≡ findIn (now (t .entry)) (now (s .entry)) from ⌝ }
+{
+    let mut i = from;
+    while i < s.len() {
+        if matches_at(s, i, t) {
+            return Found::At(i);
+        }
+        i += 1;
+    }
+    if matches_at(s, i, t) {
+        return Found::At(i);
+    }
+    Found::Nothing
+}
+
+// The part of s that starts at `place` and is `len` bytes long, in the caller's own memory.
+// A place and length that don't fit give the empty front part.
+pub fn part(s: &[u8], place: usize, len: usize) -> &[u8]
+    ensures { λ r. ⌜ now r ≡ partOf (now (s .entry)) place len ⌝ }
+{
+    if s.len() < place {
+        return &s[..0];
+    }
+    if s.len() - place < len {
+        return &s[..0];
+    }
+    let end = place + len;
+    &s[place..end]
+}
