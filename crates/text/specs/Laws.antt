@@ -11,7 +11,7 @@ use native.Mathlib.Omega.{arith}
 use lib.ListN.{length, getD, take, drop, length-drop, drop-of-length-le}
 use lib.Seq.{take-all, drop-cons, length-take-le, drop-drop, drop-append-le}
 use lib.Dec.{eqb}
-use borrow.Author.Tests.{eqb-true, le-leb, lt-leb}
+use borrow.Author.Tests.{eq-eqb, ne-eqb, eqb-true, eqb-false, le-leb, lt-leb}
 use Rattle.text.specs.Logic.{false-true, not-true-false, and-both, and-assoc, order}
 use Rattle.text.specs.Text.{leadAfter, lead, past, keepAfter, keep, trimmed, begins, stands, search, hereOr, findIn, orEmpty, partOf}
 use Rattle.text.specs.Steps.{stands-past, find-here, find-next, find-end, past-more, past-stop, past-end}
@@ -101,6 +101,10 @@ pub stands-room : (t s : List ℕ) (i : ℕ) → stands t s i ≡ true → lengt
 unfolding stands
 stands-room t s i e = omega (arith, begins-fits t (drop i s) e, length-drop i s)
 
+pub stands-within : (t s : List ℕ) (i n : ℕ) → i ≤ n → length s ≤ n → stands t s i ≡ true → i + length t ≤ n
+stands-within [] s i n h g e = omega arith
+stands-within (x ∷ t) s i n h g e = omega (arith, stands-fits (x ∷ t) s i (omega arith) e)
+
 -- the first byte of what stands, and the rest
 pub stands-byte : (x : ℕ) (t s : List ℕ) (i : ℕ) → stands (x ∷ t) s i ≡ true → (i < length s) × ((getD s i 0 ≡ x) × (stands t s (i + 1) ≡ true))
 unfolding stands begins
@@ -169,6 +173,21 @@ find-behind t s u i k h e =
       here = stands-behind t s u k h ∙ w .here;
       first = λ j g l. stands-behind t s u j (omega arith) ∙ w .first j g l;
     })
+
+-- of two texts equally long, each begins with the other or neither does
+eqb-flip : (a b : ℕ) → eqb a b ≡ eqb b a
+eqb-flip a b = go (eqb a b) refl
+  where
+    go : (c : Bool) → eqb a b ≡ c → eqb a b ≡ eqb b a
+    go true e = e ∙ sym (eq-eqb b a (sym (eqb-true a b e)))
+    go false e = e ∙ sym (ne-eqb b a (λ q. eqb-false a b e (sym q)))
+
+pub begins-flip : (t s : List ℕ) → length t ≡ length s → begins t s ≡ begins s t
+unfolding begins
+begins-flip [] [] h = refl
+begins-flip [] (y ∷ s) h = absurd (omega arith)
+begins-flip (x ∷ t) [] h = absurd (omega arith)
+begins-flip (x ∷ t) (y ∷ s) h = rw (eqb-flip y x, begins-flip t s (omega arith))
 
 -- blanks
 leadAfter-le : (b : Bool) (n m : ℕ) → n ≤ m → leadAfter b n ≤ suc m

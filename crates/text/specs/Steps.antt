@@ -77,7 +77,7 @@ pub begins-end : (t s : List ℕ) (k : ℕ) → length t ≤ k → begins (drop 
 unfolding begins
 begins-end t s k h = rw (drop-of-length-le t h)
 
-begins-short : (t s : List ℕ) → length s < length t → begins t s ≡ false
+pub begins-short : (t s : List ℕ) → length s < length t → begins t s ≡ false
 unfolding begins
 begins-short [] s h = absurd (omega arith)
 begins-short (x ∷ t) [] h = refl

@@ -1,0 +1,51 @@
+-- `prompt_from` meets its contract. Assumes nothing.
+use Prim.Native.Nat.{_-_}
+use Rattle.parser.specs.Laws.{prompt-none, prompt-at, prompt-is}
+use borrow.Author.Needs.{needs}
+use native.Mathlib.Omega.{arith}
+use Rattle.parser.proofs.prompt_from.Statement.{statement}
+use Rattle.parser.proofs.prompt_from.Tie as tie
+
+slice-aggregate-find : tie.Need-slice-aggregate-find
+slice-aggregate-find c = search needs
+
+find-requires : tie.Need-find-requires
+find-requires c κs = search needs
+
+enum-known-place : tie.Need-enum-known-place
+enum-known-place c = search needs
+
+enum-told : tie.Need-enum-told
+enum-told c = search needs
+
+returns : tie.Need-returns
+returns c =
+    let find = c .before .before .find in
+    prompt-none _ _ _ _ (find .ensures) (c .enum-told .given .1)
+
+add-skip : tie.Need-add-skip
+add-skip c =
+    let find = c .before .before .before .find in
+    record { fits = omega (arith, prompt-at _ _ _ _ (find .ensures) _ (c .before .place .given .1)) }
+
+skip-requires : tie.Need-skip-requires
+skip-requires c κs = search needs
+
+returns-2 : tie.Need-returns-2
+returns-2 c =
+    let find = c .before .before .before .before .find in
+    let place = c .before .before .place in
+    prompt-is _ _ _ _ (find .ensures) _ (place .given .1) _ (c .skip .ensures)
+
+pub prompt-from-spec : {M : Type 1} → statement M
+prompt-from-spec =
+    tie.close
+    (tie.spec
+    slice-aggregate-find
+    find-requires
+    enum-known-place
+    enum-told
+    returns
+    add-skip
+    skip-requires
+    returns-2)

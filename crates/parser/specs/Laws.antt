@@ -1,0 +1,311 @@
+-- Laws of what stands at a place: the ways out of each function, over plain lists.
+-- Each rests on text's laws of `stands`, `findIn` and `past`; none looks into a search. Assumes nothing.
+use mathlib.Core.Path.{_≡_, refl, sym, ap, _∙_}
+use mathlib.Core.Bool.{Bool, true, false, _&&_}
+use mathlib.Core.List.{List, [], _∷_, _++_}
+use Prim.Native.Nat.{ℕ, zero, suc, _+_, _*_, _-_, _≤_, _<_}
+use native.Mathlib.Numerals.{add-one}
+use native.Mathlib.Omega.{arith}
+use lib.ListN.{length, getD, take, drop, length-append, length-drop, drop-of-length-le}
+use lib.Seq.{drop-cons}
+use lib.Dec.{eqb, leb, ltb, eqb·suc-zero}
+use borrow.Author.Tests.{le-leb, lt-leb, leb-true, le-ltb, lt-ltb}
+use Rattle.text.specs.Bytes.{bytes}
+use Rattle.text.specs.Logic.{false-true, and-both, and-false}
+use Rattle.text.specs.Text.{isBlank, past, keep, begins, stands, findIn}
+use Rattle.text.specs.Steps.{past-more, past-stop, past-end, stands-past, stands-short, begins-short}
+use Rattle.text.specs.Laws.{FoundAt, found-at, stands-fits, stands-append, stands-behind, begins-flip, rest, keep-le}
+use Rattle.text.specs.declared.Blanks.the-variants as blanks
+use Rattle.text.specs.declared.Found.{Found}
+use Rattle.text.specs.declared.Found.the-variants.{At, Nothing}
+use Rattle.parser.specs.declared.Run.{Run}
+use Rattle.parser.specs.declared.Run.the-variants.{Value, TooLarge}
+use Rattle.parser.specs.declared.Digits.{Digits}
+use Rattle.parser.specs.declared.Numeric.{Numeric}
+use Rattle.parser.specs.declared.Numeric.the-variants as numeric
+use Rattle.parser.specs.declared.Notice.{Notice}
+use Rattle.parser.specs.declared.Notice.the-variants as notice
+use Rattle.parser.specs.Parser.{crlf, pick, lineEnding, isDigit, valueAfter, value, atMost, digitsAt, ifEnded, endedRun, tailAt, ifHead, numericAt, atFound, numericError, onlyBlanks, promptFrom, customPrompt, wrapped, breaksOff, through, ifColon, ifBare, unlessBroken, noticeText, afterEnding, noticeAt}
+
+-- `lineEnding`
+module _ (s : List ℕ) (p : ℕ) where
+  pub ending-lf : stands (bytes "\n") s p ≡ true → 1 ≡ lineEnding s p
+  unfolding lineEnding pick
+  ending-lf h = rw h
+
+  module _ (g : stands (bytes "\n") s p ≡ false) where
+    pub ending-crlf : stands crlf s p ≡ true → 2 ≡ lineEnding s p
+    unfolding lineEnding pick
+    ending-crlf h = rw (g, h)
+
+    pub ending-none : stands crlf s p ≡ false → 0 ≡ lineEnding s p
+    unfolding lineEnding pick
+    ending-none h = rw (g, h)
+
+  -- a line ending lies in the list
+  pub ending-fits : 0 < lineEnding s p → p + lineEnding s p ≤ length s
+  unfolding lineEnding
+  ending-fits h = go (stands (bytes "\n") s p) refl (stands crlf s p) refl h
+    where
+      go : (a : Bool) → stands (bytes "\n") s p ≡ a → (b : Bool) → stands crlf s p ≡ b → 0 < pick a 1 (pick b 2 0) → p + pick a 1 (pick b 2 0) ≤ length s
+      go true e b f l = unfold pick in stands-fits (bytes "\n") s p (omega arith) e
+      go false e true f l = unfold pick in stands-fits crlf s p (omega arith) f
+      go false e false f l = absurd (unfold pick in omega arith)
+
+-- `isDigit` and the run of digits
+pub digit-low : (b : ℕ) → b < 48 → false ≡ isDigit b
+unfolding isDigit
+digit-low b h = rw (lt-leb 48 b h)
+
+pub digit-from : (b : ℕ) → 48 ≤ b → leb b 57 ≡ isDigit b
+unfolding isDigit
+digit-from b h = rw (le-leb 48 b h)
+
+pub digit-bounds : (b : ℕ) → isDigit b ≡ true → (48 ≤ b) × (b ≤ 57)
+unfolding isDigit
+digit-bounds b e = let w = and-both (leb 48 b) (leb b 57) e in (leb-true 48 b (w .0), leb-true b 57 (w .1))
+
+module _ (s : List ℕ) (i a : ℕ) where
+  value-more : i < length s → isDigit (getD s i 0) ≡ true → value a (drop i s) ≡ value (a * 10 + (getD s i 0 - 48)) (drop (i + 1) s)
+  unfolding value valueAfter
+  value-more h e = rw (add-one, drop-cons s i 0 h, e)
+
+  value-stop : i < length s → isDigit (getD s i 0) ≡ false → value a (drop i s) ≡ a
+  unfolding value valueAfter
+  value-stop h e = rw (drop-cons s i 0 h, e)
+
+  value-end : length s ≤ i → value a (drop i s) ≡ a
+  unfolding value
+  value-end h = rw (drop-of-length-le s h)
+
+grows-after : (b : Bool) (a r : ℕ) → a ≤ r → a ≤ valueAfter b a r
+unfolding valueAfter
+grows-after true a r h = h
+grows-after false a r h = omega arith
+
+value-grows : (a : ℕ) (s : List ℕ) → a ≤ value a s
+unfolding value
+value-grows a [] = omega arith
+value-grows a (x ∷ s) = grows-after (isDigit x) a (value (a * 10 + (x - 48)) s) (omega (arith, value-grows (a * 10 + (x - 48)) s))
+
+-- the loop of `digits_at`: the digits from p up to i have the value a
+pub record Sofar (s : List ℕ) (p i a : ℕ) : Type 0 where
+  pub small : a ≤ 65535
+  pub digits : past isDigit s p ≡ past isDigit s i
+  pub is : value 0 (drop p s) ≡ value a (drop i s)
+
+pub sofar-none : (s : List ℕ) (p : ℕ) → Sofar s p p 0
+sofar-none s p = record { small = omega arith; digits = refl; is = refl }
+
+module _ (s : List ℕ) (p i a : ℕ) (w : Sofar s p i a) where
+  run-is : past isDigit s i ≡ i → value a (drop i s) ≡ a → Value a i ≡ digitsAt s p
+  unfolding digitsAt atMost
+  run-is h g = rw (w .is ∙ g, w .digits ∙ h, le-leb a 65535 (w .small))
+
+  pub run-end : length s ≤ i → Value a i ≡ digitsAt s p
+  run-end h = run-is (past-end isDigit s i h) (value-end s i a h)
+
+  module _ (h : i < length s) where
+    pub run-stop : isDigit (getD s i 0) ≡ false → Value a i ≡ digitsAt s p
+    run-stop e = run-is (past-stop isDigit s i h e) (value-stop s i a h e)
+
+    module _ (d : isDigit (getD s i 0) ≡ true) (x : ℕ) (v : x ≡ getD s i 0) where
+      value-on : value 0 (drop p s) ≡ value (a * 10 + (x - 48)) (drop (i + 1) s)
+      value-on = rw v (w .is ∙ value-more s i a h d)
+
+      pub run-large : 65535 < a * 10 + (x - 48) → TooLarge ≡ digitsAt s p
+      unfolding digitsAt atMost
+      run-large g = rw (lt-leb (value 0 (drop p s)) 65535 (omega (arith, value-on, value-grows (a * 10 + (x - 48)) (drop (i + 1) s))))
+
+      pub run-more : a * 10 + (x - 48) ≤ 65535 → Sofar s p (i + 1) (a * 10 + (x - 48))
+      run-more g = record { small = g; digits = w .digits ∙ past-more isDigit s i h d; is = value-on }
+
+-- the ways out of `tail_at`
+module _ (s : List ℕ) (p a : ℕ) (u : a ≡ past (isBlank blanks.Run) s p) (r : Run) (q : r ≡ digitsAt s a) where
+  at-run : endedRun s a r ≡ tailAt s p
+  unfolding tailAt
+  at-run = ap (endedRun s a) q ∙ ap (λ (n : ℕ). endedRun s n (digitsAt s n)) u
+
+  pub tail-large : r ≡ TooLarge → numeric.Nothing ≡ tailAt s p
+  unfolding endedRun
+  tail-large e = rw e at at-run
+
+  module _ (v b : ℕ) (e : r ≡ Value v b) where
+    at-value : ifEnded (ltb a b && ltb 0 (lineEnding s b)) (record { code = v; start = a; stop = b; end = b + lineEnding s b }) ≡ tailAt s p
+    unfolding endedRun
+    at-value = rw e at at-run
+
+    pub tail-bare : b ≤ a → numeric.Nothing ≡ tailAt s p
+    unfolding ifEnded
+    tail-bare h = rw (le-ltb a b h) at at-value
+
+    module _ (h : a < b) (n : ℕ) (w : n ≡ lineEnding s b) where
+      at-ending : ifEnded (ltb 0 n) (record { code = v; start = a; stop = b; end = b + n }) ≡ tailAt s p
+      at-ending = rw w (rw (lt-ltb a b h) at at-value)
+
+      pub tail-open : n ≡ 0 → numeric.Nothing ≡ tailAt s p
+      unfolding ifEnded
+      tail-open z = rw z at at-ending
+
+      pub tail-is : (n ≡ 0 → ⊥) → numeric.Is (record { code = v; start = a; stop = b; end = b + n }) ≡ tailAt s p
+      unfolding ifEnded
+      tail-is z = rw (lt-ltb 0 n (omega arith)) at at-ending
+
+-- `numericAt` and `numericError`
+module _ (h s : List ℕ) where
+  pub numeric-off : (p : ℕ) → stands h s p ≡ false → numeric.Nothing ≡ numericAt h s p
+  unfolding numericAt ifHead
+  numeric-off p e = rw e
+
+  pub numeric-tail : (p : ℕ) → stands h s p ≡ true → tailAt s (p + length h) ≡ numericAt h s p
+  unfolding numericAt ifHead
+  numeric-tail p e = rw e
+
+  module _ (e : ℕ) (r : Found) (q : r ≡ findIn h s e) where
+    pub error-none : r ≡ Nothing → numeric.Nothing ≡ numericError h s e
+    unfolding numericError atFound
+    error-none w = ap (atFound h s) (sym w ∙ q)
+
+    pub error-at : (p : ℕ) → r ≡ At p → numericAt h s p ≡ numericError h s e
+    unfolding numericError atFound
+    error-at p w = ap (atFound h s) (sym w ∙ q)
+
+-- prompts
+module _ (b : ℕ) (s : List ℕ) (e : ℕ) (r : Found) (q : r ≡ findIn (b ∷ []) s e) where
+  pub prompt-none : r ≡ Nothing → false ≡ promptFrom b s e
+  unfolding promptFrom onlyBlanks
+  prompt-none w = ap (onlyBlanks s) (sym w ∙ q)
+
+  pub prompt-at : (p : ℕ) → r ≡ At p → p + 1 ≤ length s
+  prompt-at p w = stands-fits (b ∷ []) s p (omega arith) (found-at (b ∷ []) s e p (sym q ∙ w) .here)
+
+  pub prompt-is : (p : ℕ) → r ≡ At p → (n : ℕ) → n ≡ past (isBlank blanks.Run) s (p + 1) → leb (length s) n ≡ promptFrom b s e
+  unfolding promptFrom onlyBlanks
+  prompt-is p w n v = ap (leb (length s)) v ∙ ap (onlyBlanks s) (sym w ∙ q)
+
+module _ (x s : List ℕ) (e : ℕ) where
+  pub custom-past : length s < e → eqb (length x) 0 ≡ customPrompt x s e
+  unfolding customPrompt keep
+  custom-past h = let b : length s ≤ e = omega arith in rw (drop-of-length-le s b) (go x)
+    where
+      go : (y : List ℕ) → eqb (length y) 0 ≡ leb (length y) 0 && stands y s (e + (0 - length y))
+      go [] = unfold stands begins in refl
+      go (z ∷ y) = rw (lt-leb (length (z ∷ y)) 0 (omega arith)) (eqb·suc-zero (length y))
+
+  module _ (n : ℕ) (q : n ≡ keep (isBlank blanks.Run) (take (length s - e) (drop e s))) where
+    kept-is : n ≡ keep (isBlank blanks.Run) (drop e s)
+    kept-is = q ∙ ap (keep (isBlank blanks.Run)) (rest s e)
+
+    pub custom-room : e ≤ length s → e + (n - length x) ≤ length s
+    custom-room h = omega (arith, kept-is, keep-le (isBlank blanks.Run) (drop e s), length-drop e s)
+
+    pub custom-short : n < length x → false ≡ customPrompt x s e
+    unfolding customPrompt
+    custom-short h = rw (sym kept-is, lt-leb (length x) n h)
+
+    pub custom-is : length x ≤ n → stands x s (e + (n - length x)) ≡ customPrompt x s e
+    unfolding customPrompt
+    custom-is h = rw (sym kept-is, le-leb (length x) n h)
+
+-- a custom line
+module _ (x s : List ℕ) (k : ℕ) where
+  line-is : stands (wrapped x) s k ≡ stands crlf s k && (stands x s (k + 2) && stands crlf s (k + 2 + length x))
+  line-is = stands-append crlf (x ++ crlf) s k ∙ ap (λ (b : Bool). stands crlf s k && b) (stands-append x crlf s (k + 2))
+
+  pub line-none : stands crlf s k ≡ false → false ≡ stands (wrapped x) s k
+  line-none h = sym (line-is ∙ rw h)
+
+  module _ (h : stands crlf s k ≡ true) where
+    pub line-room : k + 2 ≤ length s
+    line-room = stands-fits crlf s k (omega arith) h
+
+    pub line-off : stands x s (k + 2) ≡ false → false ≡ stands (wrapped x) s k
+    line-off g = sym (line-is ∙ rw (h, g))
+
+    pub line-end : stands x s (k + 2) ≡ true → stands crlf s (k + 2 + length x) ≡ stands (wrapped x) s k
+    line-end g = sym (line-is ∙ rw (h, g))
+
+-- at the end of the input no custom line stands
+pub line-past : (x s : List ℕ) (i : ℕ) → length s ≤ i → stands (wrapped x) s i ≡ false
+line-past x s i h = sym (stands-past (wrapped x) s i h) ∙ eqb·suc-zero (length (10 ∷ (x ++ crlf)))
+
+-- `breaksOff`
+module _ (x s : List ℕ) (k : ℕ) where
+  pub broken-past : length s < k → true ≡ breaksOff x s k
+  unfolding breaksOff begins
+  broken-past h = let b : length s ≤ k = omega arith in rw (drop-of-length-le s b)
+
+  cr-long : length (x ++ bytes "\r") ≡ length x + 1
+  cr-long = length-append x (bytes "\r")
+
+  pub broken-within : length s - k ≤ length x → (b : Bool) → b ≡ stands (take (length s - k) (drop k s)) x 0 → b ≡ breaksOff x s k
+  unfolding breaksOff stands
+  broken-within h b q =
+      q ∙ ap (λ (l : List ℕ). stands l x 0) (rest s k)
+      ∙ sym (stands-behind (drop k s) x (bytes "\r") 0 (omega (arith, length-drop k s)))
+
+  pub broken-over : length x + 1 < length s - k → false ≡ breaksOff x s k
+  unfolding breaksOff
+  broken-over h = sym (begins-short (drop k s) (x ++ bytes "\r") (omega (arith, length-drop k s, cr-long)))
+
+  module _ (h : length x < length s - k) (g : length s - k ≤ length x + 1) where
+    broken-is : breaksOff x s k ≡ stands x s k && stands (bytes "\r") s (k + length x)
+    unfolding breaksOff stands
+    broken-is = begins-flip (drop k s) (x ++ bytes "\r") (omega (arith, length-drop k s, cr-long)) ∙ stands-append x (bytes "\r") s k
+
+    pub broken-off : stands x s k ≡ false → false ≡ breaksOff x s k
+    broken-off e = sym (broken-is ∙ rw e)
+
+    pub broken-cr : stands x s k ≡ true → stands (bytes "\r") s (k + length x) ≡ breaksOff x s k
+    broken-cr e = sym (broken-is ∙ rw e)
+
+-- the ways out of `notice_text`
+module _ (x s : List ℕ) (k : ℕ) where
+  pub text-broken : breaksOff x s k ≡ true → notice.Unfinished ≡ noticeText x s k
+  unfolding noticeText unlessBroken
+  text-broken e = rw e
+
+  module _ (u : breaksOff x s k ≡ false) where
+    whole : ifBare (stands x s k && stands crlf s (k + length x)) (k + length x + 2) (ifColon (stands x s k && stands (bytes ":") s (k + length x)) (through (findIn crlf s (k + length x + 1)))) ≡ noticeText x s k
+    unfolding noticeText unlessBroken
+    whole = rw (u, stands-append x crlf s k, stands-append x (bytes ":") s k)
+
+    pub text-off : stands x s k ≡ false → notice.Nothing ≡ noticeText x s k
+    unfolding ifBare ifColon
+    text-off e = rw e at whole
+
+    module _ (w : stands x s k ≡ true) where
+      behind : ifBare (stands crlf s (k + length x)) (k + length x + 2) (ifColon (stands (bytes ":") s (k + length x)) (through (findIn crlf s (k + length x + 1)))) ≡ noticeText x s k
+      behind = rw w at whole
+
+      pub text-bare : stands crlf s (k + length x) ≡ true → notice.Ended (k + length x + 2) ≡ noticeText x s k
+      unfolding ifBare
+      text-bare e = rw e at behind
+
+      module _ (v : stands crlf s (k + length x) ≡ false) where
+        pub text-other : stands (bytes ":") s (k + length x) ≡ false → notice.Nothing ≡ noticeText x s k
+        unfolding ifBare ifColon
+        text-other e = rw (v, e) at behind
+
+        module _ (z : stands (bytes ":") s (k + length x) ≡ true) (r : Found) (q : r ≡ findIn crlf s (k + length x + 1)) where
+          pub text-through : (p : ℕ) → r ≡ At p → notice.Ended (p + 2) ≡ noticeText x s k
+          unfolding ifBare ifColon through
+          text-through p e = ap through (sym e ∙ q) ∙ (rw (v, z) at behind)
+
+          pub text-open : r ≡ Nothing → notice.Nothing ≡ noticeText x s k
+          unfolding ifBare ifColon through
+          text-open e = ap through (sym e ∙ q) ∙ (rw (v, z) at behind)
+
+-- `noticeAt`
+module _ (x s : List ℕ) (p n : ℕ) (q : n ≡ lineEnding s p) where
+  pub notice-none : n ≡ 0 → notice.Nothing ≡ noticeAt x s p
+  unfolding noticeAt afterEnding
+  notice-none e = ap (λ (k : ℕ). afterEnding k x s p) (sym e ∙ q)
+
+  pub notice-is : (n ≡ 0 → ⊥) → noticeText x s (p + n) ≡ noticeAt x s p
+  unfolding noticeAt
+  notice-is z = go n z ∙ ap (λ (k : ℕ). afterEnding k x s p) q
+    where
+      go : (m : ℕ) → (m ≡ 0 → ⊥) → noticeText x s (p + m) ≡ afterEnding m x s p
+      go zero y = absurd (y refl)
+      go (suc m) y = unfold afterEnding in refl
