@@ -210,7 +210,8 @@ pub fn numeric_at(buf: &[u8], place: usize, head: Fixed) -> Numeric
     if !fixed_at(buf, place, head) {
         return Numeric::Nothing;
     }
-    tail_at(buf, place + fixed_len(head))
+    let tail = place + fixed_len(head);
+    tail_at(buf, tail)
 }
 
 // The numeric error at its head's first place at or after `from`; at no later one.
@@ -246,7 +247,8 @@ pub fn custom_prompt(buf: &[u8], from: usize, x: &[u8]) -> bool
     if n < x.len() {
         return false;
     }
-    text::matches_at(buf, from + (n - x.len()), x)
+    let at = from + (n - x.len());
+    text::matches_at(buf, at, x)
 }
 
 // A custom line: do CRLF, the text and CRLF stand in buf at `place`?
@@ -260,19 +262,20 @@ pub fn custom_at(buf: &[u8], place: usize, x: &[u8]) -> bool
     if !text::matches_at(buf, at, x) {
         return false;
     }
-    text::matches_at(buf, at + x.len(), &CRLF)
+    let end = at + x.len();
+    text::matches_at(buf, end, &CRLF)
 }
 
 // The custom line's first place at or after `from`.
 pub fn find_custom(buf: &[u8], from: usize, x: &[u8]) -> Found
     ensures { λ r. ⌜ r ≡ findIn (wrapped (now (x .entry))) (now (buf .entry)) from ⌝ }
 {
-    let mut i = from;
-    while i < buf.len() {
-        if custom_at(buf, i, x) {
-            return Found::At(i);
+    let mut place = from;
+    while place < buf.len() {
+        if custom_at(buf, place, x) {
+            return Found::At(place);
         }
-        i += 1;
+        place += 1;
     }
     Found::Nothing
 }

@@ -19,9 +19,11 @@ use Rattle.table.specs.declared.Mark.the-variants.{Notice, Success, Erro
 use Rattle.table.specs.declared.Record.{Record}
 use Rattle.table.specs.declared.Read.{Read}
 use Rattle.table.specs.declared.Read.the-variants.{Is, Faulty, End}
+use Rattle.table.specs.declared.Next.{Next}
+use Rattle.table.specs.declared.Next.the-variants as next
 use Rattle.table.specs.declared.Checked.{Checked}
 use Rattle.table.specs.declared.Checked.the-variants as checks
-use Rattle.table.specs.Table.{isPlain, allPlain, isText, orFaulty, textAt, promptAt, ifMark, marked, unlessEnd, recordAt, textOf, endOf, goodIf, goodAt, noMore, thenRule, rulingBy, ruling, outcome, thenRead, nthFrom, Token, tokenOf, thenTokens, tokensBy, tokens}
+use Rattle.table.specs.Table.{isPlain, allPlain, isText, orFaulty, textAt, promptAt, ifMark, marked, unlessEnd, recordAt, textOf, endOf, goodIf, goodAt, noMore, thenRule, rulingBy, ruling, outcome, thenRead, nthFrom, markNumber, sameMark, hereOrNext, thenNext, nextBy, nextOf, Token, tokenOf, thenTokens, tokensBy, tokens, Entry, entryOf, consIf, ofMark}
 
 -- The check's promise determines its answer.
 pub outcome-one : (r q : Checked) → outcome r ≡ outcome q → r ≡ q
@@ -277,3 +279,37 @@ module _ (t : List ℕ) (at : ℕ) (q : Read) (p : q ≡ recordAt t at) where
     pub good-good : b ≡ true → Is r ≡ goodAt t at
     unfolding orFaulty
     good-good z = rw z at at-text
+
+-- the loop of `next_of`: what is sought from `at` on is sought from `place` on, record number k beginning there
+module _ (m : Mark) (t : List ℕ) (at n place k : ℕ) (w : nextOf m t at n ≡ nextOf m t place k) where
+  pub next-over : 64 ≤ k → next.Nothing ≡ nextOf m t at n
+  unfolding nextOf nextBy
+  next-over h = let e : 64 - k ≡ 0 = omega arith in sym (w ∙ ap (λ (x : ℕ). nextBy x m t place k) e)
+
+  module _ (h : k < 64) (q : Read) (p : q ≡ recordAt t place) where
+    at-next : nextOf m t at n ≡ thenNext m q k (λ x. nextBy (64 - (k + 1)) m t x (k + 1))
+    unfolding nextOf nextBy
+    at-next =
+        let e : 64 - k ≡ suc (64 - (k + 1)) = omega arith in
+        w ∙ ap (λ (x : ℕ). nextBy x m t place k) e ∙ ap (λ (y : Read). thenNext m y k (λ x. nextBy (64 - (k + 1)) m t x (k + 1))) (sym p)
+
+    pub next-end : q ≡ End → next.Nothing ≡ nextOf m t at n
+    unfolding thenNext
+    next-end e = sym (rw e at at-next)
+
+    pub next-faulty : q ≡ Faulty → next.Nothing ≡ nextOf m t at n
+    unfolding thenNext
+    next-faulty e = sym (rw e at at-next)
+
+    module _ (r : Record) (e : q ≡ Is r) (b : Bool) (v : b ≡ sameMark (r .mark) m) where
+      at-record : nextOf m t at n ≡ hereOrNext b r k (nextOf m t (r .place + r .len) (k + 1))
+      unfolding thenNext endOf nextOf
+      at-record = (rw e at at-next) ∙ ap (λ (c : Bool). hereOrNext c r k (nextOf m t (r .place + r .len) (k + 1))) (sym v)
+
+      pub next-is : b ≡ true → next.Is r k ≡ nextOf m t at n
+      unfolding hereOrNext
+      next-is z = sym (rw z at at-record)
+
+      pub next-more : b ≡ false → nextOf m t at n ≡ nextOf m t (r .place + r .len) (k + 1)
+      unfolding hereOrNext
+      next-more z = rw z at at-record

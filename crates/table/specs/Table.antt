@@ -12,6 +12,8 @@ use Rattle.table.specs.declared.Mark.the-variants.{Notice, Success, Erro
 use Rattle.table.specs.declared.Record.{Record}
 use Rattle.table.specs.declared.Read.{Read}
 use Rattle.table.specs.declared.Read.the-variants.{Is, Faulty, End}
+use Rattle.table.specs.declared.Next.{Next}
+use Rattle.table.specs.declared.Next.the-variants as next
 use Rattle.table.specs.declared.Checked.{Checked}
 use Rattle.table.specs.declared.Checked.the-variants as checks
 
@@ -126,7 +128,37 @@ unfolding thenRead recordAt
 nthFrom zero t at = recordAt t at
 nthFrom (suc k) t at = thenRead (recordAt t at) (λ p. nthFrom k t p)
 
--- What the digester goes by: a record without its place.
+-- the marks in 01's order: UR, CS, CE, CP
+abbrev pub markNumber : Mark → ℕ
+markNumber Notice = 0
+markNumber Success = 1
+markNumber Error = 2
+markNumber Prompt = 3
+
+abbrev pub sameMark : Mark → Mark → Bool
+sameMark a b = eqb (markNumber a) (markNumber b)
+
+unfoldable pub hereOrNext : Bool → Record → ℕ → Next → Next
+hereOrNext true r n q = next.Is r n
+hereOrNext false r n q = q
+
+unfoldable pub thenNext : Mark → Read → ℕ → (ℕ → Next) → Next
+unfolding endOf hereOrNext
+thenNext m (Is r) n f = let q = f (endOf r) in hereOrNext (sameMark (r .mark) m) r n q
+thenNext m Faulty n f = next.Nothing
+thenNext m End n f = next.Nothing
+
+unfoldable pub nextBy : ℕ → Mark → List ℕ → ℕ → ℕ → Next
+unfolding thenNext recordAt
+nextBy zero m t at n = next.Nothing
+nextBy (suc more) m t at n = thenNext m (recordAt t at) n (λ p. nextBy more m t p (n + 1))
+
+-- the first record with the mark m, from `at` on, where record number n begins
+unfoldable pub nextOf : Mark → List ℕ → ℕ → ℕ → Next
+unfolding nextBy
+nextOf m t at n = nextBy (64 - n) m t at n
+
+-- What the digester goes by: a record's mark, prompt byte and text.
 pub record Token : Type 0 where
   pub mark : Mark
   pub prompt : ℕ
@@ -151,3 +183,22 @@ tokensBy (suc more) t at = thenTokens t (recordAt t at) (λ p. tokensBy more t p
 unfoldable pub tokens : List ℕ → List Token
 unfolding tokensBy
 tokens t = tokensBy 64 t 0
+
+-- A token of a known mark, with its number in the table.
+pub record Entry : Type 0 where
+  pub number : ℕ
+  pub prompt : ℕ
+  pub text : List ℕ
+
+unfoldable pub entryOf : Token → ℕ → Entry
+entryOf x n = record { number = n; prompt = x .prompt; text = x .text }
+
+unfoldable pub consIf : Bool → Entry → List Entry → List Entry
+consIf true x l = x ∷ l
+consIf false x l = l
+
+-- those with the mark m, in table order, where the first token has the number n
+unfoldable pub ofMark : Mark → ℕ → List Token → List Entry
+unfolding consIf entryOf
+ofMark m n [] = []
+ofMark m n (x ∷ l) = consIf (sameMark (x .mark) m) (entryOf x n) (ofMark m (n + 1) l)

@@ -2,7 +2,7 @@
 // A record is a two-byte mark, for CP one prompt byte, a length byte and the text. It is known by its number, from 0.
 // Every function is total. `check` alone judges a table; the readers take the records as they lie, up to the first that can't be read.
 ghost use mathlib.Core.Path.{_≡_};
-ghost use Rattle.table.specs.Table.{isPlain, isText, textAt, promptAt, recordAt, textOf, goodAt, ruling, outcome, nthFrom};
+ghost use Rattle.table.specs.Table.{isPlain, isText, textAt, promptAt, recordAt, textOf, goodAt, ruling, outcome, markNumber, sameMark, nextOf, nthFrom};
 
 // What a record stands for: UR, CS, CE, CP.
 pub enum Mark {
@@ -179,6 +179,57 @@ pub fn check(t: &[u8]) -> Checked
         return Checked::Faulty(n);
     }
     Checked::Good(n)
+}
+
+// Are the two marks the same?
+fn same_mark(a: Mark, b: Mark) -> bool
+    ensures { λ r. ⌜ r ≡ sameMark a b ⌝ }
+{
+    mark_number(a) == mark_number(b)
+}
+
+fn mark_number(m: Mark) -> u8
+    ensures { λ r. ⌜ r ≡ markNumber m ⌝ }
+{
+    match m {
+        Mark::Notice => 0,
+        Mark::Success => 1,
+        Mark::Error => 2,
+        Mark::Prompt => 3,
+    }
+}
+
+// The next record with a mark: the record and its number, or none.
+pub enum Next {
+    Is(Record, usize),
+    Nothing,
+}
+
+// The first record with the mark, read from `at` on, where record number n begins. At most 64 are read in all.
+pub fn next_of(t: &[u8], mark: Mark, at: usize, n: usize) -> Next
+    ensures { λ r. ⌜ r ≡ nextOf mark (now (t .entry)) at n ⌝ }
+{
+    let mut place = at;
+    let mut k = n;
+    while k < MOST {
+        match record_at(t, place) {
+            Read::End => {
+                return Next::Nothing;
+            }
+            Read::Faulty => {
+                return Next::Nothing;
+            }
+            Read::Is(r) => {
+                let found = r.mark;
+                if same_mark(found, mark) {
+                    return Next::Is(r, k);
+                }
+                place = r.place + r.len;
+                k += 1;
+            }
+        }
+    }
+    Next::Nothing
 }
 
 // Record number k as it lies. Where one before it can't be read it can't be either, and past the last there is none.

@@ -65,14 +65,14 @@ pub fn is_blank(set: Blanks, b: u8) -> bool
 pub fn skip(set: Blanks, s: &[u8], from: usize) -> usize
     ensures { λ r. ⌜ r ≡ past (isBlank set) (now (s .entry)) from ⌝ }
 {
-    let mut i = from;
-    while i < s.len() {
-        if !is_blank(set, s[i]) {
-            return i;
+    let mut place = from;
+    while place < s.len() {
+        if !is_blank(set, s[place]) {
+            return place;
         }
-        i += 1;
+        place += 1;
     }
-    i
+    place
 }
 
 // How long s is without the blanks that it ends in; 0 where it has nothing else.

@@ -36,8 +36,8 @@ returns-2 c =
     let if1 = c .before .before .if1 in
     line-off (args .x .now) (args .buf .now) (args .place) (sym (matches-at .ensures) ∙ not-false _ (if1 .left)) (sym (c .before .matches-at2 .ensures) ∙ not-true _ (c .if2 .taken))
 
-add-matches-at : tie.Need-add-matches-at
-add-matches-at c =
+add-end : tie.Need-add-end
+add-end c =
     let args = c .before .before .before .before .before .before .before .args in
     let matches-at = c .before .before .before .matches-at in
     let if1 = c .before .before .if1 in
@@ -68,7 +68,7 @@ custom-at-spec =
     add-at
     matches-at-requires-2
     returns-2
-    add-matches-at
+    add-end
     slice-aggregate-matches-at-2
     matches-at-requires-3
     returns-3)

@@ -29,11 +29,11 @@ returns-2 c =
     let args = c .before .before .before .before .before .before .args in
     custom-short (args .x .now) (args .buf .now) (args .from) _ (c .before .kept .ensures) (c .if2 .taken)
 
-sub-matches-at : tie.Need-sub-matches-at
-sub-matches-at c = search needs
+sub-at : tie.Need-sub-at
+sub-at c = search needs
 
-add-matches-at : tie.Need-add-matches-at
-add-matches-at c =
+add-at : tie.Need-add-at
+add-at c =
     let args = c .before .before .before .before .before .before .args in
     let if1 = c .before .before .before .if1 in
     record { fits = omega (arith, custom-room (args .x .now) (args .buf .now) (args .from) _ (c .before .kept .ensures) (if1 .left)) }
@@ -57,7 +57,7 @@ custom-prompt-spec =
     part-kept-end
     kept-requires
     returns-2
-    sub-matches-at
-    add-matches-at
+    sub-at
+    add-at
     matches-at-requires
     returns-3)

@@ -1,4 +1,4 @@
--- `find_custom` meets its contract: the first place from `from` on is the first from i on, and past the end there is none. The measure is what is left of buf. Assumes nothing.
+-- `find_custom` meets its contract: the first place from `from` on is the first from `place` on, and past the end there is none. The measure is what is left of buf. Assumes nothing.
 use mathlib.Core.Path.{_≡_, refl, sym, _∙_}
 use Prim.Native.Nat.{_-_}
 use lib.ListN.{length}
@@ -12,10 +12,10 @@ use Rattle.parser.proofs.find_custom.Statement.{statement}
 use Rattle.parser.proofs.find_custom.Tie as tie
 
 abbrev Inv-loop : tie.InvT-loop
-Inv-loop buf from x i₀ i = findIn (wrapped x) buf from ≡ findIn (wrapped x) buf i
+Inv-loop buf from x place₀ place = findIn (wrapped x) buf from ≡ findIn (wrapped x) buf place
 
 abbrev μ-loop : tie.MeasureT-loop
-μ-loop buf from x i₀ i = length buf - i
+μ-loop buf from x place₀ place = length buf - place
 
 loop-holds : tie.Need-loop-holds Inv-loop μ-loop
 loop-holds c = refl
@@ -26,10 +26,10 @@ custom-at-requires c κs = search needs
 returns : tie.Need-returns Inv-loop μ-loop
 returns c =
     let loop = c .before .before .before .loop in
-    sym (loop .inv ∙ find-here _ _ (loop .i) (sym (c .before .custom-at .ensures) ∙ c .if1 .taken))
+    sym (loop .inv ∙ find-here _ _ (loop .place) (sym (c .before .custom-at .ensures) ∙ c .if1 .taken))
 
-add-i : tie.Need-add-i Inv-loop μ-loop
-add-i c = omega arith
+add-place : tie.Need-add-place Inv-loop μ-loop
+add-place c = omega arith
 
 loop-less : tie.Need-loop-less Inv-loop μ-loop
 loop-less c = omega arith
@@ -38,13 +38,13 @@ loop-again : tie.Need-loop-again Inv-loop μ-loop
 loop-again c =
     let loop = c .before .before .before .loop in
     let loop-test = c .before .before .loop-test in
-    loop .inv ∙ find-next _ _ (loop .i) (loop-test .taken) (sym (c .before .custom-at .ensures) ∙ c .if1 .left)
+    loop .inv ∙ find-next _ _ (loop .place) (loop-test .taken) (sym (c .before .custom-at .ensures) ∙ c .if1 .left)
 
 returns-2 : tie.Need-returns-2 Inv-loop μ-loop
 returns-2 c =
     let args = c .before .before .before .before .args in
     let loop = c .before .loop in
-    sym (loop .inv ∙ find-end _ _ (loop .i) (c .loop-test .left) (line-past (args .x .now) (args .buf .now) (loop .i) (c .loop-test .left)))
+    sym (loop .inv ∙ find-end _ _ (loop .place) (c .loop-test .left) (line-past (args .x .now) (args .buf .now) (loop .place) (c .loop-test .left)))
 
 pub find-custom-spec : {M : Type 1} → statement M
 find-custom-spec =
@@ -55,7 +55,7 @@ find-custom-spec =
     loop-holds
     custom-at-requires
     returns
-    add-i
+    add-place
     loop-less
     loop-again
     returns-2)

@@ -21,8 +21,8 @@ returns c =
 fixed-len-requires : tie.Need-fixed-len-requires
 fixed-len-requires c κs = search needs
 
-add-tail-at : tie.Need-add-tail-at
-add-tail-at c =
+add-tail : tie.Need-add-tail
+add-tail c =
     let args = c .before .before .before .before .args in
     let fixed-at = c .before .before .fixed-at in
     record { fits = omega (arith, c .fixed-len .ensures, stands-within (fixedText (args .head)) (args .buf .now) (args .place) 18446744073709551615 (omega arith) (omega arith) (sym (fixed-at .ensures) ∙ not-false _ (c .before .if1 .left))) }
@@ -40,4 +40,4 @@ returns-2 c =
 pub numeric-at-spec : {M : Type 1} → statement M
 numeric-at-spec =
     tie.close
-    (tie.spec fixed-at-requires returns fixed-len-requires add-tail-at tail-at-requires returns-2)
+    (tie.spec fixed-at-requires returns fixed-len-requires add-tail tail-at-requires returns-2)

@@ -1,4 +1,4 @@
--- `skip` meets its contract: the answer from `from` on is the answer from `i` on. The measure is what is left of s. Assumes nothing.
+-- `skip` meets its contract: the answer from `from` on is the answer from `place` on. The measure is what is left of s. Assumes nothing.
 use mathlib.Core.Path.{_≡_, refl, sym, _∙_}
 use Prim.Native.Nat.{_-_}
 use lib.ListN.{length}
@@ -11,10 +11,10 @@ use Rattle.text.proofs.skip.Statement.{statement}
 use Rattle.text.proofs.skip.Tie as tie
 
 abbrev Inv-loop : tie.InvT-loop
-Inv-loop set s from i₀ i = past (isBlank set) s from ≡ past (isBlank set) s i
+Inv-loop set s from place₀ place = past (isBlank set) s from ≡ past (isBlank set) s place
 
 abbrev μ-loop : tie.MeasureT-loop
-μ-loop set s from i₀ i = length s - i
+μ-loop set s from place₀ place = length s - place
 
 loop-holds : tie.Need-loop-holds Inv-loop μ-loop
 loop-holds c = refl
@@ -29,10 +29,10 @@ returns : tie.Need-returns Inv-loop μ-loop
 returns c =
     let loop = c .before .before .before .before .loop in
     let loop-test = c .before .before .before .loop-test in
-    sym (loop .inv ∙ past-stop _ _ (loop .i) (loop-test .taken) (sym (c .before .is-blank .ensures) ∙ not-true _ (c .if1 .taken)))
+    sym (loop .inv ∙ past-stop _ _ (loop .place) (loop-test .taken) (sym (c .before .is-blank .ensures) ∙ not-true _ (c .if1 .taken)))
 
-add-i : tie.Need-add-i Inv-loop μ-loop
-add-i c = omega arith
+add-place : tie.Need-add-place Inv-loop μ-loop
+add-place c = omega arith
 
 loop-less : tie.Need-loop-less Inv-loop μ-loop
 loop-less c = omega arith
@@ -41,12 +41,12 @@ loop-again : tie.Need-loop-again Inv-loop μ-loop
 loop-again c =
     let loop = c .before .before .before .before .loop in
     let loop-test = c .before .before .before .loop-test in
-    loop .inv ∙ past-more _ _ (loop .i) (loop-test .taken) (sym (c .before .is-blank .ensures) ∙ not-false _ (c .if1 .left))
+    loop .inv ∙ past-more _ _ (loop .place) (loop-test .taken) (sym (c .before .is-blank .ensures) ∙ not-false _ (c .if1 .left))
 
 returns-2 : tie.Need-returns-2 Inv-loop μ-loop
 returns-2 c =
     let loop = c .before .loop in
-    sym (loop .inv ∙ past-end _ _ (loop .i) (c .loop-test .left))
+    sym (loop .inv ∙ past-end _ _ (loop .place) (c .loop-test .left))
 
 pub skip-spec : {M : Type 1} → statement M
 skip-spec =
@@ -58,7 +58,7 @@ skip-spec =
     shared-slice-read-is-blank
     is-blank-requires
     returns
-    add-i
+    add-place
     loop-less
     loop-again
     returns-2)

@@ -1,0 +1,4 @@
+pub mod Answer
+pub mod Digest
+pub mod Finished
+pub mod Examples
