@@ -22,6 +22,8 @@ use Rattle.parser.specs.declared.Notice.the-variants as notice
 use Rattle.digest.specs.declared.Kind.{Kind}
 use Rattle.digest.specs.declared.Kind.the-variants as kind
 use Rattle.digest.specs.declared.Answer.{Answer}
+use Rattle.digest.specs.declared.Occurs.{Occurs}
+use Rattle.digest.specs.declared.Occurs.the-variants as occurs
 use Rattle.digest.specs.declared.Tried.{Tried}
 use Rattle.digest.specs.declared.Tried.the-variants.{Done, Next}
 use Rattle.digest.specs.Answer.{isFound, answer, nothing, shift}
@@ -48,30 +50,26 @@ trimmedAnswer k n s e to c =
     answer k n (e + t .start) (t .len) c
 
 -- Rule 2. The payload is the line, trimmed. An unfinished notice: the answer at once is None, e.
-unfoldable pub heard : Notice → ℕ → List ℕ → ℕ → Tried → Tried
+unfoldable pub heard : Notice → ℕ → List ℕ → ℕ → Tried
 unfolding trimmedAnswer
-heard (notice.Ended end) n s e r = Done (trimmedAnswer kind.Notice n s e end end)
-heard notice.Unfinished n s e r = Done (nothing e)
-heard notice.Nothing n s e r = r
+heard (notice.Ended end) n s e = Done (trimmedAnswer kind.Notice n s e end end)
+heard notice.Unfinished n s e = Done (nothing e)
+heard notice.Nothing n s e = Next
 
 -- Notices, in table order.
 unfoldable pub notices : List Entry → List ℕ → ℕ → Tried
-unfolding heard
+unfolding orElse heard
 notices [] s e = Next
-notices (x ∷ l) s e = heard (noticeAt (x .text) s e) (x .number) s e (notices l s e)
+notices (x ∷ l) s e = orElse (heard (noticeAt (x .text) s e) (x .number) s e) (notices l s e)
 
--- the first record whose CRLF text CRLF occurs in buf: its number, its text and the first occurrence's place
-pub data Occurs : Type 0 where
-  occurs : ℕ → List ℕ → ℕ → Occurs
-  nowhere : Occurs
-
+-- the first record whose CRLF text CRLF occurs in buf: its number, its text's length and the first occurrence's place
 unfoldable pub occursOr : Found → Entry → Occurs → Occurs
-occursOr (At k) x r = occurs (x .number) (x .text) k
+occursOr (At k) x r = occurs.At (x .number) (length (x .text)) k
 occursOr Nothing x r = r
 
 unfoldable pub firstCustom : List Entry → List ℕ → ℕ → Occurs
 unfolding occursOr
-firstCustom [] s e = nowhere
+firstCustom [] s e = occurs.Nothing
 firstCustom (x ∷ l) s e = occursOr (findIn (wrapped (x .text)) s e) x (firstCustom l s e)
 
 -- Rule 3. Payload: the bytes of buf before the line, trimmed. Consumed: through its end.
@@ -79,17 +77,18 @@ unfoldable pub success : List ℕ → ℕ → ℕ → ℕ → Tried
 unfolding trimmedAnswer
 success s e k end = Done (trimmedAnswer kind.Ok 0 s e k end)
 
+-- CRLF, the text and CRLF are four bytes more than the text.
 unfoldable pub customSuccess : Occurs → List ℕ → ℕ → Tried
 unfolding success
-customSuccess (occurs n x k) s e = success s e k (k + length (wrapped x))
-customSuccess nowhere s e = Next
+customSuccess (occurs.At n len k) s e = success s e k (k + (len + 4))
+customSuccess occurs.Nothing s e = Next
 
 unfoldable pub lineSuccess : Fixed → Found → List ℕ → ℕ → Tried
 unfolding success
 lineSuccess l (At k) s e = success s e k (k + length (fixedText l))
 lineSuccess l Nothing s e = Next
 
--- First a CS record, then OK, else CONNECT.
+-- The first CS record that occurs; then OK, else CONNECT.
 unfoldable pub successes : List Entry → List ℕ → ℕ → Tried
 unfolding orElse customSuccess lineSuccess firstCustom
 successes l s e =
@@ -98,22 +97,26 @@ successes l s e =
     (lineSuccess fixed.Connect (findIn (fixedText fixed.Connect) s e) s e))
 
 -- Rule 4. A prompt consumes all.
-unfoldable pub promptIf : Bool → ℕ → List ℕ → Tried → Tried
+unfoldable pub promptTried : Bool → ℕ → List ℕ → Tried
 unfolding answer
-promptIf true b s r = Done (answer kind.Prompt b 0 0 (length s))
-promptIf false b s r = r
+promptTried true b s = Done (answer kind.Prompt b 0 0 (length s))
+promptTried false b s = Next
+
+unfoldable pub customPrompts : List Entry → List ℕ → ℕ → Tried
+unfolding orElse promptTried
+customPrompts [] s e = Next
+customPrompts (x ∷ l) s e = orElse (promptTried (customPrompt (x .text) s e) (x .prompt) s) (customPrompts l s e)
 
 -- Custom prompts in table order, then `>`, then `@`.
 unfoldable pub prompts : List Entry → List ℕ → ℕ → Tried
-unfolding promptIf
-prompts [] s e = promptIf (promptFrom 62 s e) 62 s (promptIf (promptFrom 64 s e) 64 s Next)
-prompts (x ∷ l) s e = promptIf (customPrompt (x .text) s e) (x .prompt) s (prompts l s e)
+unfolding orElse customPrompts promptTried
+prompts l s e = orElse (customPrompts l s e) (orElse (promptTried (promptFrom 62 s e) 62 s) (promptTried (promptFrom 64 s e) 64 s))
 
 -- Rule 5. A custom error's payload is the text itself.
 unfoldable pub customError : Occurs → Tried
 unfolding answer
-customError (occurs n x k) = Done (answer kind.Custom n (k + 2) (length x) (k + length (wrapped x)))
-customError nowhere = Next
+customError (occurs.At n len k) = Done (answer kind.Custom n (k + 2) len (k + (len + 4)))
+customError occurs.Nothing = Next
 
 -- through the end of a numeric error
 unfoldable pub numericTried : Kind → Numeric → Tried
@@ -127,27 +130,42 @@ unfolding answer
 lineTried k l (At p) = Done (answer k 0 0 0 (p + length (fixedText l)))
 lineTried k l Nothing = Next
 
--- NA at the head of buf only
 unfoldable pub headTried : Bool → ℕ → Tried
 unfolding answer
 headTried true e = Done (answer kind.NotAllowed 0 0 0 (e + length (fixedText fixed.Na)))
 headTried false e = Next
 
--- The first that matches of: CME, CMS, MODEM ERROR, ERROR, COMMAND NOT SUPPORT, NO CARRIER, BUSY, NO ANSWER, NO DIALTONE, NA.
+unfoldable pub numericFrom : Kind → Fixed → List ℕ → ℕ → Tried
+unfolding numericTried
+numericFrom k h s e = numericTried k (numericError (fixedText h) s e)
+
+unfoldable pub lineFrom : Kind → Fixed → List ℕ → ℕ → Tried
+unfolding lineTried
+lineFrom k l s e = lineTried k l (findIn (fixedText l) s e)
+
+-- CME, CMS, MODEM ERROR
+unfoldable pub numericErrors : List ℕ → ℕ → Tried
+unfolding orElse numericFrom
+numericErrors s e =
+    orElse (numericFrom kind.Cme fixed.Cme s e)
+    (orElse (numericFrom kind.Cms fixed.Cms s e) (numericFrom kind.Unknown fixed.Modem s e))
+
+-- ERROR, COMMAND NOT SUPPORT, NO CARRIER, BUSY, NO ANSWER, NO DIALTONE
+unfoldable pub lineErrors : List ℕ → ℕ → Tried
+unfolding orElse lineFrom
+lineErrors s e =
+    orElse (lineFrom kind.Error fixed.Error s e)
+    (orElse (lineFrom kind.Error fixed.CommandNotSupport s e)
+    (orElse (lineFrom kind.NoCarrier fixed.NoCarrier s e)
+    (orElse (lineFrom kind.Busy fixed.Busy s e)
+    (orElse (lineFrom kind.NoAnswer fixed.NoAnswer s e) (lineFrom kind.NoDialtone fixed.NoDialtone s e)))))
+
+-- Custom error as in 3. Then the first that matches of these, and NA at the head of buf only.
 unfoldable pub errors : List Entry → List ℕ → ℕ → Tried
-unfolding orElse customError numericTried lineTried headTried firstCustom
+unfolding orElse customError firstCustom numericErrors lineErrors headTried
 errors l s e =
     orElse (customError (firstCustom l s e))
-    (orElse (numericTried kind.Cme (numericError (fixedText fixed.Cme) s e))
-    (orElse (numericTried kind.Cms (numericError (fixedText fixed.Cms) s e))
-    (orElse (numericTried kind.Unknown (numericError (fixedText fixed.Modem) s e))
-    (orElse (lineTried kind.Error fixed.Error (findIn (fixedText fixed.Error) s e))
-    (orElse (lineTried kind.Error fixed.CommandNotSupport (findIn (fixedText fixed.CommandNotSupport) s e))
-    (orElse (lineTried kind.NoCarrier fixed.NoCarrier (findIn (fixedText fixed.NoCarrier) s e))
-    (orElse (lineTried kind.Busy fixed.Busy (findIn (fixedText fixed.Busy) s e))
-    (orElse (lineTried kind.NoAnswer fixed.NoAnswer (findIn (fixedText fixed.NoAnswer) s e))
-    (orElse (lineTried kind.NoDialtone fixed.NoDialtone (findIn (fixedText fixed.NoDialtone) s e))
-    (headTried (stands (fixedText fixed.Na) s e) e))))))))))
+    (orElse (numericErrors s e) (orElse (lineErrors s e) (headTried (stands (fixedText fixed.Na) s e) e)))
 
 -- rules 2 to 5
 unfoldable pub tried : List Token → List ℕ → ℕ → Tried

@@ -2,3 +2,4 @@ pub mod Answer
 pub mod Digest
 pub mod Finished
 pub mod Examples
+pub mod Laws

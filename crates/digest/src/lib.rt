@@ -1,7 +1,22 @@
 // The AT digester of atat 0.25.0 by document 01's rules: bytes from a modem go in, and what they were comes out.
-// This crate so far has the answer's form and the definitions; the digester itself stands on them.
+// `digest` is the public call: it checks for itself and refuses by number. The rules stand below it in their order.
 ghost use mathlib.Core.Path.{_≡_};
-ghost use Rattle.digest.specs.Answer.{nothing};
+ghost use Prim.Native.Nat.{_≤_, _+_};
+ghost use lib.ListN.{length};
+ghost use Rattle.table.specs.Table.{tokens, entries};
+ghost use Rattle.table.specs.declared.Mark.the-variants as mark;
+ghost use Rattle.text.specs.Text.{stands, findIn};
+ghost use Rattle.parser.specs.Parser.{fixedText, noticeAt};
+ghost use Rattle.parser.specs.declared.Fixed.the-variants as fixed;
+ghost use Rattle.digest.specs.Answer.{numbered, stored, isFound, placed, answer, nothing, shift};
+ghost use Rattle.digest.specs.Digest.{skipped, trimmedAnswer, heard, notices, firstCustom, success, customSuccess, lineSuccess, successes, customPrompts, promptTried, prompts, customError, numericFrom, lineFrom, numericErrors, lineErrors, headTried, errors, tried, retries, digest, digested};
+use parser::Fixed;
+use parser::Notice;
+use parser::Numeric;
+use table::Mark;
+use table::Next;
+use text::Blanks;
+use text::Found;
 
 // What was heard. Custom is a custom error; a custom success is an Ok.
 pub enum Kind {
@@ -30,14 +45,88 @@ pub struct Answer {
     pub consumed: usize,
 }
 
-// What one level of the digest gives: an answer, or none of rules 2 to 5.
+// What a rule gives: an answer, or the next rule's turn.
 pub enum Tried {
     Done(Answer),
     Next,
 }
 
+// Where a custom line occurs: its record's number, its text's length and the place; or nowhere.
+pub enum Occurs {
+    At(u32, usize, usize),
+    Nothing,
+}
+
+// The number that is stored for a kind: n where it has one, else 0.
+fn number_of(kind: Kind, n: u32) -> u32
+    ensures { λ r. ⌜ r ≡ stored (numbered kind n) ⌝ }
+{
+    match kind {
+        Kind::None => 0,
+        Kind::Ok => 0,
+        Kind::Prompt => n,
+        Kind::Cme => n,
+        Kind::Cms => n,
+        Kind::Unknown => 0,
+        Kind::NotAllowed => 0,
+        Kind::Error => 0,
+        Kind::NoCarrier => 0,
+        Kind::Busy => 0,
+        Kind::NoAnswer => 0,
+        Kind::NoDialtone => 0,
+        Kind::Custom => n,
+        Kind::Notice => n,
+    }
+}
+
+// Is the answer another than None?
+pub fn is_found(a: Answer) -> bool
+    ensures { λ r. ⌜ r ≡ isFound a ⌝ }
+{
+    let kind = a.kind;
+    match kind {
+        Kind::None => false,
+        Kind::Ok => true,
+        Kind::Prompt => true,
+        Kind::Cme => true,
+        Kind::Cms => true,
+        Kind::Unknown => true,
+        Kind::NotAllowed => true,
+        Kind::Error => true,
+        Kind::NoCarrier => true,
+        Kind::Busy => true,
+        Kind::NoAnswer => true,
+        Kind::NoDialtone => true,
+        Kind::Custom => true,
+        Kind::Notice => true,
+    }
+}
+
+// A payload of length 0 has place 0.
+fn placed_at(len: usize, place: usize) -> usize
+    ensures { λ r. ⌜ r ≡ placed len place ⌝ }
+{
+    if len == 0 {
+        return 0;
+    }
+    place
+}
+
+// The one way an answer is made.
+fn made(kind: Kind, n: u32, place: usize, len: usize, consumed: usize) -> Answer
+    ensures { λ r. ⌜ r ≡ answer kind n place len consumed ⌝ }
+{
+    Answer {
+        kind: kind,
+        number: number_of(kind, n),
+        place: placed_at(len, place),
+        len: len,
+        consumed: consumed,
+    }
+}
+
 // The answer None with `consumed` bytes consumed.
-pub fn nothing(consumed: usize) -> Answer
+fn nothing(consumed: usize) -> Answer
     ensures { λ r. ⌜ r ≡ nothing consumed ⌝ }
 {
     Answer {
@@ -47,4 +136,301 @@ pub fn nothing(consumed: usize) -> Answer
         len: 0,
         consumed: consumed,
     }
+}
+
+// The same answer seen from d bytes further to the front.
+fn shifted(a: Answer, d: usize) -> Answer
+    requires { ⌜ (a .place + d ≤ 4096) × (a .consumed + d ≤ 4096) ⌝ }
+    ensures { λ r. ⌜ r ≡ shift d a ⌝ }
+{
+    let kind = a.kind;
+    Answer {
+        kind: kind,
+        number: a.number,
+        place: placed_at(a.len, a.place + d),
+        len: a.len,
+        consumed: a.consumed + d,
+    }
+}
+
+// Rule 1: how many bytes are skipped, leading spaces and what stands before the first CRLF behind them.
+fn skipped(s: &[u8]) -> usize
+    ensures { λ r. ⌜ r ≡ skipped (now (s .entry)) ⌝ }
+{
+    let a = text::skip(Blanks::Space, s, 0);
+    match text::find(s, a, &parser::CRLF) {
+        Found::At(k) => k,
+        Found::Nothing => a,
+    }
+}
+
+// An answer whose payload is what stands from e to `to`, trimmed.
+fn trimmed_answer(s: &[u8], e: usize, to: usize, kind: Kind, n: u32, consumed: usize) -> Answer
+    requires { ⌜ (e ≤ to) × (to ≤ length (now s)) ⌝ }
+    ensures { λ r. ⌜ r ≡ trimmedAnswer kind n (now (s .entry)) e to consumed ⌝ }
+{
+    let t = text::trim(Blanks::Trim, &s[e..to]);
+    made(kind, n, e + t.start, t.len, consumed)
+}
+
+// Rule 2 for one record: a notice, or an unfinished one, which is None at once.
+fn one_notice(s: &[u8], e: usize, x: &[u8], n: u32) -> Tried
+    requires { ⌜ e ≤ length (now s) ⌝ }
+    ensures { λ r. ⌜ r ≡ heard (noticeAt (now (x .entry)) (now (s .entry)) e) n (now (s .entry)) e ⌝ }
+{
+    match parser::notice_at(s, e, x) {
+        Notice::Ended(end) => Tried::Done(trimmed_answer(s, e, end, Kind::Notice, n, end)),
+        Notice::Unfinished => Tried::Done(nothing(e)),
+        Notice::Nothing => Tried::Next,
+    }
+}
+
+// Rule 2: notices, in table order.
+fn notices(table: &[u8], s: &[u8], e: usize) -> Tried
+    requires { ⌜ e ≤ length (now s) ⌝ }
+    ensures { λ r. ⌜ r ≡ notices (entries mark.Notice (now (table .entry)) 0 0) (now (s .entry)) e ⌝ }
+{
+    let mut at = 0;
+    let mut n = 0;
+    loop {
+        match table::next_of(table, Mark::Notice, at, n) {
+            Next::Nothing => {
+                return Tried::Next;
+            }
+            Next::Is(r, k) => {
+                if let Tried::Done(a) = one_notice(s, e, table::text_of(table, r), k as u32) {
+                    return Tried::Done(a);
+                }
+                at = r.place + r.len;
+                n = k + 1;
+            }
+        }
+    }
+}
+
+// Rules 3 and 5: the first record with the mark whose CRLF text CRLF occurs in s from e on.
+fn first_custom(table: &[u8], mark: Mark, s: &[u8], e: usize) -> Occurs
+    ensures { λ r. ⌜ r ≡ firstCustom (entries mark (now (table .entry)) 0 0) (now (s .entry)) e ⌝ }
+{
+    let mut at = 0;
+    let mut n = 0;
+    loop {
+        match table::next_of(table, mark, at, n) {
+            Next::Nothing => {
+                return Occurs::Nothing;
+            }
+            Next::Is(r, k) => {
+                if let Found::At(place) = parser::find_custom(s, e, table::text_of(table, r)) {
+                    return Occurs::At(k as u32, r.len, place);
+                }
+                at = r.place + r.len;
+                n = k + 1;
+            }
+        }
+    }
+}
+
+// Rule 3: an Ok whose line stands at k and ends at `end`.
+fn success(s: &[u8], e: usize, k: usize, end: usize) -> Tried
+    requires { ⌜ (e ≤ k) × (k ≤ length (now s)) ⌝ }
+    ensures { λ r. ⌜ r ≡ success (now (s .entry)) e k end ⌝ }
+{
+    Tried::Done(trimmed_answer(s, e, k, Kind::Ok, 0, end))
+}
+
+// Rule 3: the first CS record that occurs.
+fn custom_success(table: &[u8], s: &[u8], e: usize) -> Tried
+    ensures { λ r. ⌜ r ≡ customSuccess (firstCustom (entries mark.Success (now (table .entry)) 0 0) (now (s .entry)) e) (now (s .entry)) e ⌝ }
+{
+    match first_custom(table, Mark::Success, s, e) {
+        Occurs::At(_, len, k) => success(s, e, k, k + (len + 4)),
+        Occurs::Nothing => Tried::Next,
+    }
+}
+
+// Rule 3: the first place of a fixed line.
+fn line_success(s: &[u8], e: usize, line: Fixed) -> Tried
+    ensures { λ r. ⌜ r ≡ lineSuccess line (findIn (fixedText line) (now (s .entry)) e) (now (s .entry)) e ⌝ }
+{
+    match parser::find_fixed(s, e, line) {
+        Found::At(k) => success(s, e, k, k + parser::fixed_len(line)),
+        Found::Nothing => Tried::Next,
+    }
+}
+
+// Rule 3: a custom success; then OK, else CONNECT.
+fn successes(table: &[u8], s: &[u8], e: usize) -> Tried
+    ensures { λ r. ⌜ r ≡ successes (entries mark.Success (now (table .entry)) 0 0) (now (s .entry)) e ⌝ }
+{
+    if let Tried::Done(a) = custom_success(table, s, e) {
+        return Tried::Done(a);
+    }
+    if let Tried::Done(a) = line_success(s, e, Fixed::Ok) {
+        return Tried::Done(a);
+    }
+    line_success(s, e, Fixed::Connect)
+}
+
+// Rule 4: a prompt, which consumes all, where the test holds.
+fn prompt_tried(s: &[u8], holds: bool, byte: u8) -> Tried
+    ensures { λ r. ⌜ r ≡ promptTried holds byte (now (s .entry)) ⌝ }
+{
+    if !holds {
+        return Tried::Next;
+    }
+    Tried::Done(made(Kind::Prompt, byte as u32, 0, 0, s.len()))
+}
+
+// Rule 4: custom prompts, in table order.
+fn custom_prompts(table: &[u8], s: &[u8], e: usize) -> Tried
+    ensures { λ r. ⌜ r ≡ customPrompts (entries mark.Prompt (now (table .entry)) 0 0) (now (s .entry)) e ⌝ }
+{
+    let mut at = 0;
+    let mut n = 0;
+    loop {
+        match table::next_of(table, Mark::Prompt, at, n) {
+            Next::Nothing => {
+                return Tried::Next;
+            }
+            Next::Is(r, k) => {
+                let holds = parser::custom_prompt(s, e, table::text_of(table, r));
+                if let Tried::Done(a) = prompt_tried(s, holds, r.prompt) {
+                    return Tried::Done(a);
+                }
+                at = r.place + r.len;
+                n = k + 1;
+            }
+        }
+    }
+}
+
+// Rule 4: custom prompts, then `>`, then `@`.
+fn prompts(table: &[u8], s: &[u8], e: usize) -> Tried
+    ensures { λ r. ⌜ r ≡ prompts (entries mark.Prompt (now (table .entry)) 0 0) (now (s .entry)) e ⌝ }
+{
+    if let Tried::Done(a) = custom_prompts(table, s, e) {
+        return Tried::Done(a);
+    }
+    if let Tried::Done(a) = prompt_tried(s, parser::prompt_from(s, e, b'>'), b'>') {
+        return Tried::Done(a);
+    }
+    prompt_tried(s, parser::prompt_from(s, e, b'@'), b'@')
+}
+
+// Rule 5: the first CE record that occurs; the payload is the text itself.
+fn custom_error(table: &[u8], s: &[u8], e: usize) -> Tried
+    ensures { λ r. ⌜ r ≡ customError (firstCustom (entries mark.Error (now (table .entry)) 0 0) (now (s .entry)) e) ⌝ }
+{
+    match first_custom(table, Mark::Error, s, e) {
+        Occurs::At(n, len, k) => Tried::Done(made(Kind::Custom, n, k + 2, len, k + (len + 4))),
+        Occurs::Nothing => Tried::Next,
+    }
+}
+
+// Rule 5: a numeric error, its head at its first place only.
+fn numeric_from(s: &[u8], e: usize, kind: Kind, head: Fixed) -> Tried
+    ensures { λ r. ⌜ r ≡ numericFrom kind head (now (s .entry)) e ⌝ }
+{
+    match parser::numeric_error(s, e, head) {
+        Numeric::Is(d) => Tried::Done(made(kind, d.code, 0, 0, d.end)),
+        Numeric::Nothing => Tried::Next,
+    }
+}
+
+// Rule 5: the first place of a fixed line.
+fn line_from(s: &[u8], e: usize, kind: Kind, line: Fixed) -> Tried
+    ensures { λ r. ⌜ r ≡ lineFrom kind line (now (s .entry)) e ⌝ }
+{
+    match parser::find_fixed(s, e, line) {
+        Found::At(k) => Tried::Done(made(kind, 0, 0, 0, k + parser::fixed_len(line))),
+        Found::Nothing => Tried::Next,
+    }
+}
+
+// Rule 5: CME, CMS, MODEM ERROR.
+fn numeric_errors(s: &[u8], e: usize) -> Tried
+    ensures { λ r. ⌜ r ≡ numericErrors (now (s .entry)) e ⌝ }
+{
+    if let Tried::Done(a) = numeric_from(s, e, Kind::Cme, Fixed::Cme) {
+        return Tried::Done(a);
+    }
+    if let Tried::Done(a) = numeric_from(s, e, Kind::Cms, Fixed::Cms) {
+        return Tried::Done(a);
+    }
+    numeric_from(s, e, Kind::Unknown, Fixed::Modem)
+}
+
+// Rule 5: ERROR, COMMAND NOT SUPPORT, NO CARRIER, BUSY, NO ANSWER, NO DIALTONE.
+fn line_errors(s: &[u8], e: usize) -> Tried
+    ensures { λ r. ⌜ r ≡ lineErrors (now (s .entry)) e ⌝ }
+{
+    if let Tried::Done(a) = line_from(s, e, Kind::Error, Fixed::Error) {
+        return Tried::Done(a);
+    }
+    if let Tried::Done(a) = line_from(s, e, Kind::Error, Fixed::CommandNotSupport) {
+        return Tried::Done(a);
+    }
+    if let Tried::Done(a) = line_from(s, e, Kind::NoCarrier, Fixed::NoCarrier) {
+        return Tried::Done(a);
+    }
+    if let Tried::Done(a) = line_from(s, e, Kind::Busy, Fixed::Busy) {
+        return Tried::Done(a);
+    }
+    if let Tried::Done(a) = line_from(s, e, Kind::NoAnswer, Fixed::NoAnswer) {
+        return Tried::Done(a);
+    }
+    line_from(s, e, Kind::NoDialtone, Fixed::NoDialtone)
+}
+
+// Rule 5: NA, at the head of buf only.
+fn not_allowed(s: &[u8], e: usize) -> Tried
+    ensures { λ r. ⌜ r ≡ headTried (stands (fixedText fixed.Na) (now (s .entry)) e) e ⌝ }
+{
+    if !parser::fixed_at(s, e, Fixed::Na) {
+        return Tried::Next;
+    }
+    Tried::Done(made(Kind::NotAllowed, 0, 0, 0, e + parser::fixed_len(Fixed::Na)))
+}
+
+// Rule 5, in its order.
+fn errors(table: &[u8], s: &[u8], e: usize) -> Tried
+    ensures { λ r. ⌜ r ≡ errors (entries mark.Error (now (table .entry)) 0 0) (now (s .entry)) e ⌝ }
+{
+    if let Tried::Done(a) = custom_error(table, s, e) {
+        return Tried::Done(a);
+    }
+    if let Tried::Done(a) = numeric_errors(s, e) {
+        return Tried::Done(a);
+    }
+    if let Tried::Done(a) = line_errors(s, e) {
+        return Tried::Done(a);
+    }
+    not_allowed(s, e)
+}
+
+// Rules 2 to 5: all of a level but the retry.
+fn try_once(table: &[u8], s: &[u8], e: usize) -> Tried
+    requires { ⌜ e ≤ length (now s) ⌝ }
+    ensures { λ r. ⌜ r ≡ tried (tokens (now (table .entry))) (now (s .entry)) e ⌝ }
+{
+    if let Tried::Done(a) = notices(table, s, e) {
+        return Tried::Done(a);
+    }
+    if let Tried::Done(a) = successes(table, s, e) {
+        return Tried::Done(a);
+    }
+    if let Tried::Done(a) = prompts(table, s, e) {
+        return Tried::Done(a);
+    }
+    errors(table, s, e)
+}
+
+// Rule 6: does the digester call itself?
+fn retries_at(s: &[u8], e: usize) -> bool
+    ensures { λ r. ⌜ r ≡ retries (now (s .entry)) e ⌝ }
+{
+    if !text::matches_at(s, e, &parser::CRLF) {
+        return false;
+    }
+    4 < s.len() - e
 }

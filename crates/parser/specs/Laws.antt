@@ -18,6 +18,8 @@ use Rattle.text.specs.Laws.{FoundAt, found-at, stands-fits, stands-append, stan
 use Rattle.text.specs.declared.Blanks.the-variants as blanks
 use Rattle.text.specs.declared.Found.{Found}
 use Rattle.text.specs.declared.Found.the-variants.{At, Nothing}
+use Rattle.parser.specs.declared.Fixed.{Fixed}
+use Rattle.parser.specs.declared.Fixed.the-variants.{Ok, Connect, Error, CommandNotSupport, NoCarrier, Busy, NoAnswer, NoDialtone, Na, Cme, Cms, Modem}
 use Rattle.parser.specs.declared.Run.{Run}
 use Rattle.parser.specs.declared.Run.the-variants.{Value, TooLarge}
 use Rattle.parser.specs.declared.Digits.{Digits}
@@ -25,7 +27,22 @@ use Rattle.parser.specs.declared.Numeric.{Numeric}
 use Rattle.parser.specs.declared.Numeric.the-variants as numeric
 use Rattle.parser.specs.declared.Notice.{Notice}
 use Rattle.parser.specs.declared.Notice.the-variants as notice
-use Rattle.parser.specs.Parser.{crlf, pick, lineEnding, isDigit, valueAfter, value, atMost, digitsAt, ifEnded, endedRun, tailAt, ifHead, numericAt, atFound, numericError, onlyBlanks, promptFrom, customPrompt, wrapped, breaksOff, through, ifColon, ifBare, unlessBroken, noticeText, afterEnding, noticeAt}
+use Rattle.parser.specs.Parser.{crlf, fixedText, pick, lineEnding, isDigit, valueAfter, value, atMost, digitsAt, ifEnded, endedRun, tailAt, ifHead, numericAt, atFound, numericError, onlyBlanks, promptFrom, customPrompt, wrapped, breaksOff, through, ifColon, ifBare, unlessBroken, noticeText, afterEnding, noticeAt}
+
+-- no fixed text is empty
+pub fixed-some : (x : Fixed) → 0 < length (fixedText x)
+fixed-some Ok = omega arith
+fixed-some Connect = omega arith
+fixed-some Error = omega arith
+fixed-some CommandNotSupport = omega arith
+fixed-some NoCarrier = omega arith
+fixed-some Busy = omega arith
+fixed-some NoAnswer = omega arith
+fixed-some NoDialtone = omega arith
+fixed-some Na = omega arith
+fixed-some Cme = omega arith
+fixed-some Cms = omega arith
+fixed-some Modem = omega arith
 
 -- `lineEnding`
 module _ (s : List ℕ) (p : ℕ) where
@@ -309,3 +326,33 @@ module _ (x s : List ℕ) (p n : ℕ) (q : n ≡ lineEnding s p) where
       go : (m : ℕ) → (m ≡ 0 → ⊥) → noticeText x s (p + m) ≡ afterEnding m x s p
       go zero y = absurd (y refl)
       go (suc m) y = unfold afterEnding in refl
+
+-- a notice lies in the input, from its place on
+ended-bounds : (x s : List ℕ) (k : ℕ) (b c : Bool) (r : Found) → stands (x ++ crlf) s k ≡ b → findIn crlf s (k + length x + 1) ≡ r → (end : ℕ) → ifBare b (k + length x + 2) (ifColon c (through r)) ≡ notice.Ended end → (k ≤ end) × (end ≤ length s)
+unfolding ifBare ifColon through
+ended-bounds x s k true c r e f end h =
+    let g = stands-fits (x ++ crlf) s k (omega (arith, length-append x crlf)) e in
+    let q : k + length x + 2 ≡ end = cc in
+    (omega arith, omega (arith, g, length-append x crlf))
+ended-bounds x s k false true (At q) e f end h =
+    let w = found-at crlf s (k + length x + 1) q f in
+    let g : q + 2 ≡ end = cc in
+    (omega (arith, w .after), omega (arith, stands-fits crlf s q (omega arith) (w .here)))
+ended-bounds x s k false true Nothing e f end h = let z : _≡_ {A = ℕ} 0 1 = cc in absurd (omega arith)
+ended-bounds x s k false false r e f end h = let z : _≡_ {A = ℕ} 0 1 = cc in absurd (omega arith)
+
+unbroken-bounds : (x s : List ℕ) (k : ℕ) (a : Bool) (end : ℕ) → unlessBroken a (ifBare (stands (x ++ crlf) s k) (k + length x + 2) (ifColon (stands (x ++ bytes ":") s k) (through (findIn crlf s (k + length x + 1))))) ≡ notice.Ended end → (k ≤ end) × (end ≤ length s)
+unfolding unlessBroken
+unbroken-bounds x s k true end h = let z : _≡_ {A = ℕ} 0 1 = cc in absurd (omega arith)
+unbroken-bounds x s k false end h = ended-bounds x s k (stands (x ++ crlf) s k) (stands (x ++ bytes ":") s k) (findIn crlf s (k + length x + 1)) refl refl end h
+
+opened-bounds : (n : ℕ) (x s : List ℕ) (p end : ℕ) → afterEnding n x s p ≡ notice.Ended end → (p ≤ end) × (end ≤ length s)
+unfolding afterEnding noticeText
+opened-bounds zero x s p end h = let z : _≡_ {A = ℕ} 0 1 = cc in absurd (omega arith)
+opened-bounds (suc n) x s p end h =
+    let w = unbroken-bounds x s (p + suc n) (breaksOff x s (p + suc n)) end h in
+    (omega (arith, w .0), w .1)
+
+pub notice-bounds : (x s : List ℕ) (p end : ℕ) → noticeAt x s p ≡ notice.Ended end → (p ≤ end) × (end ≤ length s)
+unfolding noticeAt
+notice-bounds x s p end h = opened-bounds (lineEnding s p) x s p end h

@@ -6,13 +6,14 @@ use mathlib.Core.List.{List, [], _∷_, _++_}
 use Prim.Native.Nat.{ℕ, zero, suc, _+_, _-_, _≤_, _<_}
 use native.Mathlib.Numerals.{add-one}
 use native.Mathlib.Omega.{arith}
-use lib.ListN.{length, getD, drop, drop-of-length-le, List·getD-eq-default}
-use lib.Seq.{drop-cons}
+use lib.ListN.{length, getD, drop, length-drop, drop-of-length-le}
+use lib.Seq.{drop-cons, length-take-le}
 use lib.Dec.{eqb, leb, ltb}
 use borrow.Author.Tests.{lt-ltb, le-ltb, le-leb, lt-leb, eq-eqb, ne-eqb, ltb-true, leb-true}
 use Rattle.text.specs.Bytes.{bytes}
 use Rattle.text.specs.Logic.{false-true, and-both}
 use Rattle.text.specs.Text.{stands}
+use Rattle.text.specs.Laws.{part-is}
 use Rattle.table.specs.Outcome.{Outcome, answered, refused}
 use Rattle.table.specs.declared.Mark.{Mark}
 use Rattle.table.specs.declared.Mark.the-variants.{Notice, Success, Error, Prompt}
@@ -23,7 +24,7 @@ use Rattle.table.specs.declared.Next.{Next}
 use Rattle.table.specs.declared.Next.the-variants as next
 use Rattle.table.specs.declared.Checked.{Checked}
 use Rattle.table.specs.declared.Checked.the-variants as checks
-use Rattle.table.specs.Table.{isPlain, allPlain, isText, orFaulty, textAt, promptAt, ifMark, marked, unlessEnd, recordAt, textOf, endOf, goodIf, goodAt, noMore, thenRule, rulingBy, ruling, outcome, thenRead, nthFrom, markNumber, sameMark, hereOrNext, thenNext, nextBy, nextOf, Token, tokenOf, thenTokens, tokensBy, tokens, Entry, entryOf, consIf, ofMark}
+use Rattle.table.specs.Table.{isPlain, allPlain, isText, orFaulty, textAt, promptAt, ifMark, marked, unlessEnd, recordAt, textOf, endOf, goodIf, goodAt, noMore, thenRule, rulingBy, ruling, outcome, thenRead, nthFrom, markNumber, sameMark, hereOrNext, thenNext, nextBy, nextOf, Token, tokenOf, thenTokens, tokensBy, tokens, Entry, entryOf, consIf, ofMark, entries}
 
 -- The check's promise determines its answer.
 pub outcome-one : (r q : Checked) → outcome r ≡ outcome q → r ≡ q
@@ -190,6 +191,11 @@ pub good-record-inside : (t : List ℕ) (at : ℕ) (q : Read) (r : Record) → q
 unfolding goodAt
 good-record-inside t at q r p e = rw (sym p ∙ e) at (good-inside t (recordAt t at) (read-inside t at))
 
+-- a record's text is as long as the record says
+pub text-length : (t : List ℕ) (r : Record) → r .place + r .len ≤ length t → length (textOf t r) ≡ r .len
+unfolding textOf
+text-length t r h = ap length (sym (part-is t (r .place) (r .len) h)) ∙ length-take-le (r .len) (drop (r .place) t) (rw length-drop (omega arith))
+
 -- the loop of `check`: n records are good, and the ruling is that on the rest
 pub record Counting (t : List ℕ) (at n : ℕ) : Type 0 where
   pub few : n ≤ 64
@@ -313,3 +319,63 @@ module _ (m : Mark) (t : List ℕ) (at n place k : ℕ) (w : nextOf m t at n ≡
       pub next-more : b ≡ false → nextOf m t at n ≡ nextOf m t (r .place + r .len) (k + 1)
       unfolding hereOrNext
       next-more z = rw z at at-record
+
+-- What `nextOf` says of the records with the mark: with none the list is empty; else the record found is its first, and the rest is what follows it.
+pub record NextIs (m : Mark) (t : List ℕ) (at n : ℕ) (r : Record) (k : ℕ) : Type 0 where
+  pub from : n ≤ k
+  pub few : k < 64
+  pub inside : r .place + r .len ≤ length t
+  pub is : entries m t at n ≡ entryOf (tokenOf t r) k ∷ entries m t (r .place + r .len) (k + 1)
+
+abbrev NextSays : Mark → List ℕ → ℕ → ℕ → Next → Type 0
+NextSays m t at n (next.Is r k) = NextIs m t at n r k
+NextSays m t at n next.Nothing = entries m t at n ≡ []
+
+module _ (m : Mark) (t : List ℕ) where
+  later : (at n : ℕ) (r : Record) (q : Next) → n < 64 → entries m t at n ≡ entries m t (r .place + r .len) (n + 1) → NextSays m t (r .place + r .len) (n + 1) q → NextSays m t at n q
+  later at n r (next.Is x k) h e w = record { from = omega (arith, w .from); few = w .few; inside = w .inside; is = e ∙ w .is }
+  later at n r next.Nothing h e w = e ∙ w
+
+  entries-at : (at n f : ℕ) → 64 - n ≡ suc f → (q : Read) → recordAt t at ≡ q → entries m t at n ≡ ofMark m n (thenTokens t q (λ p. tokensBy f t p))
+  unfolding entries tokensBy
+  entries-at at n f e q p = ap (λ (x : ℕ). ofMark m n (tokensBy x t at)) e ∙ ap (λ (y : Read). ofMark m n (thenTokens t y (λ p. tokensBy f t p))) p
+
+  entries-is : (at n f : ℕ) → 64 - n ≡ suc f → (r : Record) → recordAt t at ≡ Is r → entries m t at n ≡ consIf (sameMark (r .mark) m) (entryOf (tokenOf t r) n) (entries m t (r .place + r .len) (n + 1))
+  unfolding entries ofMark thenTokens endOf tokenOf
+  entries-is at n f e r p =
+      let g : f ≡ 64 - (n + 1) = omega arith in
+      entries-at at n f e (Is r) p ∙ ap (λ (x : ℕ). ofMark m n (tokenOf t r ∷ tokensBy x t (r .place + r .len))) g
+
+  module _ (at n f : ℕ) (e : 64 - n ≡ suc f) (ih : (p : ℕ) → NextSays m t p (n + 1) (nextBy f m t p (n + 1))) where
+    on-mark : (r : Record) → recordAt t at ≡ Is r → (b : Bool) → sameMark (r .mark) m ≡ b → NextSays m t at n (hereOrNext b r n (nextBy f m t (r .place + r .len) (n + 1)))
+    unfolding hereOrNext consIf
+    on-mark r p true v =
+        record {
+          from = omega arith;
+          few = omega arith;
+          inside = record-inside t at (recordAt t at) r refl p;
+          is = entries-is at n f e r p ∙ rw v;
+        }
+    on-mark r p false v =
+        later at n r (nextBy f m t (r .place + r .len) (n + 1)) (omega arith) (entries-is at n f e r p ∙ rw v) (ih (r .place + r .len))
+
+    on-read : (q : Read) → recordAt t at ≡ q → NextSays m t at n (thenNext m q n (λ p. nextBy f m t p (n + 1)))
+    unfolding thenNext endOf thenTokens ofMark
+    on-read (Is r) p = on-mark r p (sameMark (r .mark) m) refl
+    on-read Faulty p = entries-at at n f e Faulty p
+    on-read End p = entries-at at n f e End p
+
+  by-records : (f at n : ℕ) → 64 - n ≡ f → NextSays m t at n (nextBy f m t at n)
+  unfolding nextBy entries tokensBy ofMark
+  by-records zero at n e = ap (λ (x : ℕ). ofMark m n (tokensBy x t at)) e
+  by-records (suc f) at n e = on-read at n f e (λ p. by-records f p (n + 1) (omega arith)) (recordAt t at) refl
+
+  next-says : (at n : ℕ) → NextSays m t at n (nextOf m t at n)
+  unfolding nextOf
+  next-says at n = by-records (64 - n) at n refl
+
+  pub next-nothing : (at n : ℕ) (q : Next) → q ≡ nextOf m t at n → q ≡ next.Nothing → entries m t at n ≡ []
+  next-nothing at n q p e = rw (sym p ∙ e) at (next-says at n)
+
+  pub next-first : (at n : ℕ) (q : Next) → q ≡ nextOf m t at n → (r : Record) (k : ℕ) → q ≡ next.Is r k → NextIs m t at n r k
+  next-first at n q p r k e = rw (sym p ∙ e) at (next-says at n)

@@ -202,3 +202,8 @@ unfoldable pub ofMark : Mark → ℕ → List Token → List Entry
 unfolding consIf entryOf
 ofMark m n [] = []
 ofMark m n (x ∷ l) = consIf (sameMark (x .mark) m) (entryOf x n) (ofMark m (n + 1) l)
+
+-- the records with the mark m from `at` on, where record number n begins
+unfoldable pub entries : Mark → List ℕ → ℕ → ℕ → List Entry
+unfolding ofMark
+entries m t at n = ofMark m n (tokensBy (64 - n) t at)

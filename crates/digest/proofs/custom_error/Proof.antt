@@ -1,0 +1,68 @@
+-- `custom_error` meets its contract: where the line occurs it lies in the input. Assumes nothing.
+use Prim.Native.Nat.{_-_}
+use Rattle.table.specs.Table.{entries}
+use Rattle.digest.specs.Laws.{occurs-room, custom-error-is, custom-error-none}
+use borrow.Author.Needs.{needs}
+use native.Mathlib.Omega.{arith}
+use Rattle.digest.proofs.custom_error.Statement.{statement}
+use Rattle.table.specs.declared.Mark.the-variants as mark
+use Rattle.parser.specs.declared.Fixed.the-variants as fixed
+use Rattle.digest.specs.declared.Tried.the-variants as tries
+use Rattle.digest.proofs.custom_error.Tie as tie
+
+first-custom-requires : tie.Need-first-custom-requires
+first-custom-requires c κs = search needs
+
+enum-known-n : tie.Need-enum-known-n
+enum-known-n c = search needs
+
+add-made : tie.Need-add-made
+add-made c =
+    let args = c .before .before .before .before .before .before .args in
+    let first-custom = c .before .before .before .first-custom in
+    record { fits = omega (arith, occurs-room (entries mark.Error (args .table .now) 0 0) (args .s .now) (args .e) _ (first-custom .ensures) _ _ _ (c .before .n .given .1)) }
+
+add-made-2 : tie.Need-add-made-2
+add-made-2 c =
+    let args = c .before .before .before .before .before .before .args in
+    let first-custom = c .before .before .before .first-custom in
+    record { fits = omega (arith, occurs-room (entries mark.Error (args .table .now) 0 0) (args .s .now) (args .e) _ (first-custom .ensures) _ _ _ (c .before .n .given .1)) }
+
+add-made-3 : tie.Need-add-made-3
+add-made-3 c =
+    let args = c .before .before .before .before .before .before .args in
+    let first-custom = c .before .before .before .first-custom in
+    record { fits = omega (arith, occurs-room (entries mark.Error (args .table .now) 0 0) (args .s .now) (args .e) _ (first-custom .ensures) _ _ _ (c .before .n .given .1)) }
+
+made-requires : tie.Need-made-requires
+made-requires c κs = search needs
+
+enum-told : tie.Need-enum-told
+enum-told c = search needs
+
+returns : tie.Need-returns
+returns c =
+    let args = c .before .before .before .before .before .before .before .args in
+    let first-custom = c .before .before .before .before .first-custom in
+    let n = c .before .before .n in
+    custom-error-is (entries mark.Error (args .table .now) 0 0) (args .s .now) (args .e) _ (first-custom .ensures) _ _ _ (n .given .1) _ (c .made .ensures)
+
+returns-2 : tie.Need-returns-2
+returns-2 c =
+    let args = c .before .before .before .before .before .args in
+    let first-custom = c .before .before .first-custom in
+    custom-error-none (entries mark.Error (args .table .now) 0 0) (args .s .now) (args .e) _ (first-custom .ensures) (c .enum-told .given .1)
+
+pub custom-error-spec : {M : Type 1} → statement M
+custom-error-spec =
+    tie.close
+    (tie.spec
+    first-custom-requires
+    enum-known-n
+    add-made
+    add-made-2
+    add-made-3
+    made-requires
+    enum-told
+    returns
+    returns-2)

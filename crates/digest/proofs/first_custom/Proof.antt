@@ -1,0 +1,123 @@
+-- `first_custom` meets its contract: the first of all the records is the first of those from `at` on. The measure is the records that may still come. Assumes nothing.
+use mathlib.Core.Path.{_≡_, refl}
+use Prim.Native.Nat.{_-_}
+use Rattle.table.specs.Table.{entries}
+use Rattle.digest.specs.Digest.{firstCustom}
+use Rattle.digest.specs.Laws.{next-room, custom-end, custom-hit, custom-more}
+use borrow.Author.Needs.{needs}
+use native.Mathlib.Omega.{arith}
+use Rattle.digest.proofs.first_custom.Statement.{statement}
+use Rattle.table.specs.declared.Mark.the-variants as mark
+use Rattle.parser.specs.declared.Fixed.the-variants as fixed
+use Rattle.digest.proofs.first_custom.Tie as tie
+
+abbrev Inv-loop : tie.InvT-loop
+Inv-loop table mark s e at₀ n₀ at n = firstCustom (entries mark table 0 0) s e ≡ firstCustom (entries mark table at n) s e
+
+abbrev μ-loop : tie.MeasureT-loop
+μ-loop table mark s e at₀ n₀ at n = 64 - n
+
+loop-holds : tie.Need-loop-holds Inv-loop μ-loop
+loop-holds c = refl
+
+next-of-requires : tie.Need-next-of-requires Inv-loop μ-loop
+next-of-requires c κs = search needs
+
+enum-told : tie.Need-enum-told Inv-loop μ-loop
+enum-told c = search needs
+
+returns : tie.Need-returns Inv-loop μ-loop
+returns c =
+    let args = c .before .before .before .before .before .before .args in
+    let loop = c .before .before .before .loop in
+    let next-of = c .before .before .next-of in
+    custom-end _ (args .table .now) (args .s .now) (args .e) (loop .at) (loop .n) (loop .inv) _ (next-of .ensures) (c .enum-told .given .1)
+
+enum-known-r : tie.Need-enum-known-r Inv-loop μ-loop
+enum-known-r c = search needs
+
+text-of-requires : tie.Need-text-of-requires Inv-loop μ-loop
+text-of-requires c κs = search needs
+
+find-custom-requires : tie.Need-find-custom-requires Inv-loop μ-loop
+find-custom-requires c κs = search needs
+
+enum-known-place : tie.Need-enum-known-place Inv-loop μ-loop
+enum-known-place c = search needs
+
+cast-t13 : tie.Need-cast-t13 Inv-loop μ-loop
+cast-t13 c =
+    let args = c .before .before .before .before .before .before .before .before .before .before .before .before .args in
+    let loop = c .before .before .before .before .before .before .before .before .before .loop in
+    let next-of = c .before .before .before .before .before .before .before .before .next-of in
+    let r = c .before .before .before .before .before .before .r in
+    record { fits = omega (arith, next-room (args .mark) (args .table .now) (loop .at) (loop .n) _ (next-of .ensures) _ _ (r .given .1)) }
+
+returns-2 : tie.Need-returns-2 Inv-loop μ-loop
+returns-2 c =
+    let args = c .before .before .before .before .before .before .before .before .before .before .before .before .args in
+    let loop = c .before .before .before .before .before .before .before .before .before .loop in
+    let next-of = c .before .before .before .before .before .before .before .before .next-of in
+    let r = c .before .before .before .before .before .before .r in
+    let text-of = c .before .before .before .before .text-of in
+    let find-custom = c .before .before .before .find-custom in
+    custom-hit _ (args .table .now) (args .s .now) (args .e) (loop .at) (loop .n) (loop .inv) _ (next-of .ensures) _ _ (r .given .1) _ (text-of .ensures) _ (find-custom .ensures) _ (c .before .place .given .1)
+
+enum-told-2 : tie.Need-enum-told-2 Inv-loop μ-loop
+enum-told-2 c = search needs
+
+add-at : tie.Need-add-at Inv-loop μ-loop
+add-at c =
+    let args = c .before .before .before .before .before .before .before .before .before .before .before .before .args in
+    let loop = c .before .before .before .before .before .before .before .before .before .loop in
+    let next-of = c .before .before .before .before .before .before .before .before .next-of in
+    let r = c .before .before .before .before .before .before .r in
+    record { fits = omega (arith, next-room (args .mark) (args .table .now) (loop .at) (loop .n) _ (next-of .ensures) _ _ (r .given .1)) }
+
+add-n : tie.Need-add-n Inv-loop μ-loop
+add-n c =
+    let args = c .before .before .before .before .before .before .before .before .before .before .before .before .args in
+    let loop = c .before .before .before .before .before .before .before .before .before .loop in
+    let next-of = c .before .before .before .before .before .before .before .before .next-of in
+    let r = c .before .before .before .before .before .before .r in
+    record { fits = omega (arith, next-room (args .mark) (args .table .now) (loop .at) (loop .n) _ (next-of .ensures) _ _ (r .given .1)) }
+
+loop-less : tie.Need-loop-less Inv-loop μ-loop
+loop-less c =
+    let args = c .before .before .before .before .before .before .before .before .before .before .before .before .args in
+    let loop = c .before .before .before .before .before .before .before .before .before .loop in
+    let next-of = c .before .before .before .before .before .before .before .before .next-of in
+    let r = c .before .before .before .before .before .before .r in
+    omega (arith, next-room (args .mark) (args .table .now) (loop .at) (loop .n) _ (next-of .ensures) _ _ (r .given .1))
+
+loop-again : tie.Need-loop-again Inv-loop μ-loop
+loop-again c =
+    let args = c .before .before .before .before .before .before .before .before .before .before .before .before .args in
+    let loop = c .before .before .before .before .before .before .before .before .before .loop in
+    let next-of = c .before .before .before .before .before .before .before .before .next-of in
+    let r = c .before .before .before .before .before .before .r in
+    let text-of = c .before .before .before .before .text-of in
+    let find-custom = c .before .before .before .find-custom in
+    custom-more _ (args .table .now) (args .s .now) (args .e) (loop .at) (loop .n) (loop .inv) _ (next-of .ensures) _ _ (r .given .1) _ (text-of .ensures) _ (find-custom .ensures) (c .before .enum-told2 .given .1)
+
+pub first-custom-spec : {M : Type 1} → statement M
+first-custom-spec =
+    tie.close
+    (tie.spec
+    Inv-loop
+    μ-loop
+    loop-holds
+    next-of-requires
+    enum-told
+    returns
+    enum-known-r
+    text-of-requires
+    find-custom-requires
+    enum-known-place
+    cast-t13
+    returns-2
+    enum-told-2
+    add-at
+    add-n
+    loop-less
+    loop-again)

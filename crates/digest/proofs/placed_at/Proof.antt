@@ -1,0 +1,16 @@
+-- `placed_at` meets its contract. Assumes nothing.
+use Prim.Native.Nat.{_-_}
+use Rattle.digest.specs.Laws.{placed-none, placed-some}
+use Rattle.digest.proofs.placed_at.Statement.{statement}
+use Rattle.table.specs.declared.Mark.the-variants as mark
+use Rattle.parser.specs.declared.Fixed.the-variants as fixed
+use Rattle.digest.proofs.placed_at.Tie as tie
+
+returns : tie.Need-returns
+returns c = placed-none _ _ (c .if1 .taken)
+
+returns-2 : tie.Need-returns-2
+returns-2 c = placed-some _ _ (c .if1 .left)
+
+pub placed-at-spec : {M : Type 1} → statement M
+placed-at-spec = tie.close (tie.spec returns returns-2)

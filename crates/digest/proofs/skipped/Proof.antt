@@ -1,0 +1,47 @@
+-- `skipped` meets its contract. Assumes nothing.
+use Prim.Native.Nat.{_-_}
+use Rattle.digest.specs.Laws.{skipped-at, skipped-none}
+use borrow.Author.Needs.{needs}
+use Rattle.digest.proofs.skipped.Statement.{statement}
+use Rattle.table.specs.declared.Mark.the-variants as mark
+use Rattle.parser.specs.declared.Fixed.the-variants as fixed
+use Rattle.digest.proofs.skipped.Tie as tie
+
+skip-requires : tie.Need-skip-requires
+skip-requires c κs = search needs
+
+slice-aggregate-find : tie.Need-slice-aggregate-find
+slice-aggregate-find c = search needs
+
+find-requires : tie.Need-find-requires
+find-requires c κs = search needs
+
+enum-known-k : tie.Need-enum-known-k
+enum-known-k c = search needs
+
+enum-told : tie.Need-enum-told
+enum-told c = search needs
+
+returns : tie.Need-returns
+returns c =
+    let skip = c .before .before .before .before .before .skip in
+    let find = c .before .before .before .find in
+    skipped-at _ _ (skip .ensures) _ (find .ensures) _ (c .before .k .given .1)
+
+returns-2 : tie.Need-returns-2
+returns-2 c =
+    let skip = c .before .before .before .before .skip in
+    let find = c .before .before .find in
+    skipped-none _ _ (skip .ensures) _ (find .ensures) (c .enum-told .given .1)
+
+pub skipped-spec : {M : Type 1} → statement M
+skipped-spec =
+    tie.close
+    (tie.spec
+    skip-requires
+    slice-aggregate-find
+    find-requires
+    enum-known-k
+    enum-told
+    returns
+    returns-2)

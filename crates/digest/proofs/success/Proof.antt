@@ -1,0 +1,20 @@
+-- `success` meets its contract. Assumes nothing.
+use mathlib.Core.Path.{ap}
+use Prim.Native.Nat.{_-_}
+use Rattle.digest.specs.Digest.{success}
+use borrow.Author.Needs.{needs}
+use Rattle.digest.proofs.success.Statement.{statement}
+use Rattle.table.specs.declared.Mark.the-variants as mark
+use Rattle.parser.specs.declared.Fixed.the-variants as fixed
+use Rattle.digest.specs.declared.Tried.the-variants as tries
+use Rattle.digest.proofs.success.Tie as tie
+
+trimmed-answer-requires : tie.Need-trimmed-answer-requires
+trimmed-answer-requires c κs = search needs
+
+returns : tie.Need-returns
+unfolding success
+returns c = ap tries.Done (c .trimmed-answer .ensures)
+
+pub success-spec : {M : Type 1} → statement M
+success-spec = tie.close (tie.spec trimmed-answer-requires returns)
