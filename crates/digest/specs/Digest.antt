@@ -197,7 +197,7 @@ unfolding again retries
 after s f e (Done a) = a
 after s f e Next = let r = f (drop (e + 2) s) in again (retries s e) e r
 
--- with fuel, of which the input's length is enough
+-- with fuel, of which one more than the input's length is enough
 unfoldable pub digestBy : ℕ → List Token → List ℕ → Answer
 unfolding after tried skipped
 digestBy zero ts s = nothing 0
@@ -206,7 +206,7 @@ digestBy (suc n) ts s = let e = skipped s in after s (digestBy n ts) e (tried ts
 -- rules 1 to 7, under a table's tokens
 unfoldable pub digest : List Token → List ℕ → Answer
 unfolding digestBy
-digest ts s = digestBy (length s) ts s
+digest ts s = digestBy (suc (length s)) ts s
 
 -- Refusal 1: the input is over 4,096 bytes. Refusal 2: the table breaks a rule; answers the first faulty record's number.
 unfoldable pub underTable : Outcome ℕ → List ℕ → List ℕ → Outcome Answer

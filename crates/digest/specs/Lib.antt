@@ -3,3 +3,4 @@ pub mod Digest
 pub mod Finished
 pub mod Examples
 pub mod Laws
+pub mod Step

@@ -434,3 +434,35 @@ fn retries_at(s: &[u8], e: usize) -> bool
     }
     4 < s.len() - e
 }
+
+// Rules 1 to 7 under a table as it lies. The retry recurses on the suffix after the leading CRLF; all else of a level is done in `try_once`.
+fn digest_in(table: &[u8], s: &[u8]) -> Answer
+    requires { ⌜ length (now s) ≤ 4096 ⌝ }
+    ensures { λ r. ⌜ r ≡ digest (tokens (now (table .entry))) (now (s .entry)) ⌝ }
+{
+    let e = skipped(s);
+    match try_once(table, s, e) {
+        Tried::Done(a) => a,
+        Tried::Next => {
+            if !retries_at(s, e) {
+                return nothing(e);
+            }
+            let from = e + 2;
+            let r = digest_in(table, &s[from..]);
+            if !is_found(r) {
+                return nothing(e);
+            }
+            shifted(r, from)
+        }
+    }
+}
+
+// The answer of a digest, or the refusal: 1 for an input over 4,096 bytes, 2 with the first faulty record's number.
+pub enum Digested {
+    Is(Answer),
+    TooLong,
+    BadTable(usize),
+}
+
+// The longest input that is digested.
+pub const LONGEST: usize = 4096;

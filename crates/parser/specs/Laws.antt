@@ -9,7 +9,7 @@ use native.Mathlib.Omega.{arith}
 use lib.ListN.{length, getD, take, drop, length-append, length-drop, drop-of-length-le}
 use lib.Seq.{drop-cons}
 use lib.Dec.{eqb, leb, ltb, eqb·suc-zero}
-use borrow.Author.Tests.{le-leb, lt-leb, leb-true, le-ltb, lt-ltb}
+use borrow.Author.Tests.{le-leb, lt-leb, leb-true, le-ltb, lt-ltb, ltb-true}
 use Rattle.text.specs.Bytes.{bytes}
 use Rattle.text.specs.Logic.{false-true, and-both, and-false}
 use Rattle.text.specs.Text.{isBlank, past, keep, begins, stands, findIn}
@@ -356,3 +356,34 @@ opened-bounds (suc n) x s p end h =
 pub notice-bounds : (x s : List ℕ) (p end : ℕ) → noticeAt x s p ≡ notice.Ended end → (p ≤ end) × (end ≤ length s)
 unfolding noticeAt
 notice-bounds x s p end h = opened-bounds (lineEnding s p) x s p end h
+
+-- a numeric error lies in the input
+ended-end : (s : List ℕ) (a v b : ℕ) (c : Bool) → (c ≡ true → 0 < lineEnding s b) → (d : Digits) → ifEnded c (record { code = v; start = a; stop = b; end = b + lineEnding s b }) ≡ numeric.Is d → d .end ≤ length s
+unfolding ifEnded
+ended-end s a v b true h d e =
+    let q : b + lineEnding s b ≡ d .end = ap endOf e in
+    omega (arith, ending-fits s b (h refl))
+  where
+    endOf : Numeric → ℕ
+    endOf (numeric.Is x) = x .end
+    endOf numeric.Nothing = 0
+ended-end s a v b false h d e = let z : _≡_ {A = ℕ} 0 1 = cc in absurd (omega arith)
+
+run-bounds : (s : List ℕ) (a : ℕ) (r : Run) (d : Digits) → endedRun s a r ≡ numeric.Is d → d .end ≤ length s
+unfolding endedRun
+run-bounds s a (Value v b) d e = ended-end s a v b (ltb a b && ltb 0 (lineEnding s b)) (λ h. ltb-true 0 (lineEnding s b) (and-both (ltb a b) (ltb 0 (lineEnding s b)) h .1)) d e
+run-bounds s a TooLarge d e = let z : _≡_ {A = ℕ} 0 1 = cc in absurd (omega arith)
+
+numeric-bounds : (h s : List ℕ) (p : ℕ) (b : Bool) (d : Digits) → ifHead b (tailAt s (p + length h)) ≡ numeric.Is d → d .end ≤ length s
+unfolding ifHead tailAt
+numeric-bounds h s p true d e = run-bounds s (past (isBlank blanks.Run) s (p + length h)) (digitsAt s (past (isBlank blanks.Run) s (p + length h))) d e
+numeric-bounds h s p false d e = let z : _≡_ {A = ℕ} 0 1 = cc in absurd (omega arith)
+
+found-bounds : (h s : List ℕ) (r : Found) (d : Digits) → atFound h s r ≡ numeric.Is d → d .end ≤ length s
+unfolding atFound numericAt
+found-bounds h s (At p) d e = numeric-bounds h s p (stands h s p) d e
+found-bounds h s Nothing d e = let z : _≡_ {A = ℕ} 0 1 = cc in absurd (omega arith)
+
+pub error-bounds : (h s : List ℕ) (e : ℕ) (d : Digits) → numericError h s e ≡ numeric.Is d → d .end ≤ length s
+unfolding numericError
+error-bounds h s e d q = found-bounds h s (findIn h s e) d q
