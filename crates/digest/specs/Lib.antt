@@ -4,3 +4,4 @@ pub mod Finished
 pub mod Examples
 pub mod Laws
 pub mod Step
+pub mod Position

@@ -5,15 +5,17 @@ use mathlib.Core.Bool.{Bool, true, false, _&&_, not}
 use mathlib.Core.List.{List, [], _∷_, _++_}
 use Prim.Native.Nat.{ℕ, zero, suc, _+_, _-_, _≤_, _<_}
 use native.Mathlib.Numerals.{add-one}
+use native.Mathlib.Nat.{not-suc-le-zero, le-of-suc-le-suc}
 use native.Mathlib.Omega.{arith}
 use lib.ListN.{length, getD, drop, length-drop, drop-of-length-le}
 use lib.Seq.{drop-cons, length-take-le}
 use lib.Dec.{eqb, leb, ltb}
-use borrow.Author.Tests.{lt-ltb, le-ltb, le-leb, lt-leb, eq-eqb, ne-eqb, ltb-true, leb-true}
+use borrow.Author.Tests.{lt-ltb, le-ltb, le-leb, lt-leb, eq-eqb, ne-eqb, ltb-true, leb-true, eqb-false, not-true}
 use Rattle.text.specs.Bytes.{bytes}
 use Rattle.text.specs.Logic.{false-true, and-both}
-use Rattle.text.specs.Text.{stands}
+use Rattle.text.specs.Text.{among, blanks, isBlank, stands}
 use Rattle.text.specs.Laws.{part-is}
+use Rattle.text.specs.declared.Blanks.the-variants.{Run}
 use Rattle.table.specs.Outcome.{Outcome, answered, refused}
 use Rattle.table.specs.declared.Mark.{Mark}
 use Rattle.table.specs.declared.Mark.the-variants.{Notice, Success, Error, Prompt}
@@ -67,6 +69,19 @@ module _ (t : List ℕ) where
         unfolding isText
         text-plain h = rw (le-leb 1 (length t) (omega arith), le-leb (length t) 32 b, ne-eqb (getD t 0 0) 32 c, ne-eqb (getD t (length t - 1) 0) 32 h)
 
+  -- what a good text is
+  pub text-says : isText t ≡ true → ((1 ≤ length t) × (length t ≤ 32)) × (((getD t 0 0 ≡ 32 → ⊥) × (getD t (length t - 1) 0 ≡ 32 → ⊥)) × (allPlain t ≡ true))
+  unfolding isText
+  text-says e =
+      let a = and-both (leb 1 (length t)) _ e in
+      let b = and-both (leb (length t) 32) _ (a .1) in
+      let c = and-both (not (eqb (getD t 0 0) 32)) _ (b .1) in
+      let d = and-both (not (eqb (getD t (length t - 1) 0) 32)) (allPlain t) (c .1) in
+      ((leb-true 1 (length t) (a .0), leb-true (length t) 32 (b .0)), ((eqb-false (getD t 0 0) 32 (not-true _ (c .0)), eqb-false (getD t (length t - 1) 0) 32 (not-true _ (d .0))), d .1))
+
+  pub text-some : isText t ≡ true → 1 ≤ length t
+  text-some e = text-says e .0 .0
+
   pub all-more : (i : ℕ) → i < length t → isPlain (getD t i 0) ≡ true → allPlain (drop i t) ≡ allPlain (drop (i + 1) t)
   unfolding allPlain
   all-more i h e = rw (add-one, drop-cons t i 0 h, e)
@@ -78,6 +93,27 @@ module _ (t : List ℕ) where
   pub all-end : (i : ℕ) → length t ≤ i → allPlain (drop i t) ≡ true
   unfolding allPlain
   all-end i h = rw (drop-of-length-le t h)
+
+-- each byte of a good text is one of 0x20 to 0x7E, and its last is no run blank
+plain-each : (t : List ℕ) → allPlain t ≡ true → (j : ℕ) → j < length t → isPlain (getD t j 0) ≡ true
+unfolding allPlain
+plain-each [] e j h = absurd (not-suc-le-zero h)
+plain-each (x ∷ t) e zero h = and-both (isPlain x) (allPlain t) e .0
+plain-each (x ∷ t) e (suc j) h = plain-each t (and-both (isPlain x) (allPlain t) e .1) j (le-of-suc-le-suc h)
+
+pub text-byte : (t : List ℕ) → isText t ≡ true → (j : ℕ) → j < length t → (0x20 ≤ getD t j 0) × (getD t j 0 ≤ 0x7E)
+unfolding isPlain
+text-byte t e j h =
+    let w = and-both (leb 0x20 (getD t j 0)) (leb (getD t j 0) 0x7E) (plain-each t (text-says t e .1 .1) j h) in
+    (leb-true 0x20 (getD t j 0) (w .0), leb-true (getD t j 0) 0x7E (w .1))
+
+pub text-end : (t : List ℕ) → isText t ≡ true → isBlank Run (getD t (length t - 1) 0) ≡ false
+unfolding isBlank among blanks
+text-end t e =
+    let b = getD t (length t - 1) 0 in
+    let l = text-some t e in
+    let w = text-byte t e (length t - 1) (omega arith) in
+    rw (ne-eqb b 32 (text-says t e .1 .0 .1), ne-eqb b 9 (λ q. omega arith), ne-eqb b 13 (λ q. omega arith), ne-eqb b 10 (λ q. omega arith))
 
 -- `textAt` and `promptAt`
 module _ (m : Mark) (p : ℕ) (t : List ℕ) (k : ℕ) where

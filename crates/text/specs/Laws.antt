@@ -5,11 +5,11 @@ use mathlib.Core.Logic.{_⊎_, ⊎-elim}
 use mathlib.Core.Bool.{Bool, true, false, _&&_}
 use mathlib.Core.List.{List, [], _∷_, _++_}
 use Prim.Native.Nat.{ℕ, zero, suc, _+_, _-_, _≤_, _<_}
-use native.Mathlib.Numerals.{add-one}
-use native.Mathlib.Nat.{not-suc-le-zero, le-of-suc-le-suc, eq-or-lt-of-le}
+use native.Mathlib.Numerals.{add-one, sub-one}
+use native.Mathlib.Nat.{add-zero, not-suc-le-zero, le-of-suc-le-suc, eq-or-lt-of-le}
 use native.Mathlib.Omega.{arith}
 use lib.ListN.{length, getD, take, drop, length-drop, drop-of-length-le}
-use lib.Seq.{take-all, drop-cons, length-take-le, drop-drop, drop-append-le}
+use lib.Seq.{take-all, drop-cons, length-take-le, drop-drop, drop-append-le, getD-drop}
 use lib.Dec.{eqb}
 use borrow.Author.Tests.{eq-eqb, ne-eqb, eqb-true, eqb-false, le-leb, lt-leb}
 use Rattle.text.specs.Logic.{false-true, not-true-false, and-both, and-assoc, order}
@@ -87,7 +87,7 @@ module _ (t s : List ℕ) where
   found-none i e = rw e at (find-says i)
 
 -- what stands, fits
-begins-fits : (t s : List ℕ) → begins t s ≡ true → length t ≤ length s
+pub begins-fits : (t s : List ℕ) → begins t s ≡ true → length t ≤ length s
 unfolding begins
 begins-fits [] s e = omega arith
 begins-fits (x ∷ t) [] e = absurd (false-true e refl)
@@ -113,6 +113,14 @@ stands-byte x t s i e =
     let q : eqb (getD s i 0) x && begins t (drop (suc i) s) ≡ true = rw (drop-cons s i 0 h) at e in
     let w = and-both (eqb (getD s i 0) x) (begins t (drop (suc i) s)) q in
     (h, (eqb-true (getD s i 0) x (w .0), rw add-one (w .1)))
+
+-- each byte of what stands
+pub stands-getD : (t s : List ℕ) (i j : ℕ) → stands t s i ≡ true → j < length t → getD s (i + j) 0 ≡ getD t j 0
+stands-getD [] s i j e h = absurd (not-suc-le-zero h)
+stands-getD (x ∷ t) s i zero e h = rw add-zero (stands-byte x t s i e .1 .0)
+stands-getD (x ∷ t) s i (suc j) e h =
+    let k : i + suc j ≡ i + 1 + j = omega arith in
+    ap (λ (n : ℕ). getD s n 0) k ∙ stands-getD t s (i + 1) j (stands-byte x t s i e .1 .1) (le-of-suc-le-suc h)
 
 -- two texts one after the other; a beginning of what stands, stands
 begins-append : (t u s : List ℕ) → begins (t ++ u) s ≡ begins t s && begins u (drop (length t) s)
@@ -216,6 +224,67 @@ pub past-bounds : (f : ℕ → Bool) (s : List ℕ) (i : ℕ) → (i ≤ past f 
 unfolding past
 past-bounds f s i = (omega arith, λ h. omega (arith, lead-le f (drop i s), length-drop i s))
 
+pub past-drop : (f : ℕ → Bool) (s : List ℕ) (d i : ℕ) → past f s (d + i) ≡ d + past f (drop d s) i
+unfolding past
+past-drop f s d i = rw (drop-drop i d s) (omega arith)
+
+lead-stop : (f : ℕ → Bool) (x : ℕ) (s : List ℕ) (b : Bool) → f x ≡ b → (lead f s < length s → f (getD s (lead f s) 0) ≡ false) → leadAfter b (lead f s) < suc (length s) → f (getD (x ∷ s) (leadAfter b (lead f s)) 0) ≡ false
+unfolding leadAfter
+lead-stop f x s true e g h = g (le-of-suc-le-suc h)
+lead-stop f x s false e g h = e
+
+lead-stops : (f : ℕ → Bool) (s : List ℕ) → lead f s < length s → f (getD s (lead f s) 0) ≡ false
+unfolding lead
+lead-stops f [] h = absurd (not-suc-le-zero h)
+lead-stops f (x ∷ s) h = lead-stop f x s (f x) refl (lead-stops f s) h
+
+module _ (f : ℕ → Bool) (s : List ℕ) (i : ℕ) where
+  pub past-passes : (j : ℕ) → i ≤ j → j < past f s i → f (getD s j 0) ≡ true
+  unfolding past
+  past-passes j h g =
+      let e : i + (j - i) ≡ j = omega arith in
+      ap (λ (n : ℕ). f (getD s n 0)) (sym e) ∙ ap f (sym (getD-drop i s (j - i) 0)) ∙ lead-passes f (drop i s) (j - i) (omega arith)
+
+  pub past-stops : past f s i < length s → f (getD s (past f s i) 0) ≡ false
+  unfolding past
+  past-stops h = ap f (sym (getD-drop i s (lead f (drop i s)) 0)) ∙ lead-stops f (drop i s) (rw length-drop (omega arith))
+
+  -- the one place that all before it pass and that doesn't pass itself
+  pub past-is : (k : ℕ) → i ≤ k → k ≤ length s → ((j : ℕ) → i ≤ j → j < k → f (getD s j 0) ≡ true) → (k < length s → f (getD s k 0) ≡ false) → past f s i ≡ k
+  past-is k h g a b =
+      let w = past-bounds f s i in
+      ⊎-elim
+      (λ (q : past f s i < k). absurd (false-true (a (past f s i) (w .0) q) (past-stops (omega arith))))
+      (λ (q : k ≤ past f s i). ⊎-elim (λ (e : k ≡ past f s i). sym e) (λ (e : k < past f s i). absurd (false-true (past-passes k h e) (b (omega (arith, w .1 (omega arith)))))) (eq-or-lt-of-le q))
+      (order (past f s i) k)
+
+keep-pass : (f : ℕ → Bool) (x : ℕ) (s : List ℕ) (b : Bool) → f x ≡ b → (n : ℕ) → ((q : ℕ) → n ≤ q → q < length s → f (getD s q 0) ≡ true) → (p : ℕ) → keepAfter b n ≤ p → p < suc (length s) → f (getD (x ∷ s) p 0) ≡ true
+unfolding keepAfter
+keep-pass f x s true e zero g zero h l = e
+keep-pass f x s true e zero g (suc p) h l = g p (omega arith) (le-of-suc-le-suc l)
+keep-pass f x s true e (suc n) g zero h l = absurd (omega arith)
+keep-pass f x s true e (suc n) g (suc p) h l = g p (omega arith) (le-of-suc-le-suc l)
+keep-pass f x s false e n g zero h l = absurd (omega arith)
+keep-pass f x s false e n g (suc p) h l = g p (omega arith) (le-of-suc-le-suc l)
+
+keep-stop-at : (f : ℕ → Bool) (x : ℕ) (s : List ℕ) (b : Bool) → f x ≡ b → (n : ℕ) → (0 < n → f (getD s (n - 1) 0) ≡ false) → 0 < keepAfter b n → f (getD (x ∷ s) (keepAfter b n - 1) 0) ≡ false
+unfolding keepAfter
+keep-stop-at f x s true e zero g h = absurd (omega arith)
+keep-stop-at f x s true e (suc n) g h = rw sub-one (rw sub-one at (g (omega arith)))
+keep-stop-at f x s false e zero g h = e
+keep-stop-at f x s false e (suc n) g h = rw sub-one (rw sub-one at (g (omega arith)))
+
+-- what is left off passes the test, and the last byte kept doesn't
+pub keep-passes : (f : ℕ → Bool) (s : List ℕ) (j : ℕ) → keep f s ≤ j → j < length s → f (getD s j 0) ≡ true
+unfolding keep
+keep-passes f [] j h g = absurd (not-suc-le-zero g)
+keep-passes f (x ∷ s) j h g = keep-pass f x s (f x) refl (keep f s) (keep-passes f s) j h g
+
+pub keep-stops : (f : ℕ → Bool) (s : List ℕ) → 0 < keep f s → f (getD s (keep f s - 1) 0) ≡ false
+unfolding keep
+keep-stops f [] h = absurd (not-suc-le-zero h)
+keep-stops f (x ∷ s) h = keep-stop-at f x s (f x) refl (keep f s) (keep-stops f s) h
+
 keepAfter-le : (b : Bool) (n m : ℕ) → n ≤ m → keepAfter b n ≤ suc m
 unfolding keepAfter
 keepAfter-le true zero m h = omega arith
@@ -226,6 +295,13 @@ pub keep-le : (f : ℕ → Bool) (s : List ℕ) → keep f s ≤ length s
 unfolding keep
 keep-le f [] = omega arith
 keep-le f (x ∷ s) = keepAfter-le (f x) (keep f s) (length s) (keep-le f s)
+
+pub keep-is : (f : ℕ → Bool) (s : List ℕ) (n : ℕ) → 0 < n → n ≤ length s → f (getD s (n - 1) 0) ≡ false → ((j : ℕ) → n ≤ j → j < length s → f (getD s j 0) ≡ true) → keep f s ≡ n
+keep-is f s n h g b a =
+    ⊎-elim
+    (λ (q : keep f s < n). absurd (false-true (keep-passes f s (n - 1) (omega arith) (omega arith)) b))
+    (λ (q : n ≤ keep f s). ⊎-elim (λ (e : n ≡ keep f s). sym e) (λ (e : n < keep f s). absurd (false-true (a (keep f s - 1) (omega arith) (omega (arith, keep-le f s))) (keep-stops f s (omega arith)))) (eq-or-lt-of-le q))
+    (order (keep f s) n)
 
 pub trimmed-fits : (f : ℕ → Bool) (s : List ℕ) → trimmed f s .start + trimmed f s .len ≤ length s
 unfolding trimmed
