@@ -5,3 +5,4 @@ pub mod Examples
 pub mod Laws
 pub mod Step
 pub mod Position
+pub mod Theorem

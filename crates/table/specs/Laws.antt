@@ -415,3 +415,55 @@ module _ (m : Mark) (t : List ℕ) where
 
   pub next-first : (at n : ℕ) (q : Next) → q ≡ nextOf m t at n → (r : Record) (k : ℕ) → q ≡ next.Is r k → NextIs m t at n r k
   next-first at n q p r k e = rw (sym p ∙ e) at (next-says at n)
+
+-- every text of the tokens, and so of those with a mark, keeps the rules
+abbrev pub Texts : List Token → Type 0
+Texts [] = Unit {0}
+Texts (x ∷ l) = (isText (x .text) ≡ true) × Texts l
+
+abbrev pub EntryTexts : List Entry → Type 0
+EntryTexts [] = Unit {0}
+EntryTexts (x ∷ l) = (isText (x .text) ≡ true) × EntryTexts l
+
+cons-texts : (b : Bool) (x : Entry) (l : List Entry) → isText (x .text) ≡ true → EntryTexts l → EntryTexts (consIf b x l)
+unfolding consIf
+cons-texts true x l h g = (h, g)
+cons-texts false x l h g = g
+
+pub mark-texts : (m : Mark) (n : ℕ) (l : List Token) → Texts l → EntryTexts (ofMark m n l)
+unfolding ofMark entryOf
+mark-texts m n [] w = tt
+mark-texts m n (x ∷ l) w = cons-texts (sameMark (x .mark) m) (entryOf x n) (ofMark m (n + 1) l) (w .0) (mark-texts m (n + 1) l (w .1))
+
+-- A good table's tokens: as many as the check answers, each with a good text.
+pub record GoodTokens (l : List Token) (n m : ℕ) : Type 0 where
+  pub count : n + length l ≡ m
+  pub texts : Texts l
+
+module _ (t : List ℕ) (n m f : ℕ) (ih : (p : ℕ) → rulingBy f t p (n + 1) ≡ answered m → GoodTokens (tokensBy f t p) (n + 1) m) where
+  good-is : (r : Record) (b : Bool) → isText (textOf t r) ≡ b → thenRule (orFaulty b (Is r)) n (λ p. rulingBy f t p (n + 1)) ≡ answered m → GoodTokens (tokenOf t r ∷ tokensBy f t (endOf r)) n m
+  unfolding orFaulty thenRule tokenOf
+  good-is r true e h =
+      let w = ih (endOf r) h in
+      record { count = omega (arith, w .count); texts = (e, w .texts) }
+  good-is r false e h = let z : _≡_ {A = ℕ} 0 1 = cc in absurd (omega arith)
+
+  good-read : (q : Read) → thenRule (goodIf t q) n (λ p. rulingBy f t p (n + 1)) ≡ answered m → GoodTokens (thenTokens t q (λ p. tokensBy f t p)) n m
+  unfolding goodIf thenTokens thenRule
+  good-read (Is r) h = good-is r (isText (textOf t r)) refl h
+  good-read Faulty h = let z : _≡_ {A = ℕ} 0 1 = cc in absurd (omega arith)
+  good-read End h = let e : n ≡ m = cc in record { count = omega arith; texts = tt }
+
+good-last : (b : Bool) (n m : ℕ) → noMore b n ≡ answered m → GoodTokens [] n m
+unfolding noMore
+good-last true n m h = let e : n ≡ m = cc in record { count = omega arith; texts = tt }
+good-last false n m h = let z : _≡_ {A = ℕ} 0 1 = cc in absurd (omega arith)
+
+good-by : (f : ℕ) (t : List ℕ) (at n m : ℕ) → rulingBy f t at n ≡ answered m → GoodTokens (tokensBy f t at) n m
+unfolding rulingBy tokensBy goodAt
+good-by zero t at n m h = good-last (leb (length t) at) n m h
+good-by (suc f) t at n m h = good-read t n m f (λ p g. good-by f t p (n + 1) m g) (recordAt t at) h
+
+pub good-tokens : (t : List ℕ) (m : ℕ) → ruling t ≡ answered m → GoodTokens (tokens t) 0 m
+unfolding ruling tokens
+good-tokens t m h = good-by 64 t 0 0 m h
