@@ -23,7 +23,7 @@ use Rattle.text.specs.declared.Found.the-variants.{At, Nothing}
 use Rattle.table.specs.Table.{isText, Token, Entry, ofMark}
 use Rattle.table.specs.Laws.{Texts, EntryTexts, mark-texts, text-some, text-byte}
 use Rattle.table.specs.declared.Mark.the-variants as mark
-use Rattle.parser.specs.Parser.{crlf, fixedText, pick, lineEnding, atFound, numericAt, numericError, promptFrom, customPrompt, wrapped, breaksOff, noticeAt}
+use Rattle.parser.specs.Parser.{crlf, fixedText, value, pick, lineEnding, atFound, numericAt, numericError, promptFrom, customPrompt, wrapped, breaksOff, noticeAt}
 use Rattle.parser.specs.Laws.{ending-fits}
 use Rattle.parser.specs.declared.Fixed.{Fixed}
 use Rattle.parser.specs.declared.Fixed.the-variants as fixed
@@ -492,3 +492,351 @@ module _ (ts : List Token) (good : Texts ts) (s : List ℕ) (e : ℕ) where
         (either (successes (ofMark mark.Success 0 ts) s e) (orElse (prompts (ofMark mark.Prompt 0 ts) s e) (errors (ofMark mark.Error 0 ts) s e)) a (successes-sound a)
         (either (prompts (ofMark mark.Prompt 0 ts) s e) (errors (ofMark mark.Error 0 ts) s e) a (prompts-sound i (q .0) a) (errors-sound a)) (q .1)))
       (done-one n (orElse (successes (ofMark mark.Success 0 ts) s e) (orElse (prompts (ofMark mark.Prompt 0 ts) s e) (errors (ofMark mark.Error 0 ts) s e))) a h)
+
+  -- where no rule answers, no item stands where buf begins
+  no-notice : (n : ℕ) (l : List Entry) → notices l s e ≡ tries.Next → Some (λ x. NoticeEnded (x .text) (drop e s) n) l → ⊥
+  unfolding notices
+  no-notice n [] h g = g
+  no-notice n (x ∷ l) h (inl w) =
+      let b = next-both (heard (noticeAt (x .text) s e) (x .number) s e) (notices l s e) h .0 in
+      done-next (trimmedAnswer kind.Notice (x .number) s e (e + n) (e + n)) (ap (λ (r : Notice). heard r (x .number) s e) (notice-front (x .text) n w) ∙ (unfold heard in refl)) b
+  no-notice n (x ∷ l) h (inr w) = no-notice n l (next-both (heard (noticeAt (x .text) s e) (x .number) s e) (notices l s e) h .1) w
+
+  no-text : (t : List ℕ) → findIn t s e ≡ Nothing → stands t (drop e s) 0 ≡ true → ⊥
+  no-text t h g = false-true (stands-here t s e ∙ g) (found-none t s e h e (omega arith))
+
+  no-success-line : (l : Fixed) → lineSuccess l (findIn (fixedText l) s e) s e ≡ tries.Next → stands (fixedText l) (drop e s) 0 ≡ true → ⊥
+  no-success-line l h g = go (findIn (fixedText l) s e) refl h
+    where
+      go : (r : Found) → findIn (fixedText l) s e ≡ r → lineSuccess l r s e ≡ tries.Next → ⊥
+      go (At k) q i =
+          let a = trimmedAnswer kind.Ok 0 s e k (k + length (fixedText l)) in
+          let z : lineSuccess l (At k) s e ≡ tries.Done a = unfold lineSuccess success in refl in
+          done-next a z i
+      go Nothing q i = no-text (fixedText l) q g
+
+  no-line : (c : Kind) (l : Fixed) → lineFrom c l s e ≡ tries.Next → stands (fixedText l) (drop e s) 0 ≡ true → ⊥
+  unfolding lineFrom
+  no-line c l h g = go (findIn (fixedText l) s e) refl h
+    where
+      go : (r : Found) → findIn (fixedText l) s e ≡ r → lineTried c l r ≡ tries.Next → ⊥
+      go (At k) q i =
+          let a = answer c 0 0 0 (k + length (fixedText l)) in
+          let z : lineTried c l (At k) ≡ tries.Done a = unfold lineTried in refl in
+          done-next a z i
+      go Nothing q i = no-text (fixedText l) q g
+
+  no-head : headTried (stands (fixedText fixed.Na) s e) e ≡ tries.Next → stands (fixedText fixed.Na) (drop e s) 0 ≡ true → ⊥
+  unfolding headTried
+  no-head h g = done-next (answer kind.NotAllowed 0 0 0 (e + 6)) (ap (λ (b : Bool). headTried b e) (stands-here (fixedText fixed.Na) s e ∙ g)) h
+
+  occurs-none : (f : Found) (x : Entry) (r : Occurs) → occursOr f x r ≡ occurs.Nothing → (f ≡ Nothing) × (r ≡ occurs.Nothing)
+  unfolding occursOr
+  occurs-none (At k) x r h = let z : _≡_ {A = ℕ} 0 1 = cc in absurd (omega arith)
+  occurs-none Nothing x r h = (refl, h)
+
+  no-custom : (l : List Entry) → firstCustom l s e ≡ occurs.Nothing → Some (λ x. stands (wrapped (x .text)) (drop e s) 0 ≡ true) l → ⊥
+  unfolding firstCustom
+  no-custom [] h g = g
+  no-custom (x ∷ l) h (inl w) = no-text (wrapped (x .text)) (occurs-none (findIn (wrapped (x .text)) s e) x (firstCustom l s e) h .0) w
+  no-custom (x ∷ l) h (inr w) = no-custom l (occurs-none (findIn (wrapped (x .text)) s e) x (firstCustom l s e) h .1) w
+
+  success-none : (r : Occurs) → customSuccess r s e ≡ tries.Next → r ≡ occurs.Nothing
+  unfolding customSuccess success
+  success-none (occurs.At n len k) h = absurd (done-next (trimmedAnswer kind.Ok 0 s e k (k + (len + 4))) refl h)
+  success-none occurs.Nothing h = refl
+
+  error-none : (r : Occurs) → customError r ≡ tries.Next → r ≡ occurs.Nothing
+  unfolding customError
+  error-none (occurs.At n len k) h = absurd (done-next (answer kind.Custom n (k + 2) len (k + (len + 4))) refl h)
+  error-none occurs.Nothing h = refl
+
+  no-numeric : (c : Kind) (h : Fixed) (n : ℕ) → numericFrom c h s e ≡ tries.Next → NumericEnded (fixedText h) (drop e s) n → ⊥
+  unfolding numericFrom numericError
+  no-numeric c h n g w =
+      let q : findIn (fixedText h) s e ≡ At e = find-here (fixedText h) s e (stands-here (fixedText h) s e ∙ w .head) in
+      let d : Digits = record { code = value 0 (drop (w .a) (drop e s)); start = e + w .a; stop = e + w .b; end = e + n } in
+      let r : numericAt (fixedText h) s e ≡ numeric.Is d = numeric-moved (fixedText h) s e ∙ ap (shiftNumeric e) (numeric-is (fixedText h) (drop e s) n w) ∙ (unfold shiftNumeric in refl) in
+      let i : numericTried c (atFound (fixedText h) s (findIn (fixedText h) s e)) ≡ tries.Done (answer c (d .code) 0 0 (d .end)) = ap (λ (f : Found). numericTried c (atFound (fixedText h) s f)) q ∙ (unfold atFound in ap (numericTried c) r) ∙ (unfold numericTried in refl) in
+      done-next (answer c (d .code) 0 0 (d .end)) i g
+
+  no-prompt : (b : Bool) (c : ℕ) → promptTried b c s ≡ tries.Next → b ≡ true → ⊥
+  unfolding promptTried
+  no-prompt true c h g = done-next (answer kind.Prompt c 0 0 (length s)) refl h
+  no-prompt false c h g = false-true g refl
+
+  no-customs : (l : List Entry) → EntryTexts l → customPrompts l s e ≡ tries.Next → Some (λ x. EndsIn (x .text) (drop e s)) l → ⊥
+  unfolding customPrompts
+  no-customs [] w h g = g
+  no-customs (x ∷ l) w h (inl v) =
+      let b = next-both (promptTried (customPrompt (x .text) s e) (x .prompt) s) (customPrompts l s e) h in
+      no-prompt (customPrompt (x .text) s e) (x .prompt) (b .0) (custom-moved (x .text) s e ∙ ends-is (x .text) (drop e s) (w .0) v)
+  no-customs (x ∷ l) w h (inr v) = no-customs l (w .1) (next-both (promptTried (customPrompt (x .text) s e) (x .prompt) s) (customPrompts l s e) h .1) v
+
+  -- each rule that didn't answer, from the chain that didn't
+  record Silent : Type 0 where
+    heardNone : notices (ofMark mark.Notice 0 ts) s e ≡ tries.Next
+    customOk : firstCustom (ofMark mark.Success 0 ts) s e ≡ occurs.Nothing
+    ok : lineSuccess fixed.Ok (findIn (fixedText fixed.Ok) s e) s e ≡ tries.Next
+    connect : lineSuccess fixed.Connect (findIn (fixedText fixed.Connect) s e) s e ≡ tries.Next
+    customs : customPrompts (ofMark mark.Prompt 0 ts) s e ≡ tries.Next
+    greater : promptTried (promptFrom 62 s e) 62 s ≡ tries.Next
+    atSign : promptTried (promptFrom 64 s e) 64 s ≡ tries.Next
+    customBad : firstCustom (ofMark mark.Error 0 ts) s e ≡ occurs.Nothing
+    cme : numericFrom kind.Cme fixed.Cme s e ≡ tries.Next
+    cms : numericFrom kind.Cms fixed.Cms s e ≡ tries.Next
+    modem : numericFrom kind.Unknown fixed.Modem s e ≡ tries.Next
+    error : lineFrom kind.Error fixed.Error s e ≡ tries.Next
+    command : lineFrom kind.Error fixed.CommandNotSupport s e ≡ tries.Next
+    carrier : lineFrom kind.NoCarrier fixed.NoCarrier s e ≡ tries.Next
+    busy : lineFrom kind.Busy fixed.Busy s e ≡ tries.Next
+    noAnswer : lineFrom kind.NoAnswer fixed.NoAnswer s e ≡ tries.Next
+    dialtone : lineFrom kind.NoDialtone fixed.NoDialtone s e ≡ tries.Next
+    na : headTried (stands (fixedText fixed.Na) s e) e ≡ tries.Next
+
+  silent : tried ts s e ≡ tries.Next → Silent
+  unfolding tried successes prompts errors numericErrors lineErrors
+  silent h =
+      let a = next-both (notices (ofMark mark.Notice 0 ts) s e) _ h in
+      let b = next-both (successes (ofMark mark.Success 0 ts) s e) _ (a .1) in
+      let c = next-both (prompts (ofMark mark.Prompt 0 ts) s e) (errors (ofMark mark.Error 0 ts) s e) (b .1) in
+      let d = next-both (customSuccess (firstCustom (ofMark mark.Success 0 ts) s e) s e) _ (b .0) in
+      let f = next-both (lineSuccess fixed.Ok (findIn (fixedText fixed.Ok) s e) s e) _ (d .1) in
+      let g = next-both (customPrompts (ofMark mark.Prompt 0 ts) s e) _ (c .0) in
+      let i = next-both (promptTried (promptFrom 62 s e) 62 s) _ (g .1) in
+      let j = next-both (customError (firstCustom (ofMark mark.Error 0 ts) s e)) _ (c .1) in
+      let k = next-both (numericErrors s e) _ (j .1) in
+      let l = next-both (numericFrom kind.Cme fixed.Cme s e) _ (k .0) in
+      let m = next-both (numericFrom kind.Cms fixed.Cms s e) _ (l .1) in
+      let n = next-both (lineErrors s e) _ (k .1) in
+      let o = next-both (lineFrom kind.Error fixed.Error s e) _ (n .0) in
+      let p = next-both (lineFrom kind.Error fixed.CommandNotSupport s e) _ (o .1) in
+      let q = next-both (lineFrom kind.NoCarrier fixed.NoCarrier s e) _ (p .1) in
+      let r = next-both (lineFrom kind.Busy fixed.Busy s e) _ (q .1) in
+      let t = next-both (lineFrom kind.NoAnswer fixed.NoAnswer s e) _ (r .1) in
+      record {
+        heardNone = a .0;
+        customOk = success-none (firstCustom (ofMark mark.Success 0 ts) s e) (d .0);
+        ok = f .0;
+        connect = f .1;
+        customs = g .0;
+        greater = i .0;
+        atSign = i .1;
+        customBad = error-none (firstCustom (ofMark mark.Error 0 ts) s e) (j .0);
+        cme = l .0;
+        cms = m .0;
+        modem = m .1;
+        error = o .0;
+        command = p .0;
+        carrier = q .0;
+        busy = r .0;
+        noAnswer = t .0;
+        dialtone = t .1;
+        na = n .1;
+      }
+
+  module _ (w : Silent) (inside : e ≤ length s) where
+    no-fixed : (n : ℕ) → Some (λ l. Line (fixedText l) (drop e s) n) nine → ⊥
+    no-fixed n (inl h) = no-success-line fixed.Ok (w .ok) (h .0)
+    no-fixed n (inr (inl h)) = no-success-line fixed.Connect (w .connect) (h .0)
+    no-fixed n (inr (inr (inl h))) = no-line kind.Error fixed.Error (w .error) (h .0)
+    no-fixed n (inr (inr (inr (inl h)))) = no-line kind.Error fixed.CommandNotSupport (w .command) (h .0)
+    no-fixed n (inr (inr (inr (inr (inl h))))) = no-line kind.NoCarrier fixed.NoCarrier (w .carrier) (h .0)
+    no-fixed n (inr (inr (inr (inr (inr (inl h)))))) = no-line kind.Busy fixed.Busy (w .busy) (h .0)
+    no-fixed n (inr (inr (inr (inr (inr (inr (inl h))))))) = no-line kind.NoAnswer fixed.NoAnswer (w .noAnswer) (h .0)
+    no-fixed n (inr (inr (inr (inr (inr (inr (inr (inl h)))))))) = no-line kind.NoDialtone fixed.NoDialtone (w .dialtone) (h .0)
+    no-fixed n (inr (inr (inr (inr (inr (inr (inr (inr (inl h))))))))) = no-head (w .na) (h .0)
+    no-fixed n (inr (inr (inr (inr (inr (inr (inr (inr (inr h))))))))) = h
+
+    no-alone : (c : ℕ) → promptTried (promptFrom c s e) c s ≡ tries.Next → FirstAlone c (drop e s) → ⊥
+    no-alone c h v = no-prompt (promptFrom c s e) c h (prompt-moved c s e inside ∙ alone-is c (drop e s) v)
+
+    no-numbers : (n : ℕ) → Some (λ h. NumericEnded (fixedText h) (drop e s) n) heads → ⊥
+    no-numbers n (inl h) = no-numeric kind.Cme fixed.Cme n (w .cme) h
+    no-numbers n (inr (inl h)) = no-numeric kind.Cms fixed.Cms n (w .cms) h
+    no-numbers n (inr (inr (inl h))) = no-numeric kind.Unknown fixed.Modem n (w .modem) h
+    no-numbers n (inr (inr (inr h))) = h
+
+    nothing-here : (n : ℕ) → Item ts (drop e s) n → ⊥
+    nothing-here n (items.notice h) = no-notice n (ofMark mark.Notice 0 ts) (w .heardNone) h
+    nothing-here n (items.line h) = no-fixed n h
+    nothing-here n (items.customSuccess h) = no-custom (ofMark mark.Success 0 ts) (w .customOk) (some-map (λ x. Line (wrapped (x .text)) (drop e s) n) (λ x. stands (wrapped (x .text)) (drop e s) 0 ≡ true) (λ x v. v .0) (ofMark mark.Success 0 ts) h)
+    nothing-here n (items.customError h) = no-custom (ofMark mark.Error 0 ts) (w .customBad) (some-map (λ x. Line (wrapped (x .text)) (drop e s) n) (λ x. stands (wrapped (x .text)) (drop e s) 0 ≡ true) (λ x v. v .0) (ofMark mark.Error 0 ts) h)
+    nothing-here n (items.numeric h) = no-numbers n h
+    nothing-here n (items.prompt (inl h) g) = no-alone 62 (w .greater) h
+    nothing-here n (items.prompt (inr h) g) = no-alone 64 (w .atSign) h
+    nothing-here n (items.customPrompt h g) = no-customs (ofMark mark.Prompt 0 ts) (mark-texts mark.Prompt 0 ts good) (w .customs) h
+
+-- Line starts and rule 1: buf begins at the first line start.
+module _ (s : List ℕ) where
+  spaces-crlf : (p : ℕ) → p < past (isBlank sets.Space) s 0 → stands crlf s p ≡ true → ⊥
+  unfolding isBlank among blanks
+  spaces-crlf p h g =
+      let b : isBlank sets.Space 13 ≡ true = ap (isBlank sets.Space) (sym (stands-byte 13 (10 ∷ []) s p g .1 .0)) ∙ past-passes (isBlank sets.Space) s 0 p (omega arith) h in
+      false-true b refl
+
+  crlf-from : (a : ℕ) (r : Found) → findIn crlf s a ≡ r → (p : ℕ) → a ≤ p → stands crlf s p ≡ true → (foundOr r a ≤ p) × (stands crlf s (foundOr r a) ≡ true)
+  unfolding foundOr
+  crlf-from a (At k) q p h g =
+      let w = found-at crlf s a k q in
+      (⊎-elim (λ (l : p < k). absurd (false-true g (w .first p h l))) (λ (l : k ≤ p). l) (order p k), w .here)
+  crlf-from a Nothing q p h g = absurd (false-true g (found-none crlf s a q p h))
+
+  first-crlf : (p : ℕ) → stands crlf s p ≡ true → (skipped s ≤ p) × (stands crlf s (skipped s) ≡ true)
+  unfolding skipped
+  first-crlf p g =
+      let a = past (isBlank sets.Space) s 0 in
+      crlf-from a (findIn crlf s a) refl p (⊎-elim (λ (q : p < a). absurd (spaces-crlf p q g)) (λ (q : a ≤ p). q) (order p a)) g
+
+  start-from : (r : Found) → findIn crlf s (past (isBlank sets.Space) s 0) ≡ r → foundOr r (past (isBlank sets.Space) s 0) < length s → LineStart s (foundOr r (past (isBlank sets.Space) s 0))
+  unfolding foundOr
+  start-from (At k) q h = atCrlf (found-at crlf s (past (isBlank sets.Space) s 0) k q .here)
+  start-from Nothing q h =
+      let a = past (isBlank sets.Space) s 0 in
+      onlyOne
+      (λ j. not-true-false (stands crlf s j) (λ g. ⊎-elim (λ (l : j < a). spaces-crlf j l g) (λ (l : a ≤ j). false-true g (found-none crlf s a q j l)) (order j a)))
+      (λ j k l. past-passes (isBlank sets.Space) s 0 j k l)
+      h
+      (past-stops (isBlank sets.Space) s 0 h)
+
+  start-here : skipped s < length s → LineStart s (skipped s)
+  unfolding skipped
+  start-here h = start-from (findIn crlf s (past (isBlank sets.Space) s 0)) refl h
+
+  crlf-apart : (p : ℕ) → stands crlf s p ≡ true → stands crlf s (p + 1) ≡ true → ⊥
+  crlf-apart p h g = omega (arith, crlf-lf s p h, stands-byte 13 (10 ∷ []) s (p + 1) g .1 .0)
+
+  only-skip : ((j : ℕ) → stands crlf s j ≡ false) → skipped s ≡ past (isBlank sets.Space) s 0
+  unfolding skipped
+  only-skip h = go (findIn crlf s (past (isBlank sets.Space) s 0)) refl
+    where
+      go : (r : Found) → findIn crlf s (past (isBlank sets.Space) s 0) ≡ r → foundOr r (past (isBlank sets.Space) s 0) ≡ past (isBlank sets.Space) s 0
+      go (At k) q = absurd (false-true (found-at crlf s (past (isBlank sets.Space) s 0) k q .here) (h k))
+      go Nothing q = unfold foundOr in refl
+
+  -- a line start is where buf begins, or a CRLF behind it
+  start-is : (p : ℕ) → LineStart s p → (p ≡ skipped s) ⊎ ((skipped s + 2 ≤ p) × ((stands crlf s p ≡ true) × (stands crlf s (skipped s) ≡ true)))
+  start-is p (atCrlf h) =
+      let w = first-crlf p h in
+      ⊎-elim
+      (λ (q : skipped s ≡ p). inl (sym q))
+      (λ (q : skipped s < p).
+        ⊎-elim
+        (λ (r : skipped s + 1 ≡ p). absurd (crlf-apart (skipped s) (w .1) (ap (stands crlf s) r ∙ h)))
+        (λ (r : skipped s + 1 < p). inr (omega arith, (h, w .1)))
+        (eq-or-lt-of-le {n = skipped s + 1} {m = p} (omega arith)))
+      (eq-or-lt-of-le (w .0))
+  start-is p (onlyOne h a l b) = inl (sym (only-skip h ∙ past-is (isBlank sets.Space) s 0 p (omega arith) (omega arith) a (λ q. b)))
+
+module _ (ts : List Token) (good : Texts ts) where
+  -- what an item takes
+  prompt-byte : (c : ℕ) (u : List ℕ) → FirstAlone c u → 1 ≤ length u
+  prompt-byte c u w = omega (arith, stands-fits (c ∷ []) u (w .q) (omega arith) (w .here))
+
+  text-place : (x u : List ℕ) → isText x ≡ true → EndsIn x u → 1 ≤ length u
+  text-place x u t w = let l = text-some x t in omega (arith, stands-fits x u (w .q) (omega arith) (w .here))
+
+  line-long : (ls : List Fixed) → EveryLine ls → (u : List ℕ) (n : ℕ) → Some (λ l. Line (fixedText l) u n) ls → 3 ≤ length u
+  line-long [] w u n h = absurd h
+  line-long (l ∷ ls) w u n (inl h) = let k = w .0 .long in omega (arith, stands-fits (fixedText l) u 0 (omega arith) (h .0))
+  line-long (l ∷ ls) w u n (inr h) = line-long ls (w .1) u n h
+
+  custom-long : (l : List Entry) (u : List ℕ) (n : ℕ) → Some (λ x. Line (wrapped (x .text)) u n) l → 3 ≤ length u
+  custom-long l u n h = some-any (λ x. Line (wrapped (x .text)) u n) (3 ≤ length u) (λ x v. omega (arith, wrapped-long (x .text), stands-fits (wrapped (x .text)) u 0 (omega (arith, wrapped-long (x .text))) (v .0))) l h
+
+  numeric-long : (h u : List ℕ) (n : ℕ) → 3 ≤ length h → NumericEnded h u n → 3 ≤ length u
+  numeric-long h u n l w = omega (arith, stands-fits h u 0 (omega arith) (w .head))
+
+  numbers-long : (u : List ℕ) (n : ℕ) → Some (λ h. NumericEnded (fixedText h) u n) heads → 3 ≤ length u
+  numbers-long u n (inl h) = numeric-long (fixedText fixed.Cme) u n (omega arith) h
+  numbers-long u n (inr (inl h)) = numeric-long (fixedText fixed.Cms) u n (omega arith) h
+  numbers-long u n (inr (inr (inl h))) = numeric-long (fixedText fixed.Modem) u n (omega arith) h
+  numbers-long u n (inr (inr (inr h))) = absurd h
+
+  notice-room : (l : List Entry) (u : List ℕ) (n : ℕ) → Some (λ x. NoticeEnded (x .text) u n) l → 3 ≤ length u
+  notice-room l u n h = some-any (λ x. NoticeEnded (x .text) u n) (3 ≤ length u) (λ x v. let b = notice-lf ts good u 0 (x .text) u n v in omega (arith, b .0, b .1 .0)) l h
+
+  item-some : (u : List ℕ) (n : ℕ) → Item ts u n → 1 ≤ length u
+  item-some u n (items.notice h) = omega (arith, notice-room (ofMark mark.Notice 0 ts) u n h)
+  item-some u n (items.line h) = omega (arith, line-long nine nine-lines u n h)
+  item-some u n (items.customSuccess h) = omega (arith, custom-long (ofMark mark.Success 0 ts) u n h)
+  item-some u n (items.customError h) = omega (arith, custom-long (ofMark mark.Error 0 ts) u n h)
+  item-some u n (items.numeric h) = omega (arith, numbers-long u n h)
+  item-some u n (items.prompt (inl h) g) = prompt-byte 62 u h
+  item-some u n (items.prompt (inr h) g) = prompt-byte 64 u h
+  item-some u n (items.customPrompt h g) = some-texts (λ x. EndsIn (x .text) u) (1 ≤ length u) (λ x t v. text-place (x .text) u t v) (ofMark mark.Prompt 0 ts) (mark-texts mark.Prompt 0 ts good) h
+
+  -- at a CRLF an item takes a byte more than that
+  byte-behind : (u : List ℕ) (q b : ℕ) → stands crlf u 0 ≡ true → getD u q 0 ≡ b → (b ≡ 13 → ⊥) → (b ≡ 10 → ⊥) → 2 ≤ q
+  byte-behind u zero b h e f g = absurd (f (sym e ∙ stands-byte 13 (10 ∷ []) u 0 h .1 .0))
+  byte-behind u (suc zero) b h e f g = absurd (g (sym e ∙ crlf-lf u 0 h))
+  byte-behind u (suc (suc q)) b h e f g = omega arith
+
+  item-long : (u : List ℕ) (n : ℕ) → stands crlf u 0 ≡ true → Item ts u n → 3 ≤ length u
+  item-long u n c (items.notice h) = notice-room (ofMark mark.Notice 0 ts) u n h
+  item-long u n c (items.line h) = line-long nine nine-lines u n h
+  item-long u n c (items.customSuccess h) = custom-long (ofMark mark.Success 0 ts) u n h
+  item-long u n c (items.customError h) = custom-long (ofMark mark.Error 0 ts) u n h
+  item-long u n c (items.numeric h) = numbers-long u n h
+  item-long u n c (items.prompt (inl h) g) = let b = stands-byte 62 [] u (h .q) (h .here) in omega (arith, b .0, byte-behind u (h .q) 62 c (b .1 .0) (λ z. omega arith) (λ z. omega arith))
+  item-long u n c (items.prompt (inr h) g) = let b = stands-byte 64 [] u (h .q) (h .here) in omega (arith, b .0, byte-behind u (h .q) 64 c (b .1 .0) (λ z. omega arith) (λ z. omega arith))
+  item-long u n c (items.customPrompt h g) =
+      some-texts (λ x. EndsIn (x .text) u) (3 ≤ length u)
+      (λ x t v.
+        let l = text-some (x .text) t in
+        let f = stands-fits (x .text) u (v .q) (omega arith) (v .here) in
+        let b : getD u (v .q + 0) 0 ≡ getD (x .text) 0 0 = stands-getD (x .text) u (v .q) 0 (v .here) (omega arith) in
+        let w = text-byte (x .text) t 0 (omega arith) in
+        let k : v .q + 0 ≡ v .q = omega arith in
+        omega (arith, byte-behind u (v .q) (getD (x .text) 0 0) c (ap (λ (m : ℕ). getD u m 0) (sym k) ∙ b) (λ z. omega arith) (λ z. omega arith)))
+      (ofMark mark.Prompt 0 ts) (mark-texts mark.Prompt 0 ts good) h
+
+  -- Complete: a line start that holds a finished item, and the digest isn't None.
+  found-again : (e : ℕ) (b : Bool) (r : Answer) → b ≡ true → isFound r ≡ true → isFound (again b e r) ≡ true
+  unfolding again ifFound shift
+  found-again e b r h g = rw (h, g) g
+
+  module _ (s : List ℕ) (ih : (l : List ℕ) → length l < length s → (p n : ℕ) → Holds ts l p n → isFound (digest ts l) ≡ true) (p n : ℕ) (w : Holds ts s p n) where
+    behind : (skipped s + 2 ≤ p) × ((stands crlf s p ≡ true) × (stands crlf s (skipped s) ≡ true)) → isFound (again (retries s (skipped s)) (skipped s) (digest ts (drop (skipped s + 2) s))) ≡ true
+    behind v =
+        let e = skipped s in
+        let d = p - (e + 2) in
+        let i : e + 2 + d ≡ p = omega (arith, v .0) in
+        let c : stands crlf (drop p s) 0 ≡ true = sym (stands-here crlf s p) ∙ v .1 .0 in
+        let m = item-long (drop p s) n c (w .item) in
+        let o = stands-fits crlf s p (omega arith) (v .1 .0) in
+        let r : retries s e ≡ true = sym (retries-on s e (v .1 .1)) ∙ lt-ltb 4 (length s - e) (omega (arith, m, length-drop p s, v .0)) in
+        let j : drop d (drop (e + 2) s) ≡ drop p s = drop-drop d (e + 2) s ∙ ap (λ (k : ℕ). drop k s) i in
+        let x : Holds ts (drop (e + 2) s) d n = record {
+          start = atCrlf (stands-drop crlf s (e + 2) d ∙ ap (stands crlf s) i ∙ v .1 .0);
+          item = rw j (w .item);
+          finished = rw j (w .finished);
+        } in
+        found-again e (retries s e) (digest ts (drop (e + 2) s)) r (ih (drop (e + 2) s) (rest-shorter s e r) d n x)
+
+    at-level : (t : Tried) → tried ts s (skipped s) ≡ t → isFound (after s (digest ts) (skipped s) t) ≡ true
+    unfolding after
+    at-level (tries.Done a) q =
+        ⊎-elim
+        (λ (h : Hit ts s (skipped s) a). h .found)
+        (λ (h : (a ≡ nothing (skipped s)) × Broken ts s (skipped s)).
+          absurd (⊎-elim
+          (λ (k : p ≡ skipped s). w .finished (rw k (h .1)))
+          (λ (k : (skipped s + 2 ≤ p) × ((stands crlf s p ≡ true) × (stands crlf s (skipped s) ≡ true))).
+            let e = skipped s in
+            let i : e + (p + 1 - e) ≡ p + 1 = omega (arith, k .0) in
+            let b : getD (drop e s) (p + 1 - e) 0 ≡ 10 = getD-drop e s (p + 1 - e) 0 ∙ ap (λ (m : ℕ). getD s m 0) i ∙ crlf-lf s p (k .1 .0) in
+            let o = stands-fits crlf s p (omega arith) (k .1 .0) in
+            lf-finished (drop e s) (p + 1 - e) (omega (arith, k .0)) (rw length-drop (omega (arith, k .0))) b (ofMark mark.Notice 0 ts) (mark-texts mark.Notice 0 ts good) (h .1))
+          (start-is s p (w .start))))
+        (tried-sound ts good s (skipped s) (skipped-le s) a q)
+    at-level tries.Next q =
+        ⊎-elim
+        (λ (k : p ≡ skipped s). absurd (nothing-here ts good s (skipped s) (silent ts good s (skipped s) q) (skipped-le s) n (rw k at (w .item))))
+        (λ (k : (skipped s + 2 ≤ p) × ((stands crlf s p ≡ true) × (stands crlf s (skipped s) ≡ true))). behind k)
+        (start-is s p (w .start))
+
+  pub complete : (s : List ℕ) (p n : ℕ) → Holds ts s p n → isFound (digest ts s) ≡ true
+  complete =
+      by-length (λ s. (p n : ℕ) → Holds ts s p n → isFound (digest ts s) ≡ true)
+      (λ s ih p n w. rw (digest-step ts s) (at-level s ih p n w (tried ts s (skipped s)) refl))
