@@ -1,6 +1,7 @@
 pub mod Answer
 pub mod Digest
 pub mod Finished
+pub mod Heard
 pub mod Examples
 pub mod Laws
 pub mod Step

@@ -75,7 +75,7 @@ pub record Within (n : ℕ) (a : Answer) : Type 0 where
   pub payload : a .place + a .len ≤ a .consumed
   pub all : a .consumed ≤ n
 
-placed-le : (len p : ℕ) → placed len p + len ≤ p + len
+pub placed-le : (len p : ℕ) → placed len p + len ≤ p + len
 unfolding placed
 placed-le zero p = omega arith
 placed-le (suc n) p = omega arith
@@ -90,7 +90,7 @@ bare-within k m c n h = answer-within k m 0 0 c n (omega arith) h
 none-within : (c n : ℕ) → c ≤ n → Within n (nothing c)
 none-within c n h = record { payload = omega arith; all = h }
 
-abbrev TriedWithin : ℕ → Tried → Type 0
+abbrev pub TriedWithin : ℕ → Tried → Type 0
 TriedWithin n (tries.Done a) = Within n a
 TriedWithin n tries.Next = Unit {0}
 
@@ -198,7 +198,7 @@ module _ (s : List ℕ) (e : ℕ) where
       (either-within (length s) (numericErrors s e) _ numerics-within
       (either-within (length s) (lineErrors s e) _ lines-within (head-within (stands (fixedText fixed.Na) s e) refl)))
 
-  tried-within : e ≤ length s → (ts : List Token) → TriedWithin (length s) (tried ts s e)
+  pub tried-within : e ≤ length s → (ts : List Token) → TriedWithin (length s) (tried ts s e)
   unfolding tried
   tried-within h ts =
       either-within (length s) (notices (ofMark mark.Notice 0 ts) s e) _ (notices-within h (ofMark mark.Notice 0 ts))

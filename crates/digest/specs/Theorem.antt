@@ -3,7 +3,7 @@
 -- Assumes nothing.
 use mathlib.Core.Path.{_≡_, refl, sym, ap, _∙_}
 use mathlib.Core.Logic.{_⊎_, inl, inr, ⊎-elim}
-use mathlib.Core.Bool.{Bool, true, false, _&&_}
+use mathlib.Core.Bool.{Bool, true, false, _&&_, _||_}
 use mathlib.Core.List.{List, [], _∷_, _++_}
 use Prim.Native.Nat.{ℕ, zero, suc, _+_, _-_, _≤_, _<_}
 use native.Mathlib.Nat.{add-zero, eq-or-lt-of-le}
@@ -13,7 +13,7 @@ use lib.Seq.{drop-drop, getD-append-add, getD-drop}
 use lib.Dec.{eqb, ltb}
 use borrow.Author.Tests.{eqb-true, lt-ltb}
 use Rattle.text.specs.Bytes.{bytes}
-use Rattle.text.specs.Logic.{false-true, not-true-false, order}
+use Rattle.text.specs.Logic.{false-true, not-true-false, and-both, order}
 use Rattle.text.specs.Text.{among, blanks, isBlank, past, trimmed, stands, findIn}
 use Rattle.text.specs.Steps.{find-here}
 use Rattle.text.specs.Laws.{found-at, found-none, stands-drop, stands-front, stands-fits, stands-byte, stands-getD, stands-append, past-passes, past-stops, past-is, past-bounds, stands-room}
@@ -44,7 +44,8 @@ use Rattle.digest.specs.Digest.{orElse, foundOr, skipped, trimmedAnswer,
 use Rattle.digest.specs.Finished.{Some, All, Nowhere, LineStart, atCrlf, onlyOne, NoticeEnd, bare, colon, NoticeEnded, Unfinished, NumericEnded, FirstAlone, EndsIn, nine, heads, Line, Item, Holds, NothingFinished}
 use Rattle.digest.specs.Finished as items
 use Rattle.digest.specs.Laws.{skipped-le, retries-on, retries-room}
-use Rattle.digest.specs.Step.{by-length, rest-shorter, digest-step}
+use Rattle.digest.specs.Heard.{Where, Heard}
+use Rattle.digest.specs.Step.{by-length, rest-shorter, digest-step, Within, placed-le, tried-within, digest-within}
 use Rattle.digest.specs.Position.{ending-moved, shiftNotice, notice-moved, ended-is, unfinished-is, ended-told, unfinished-told, alone-is, alone-told, prompt-moved, ends-is, ends-told, custom-moved, shiftNumeric, numeric-moved, numeric-is, numeric-told}
 
 -- `Some`
@@ -766,6 +767,20 @@ module _ (ts : List Token) (good : Texts ts) where
   item-some u n (items.prompt (inr h) g) = prompt-byte 64 u h
   item-some u n (items.customPrompt h g) = some-texts (λ x. EndsIn (x .text) u) (1 ≤ length u) (λ x t v. text-place (x .text) u t v) (ofMark mark.Prompt 0 ts) (mark-texts mark.Prompt 0 ts good) h
 
+  item-size : (u : List ℕ) (n : ℕ) → Item ts u n → 1 ≤ n
+  item-size u n (items.notice h) = some-any (λ x. NoticeEnded (x .text) u n) (1 ≤ n) (λ x v. omega (arith, notice-lf ts good u 0 (x .text) u n v)) (ofMark mark.Notice 0 ts) h
+  item-size u n (items.line h) = line-size nine nine-lines h
+    where
+      line-size : (ls : List Fixed) → EveryLine ls → Some (λ l. Line (fixedText l) u n) ls → 1 ≤ n
+      line-size [] w g = absurd g
+      line-size (l ∷ ls) w (inl g) = omega (arith, w .0 .long, g .1)
+      line-size (l ∷ ls) w (inr g) = line-size ls (w .1) g
+  item-size u n (items.customSuccess h) = some-any (λ x. Line (wrapped (x .text)) u n) (1 ≤ n) (λ x v. omega (arith, v .1, wrapped-long (x .text))) (ofMark mark.Success 0 ts) h
+  item-size u n (items.customError h) = some-any (λ x. Line (wrapped (x .text)) u n) (1 ≤ n) (λ x v. omega (arith, v .1, wrapped-long (x .text))) (ofMark mark.Error 0 ts) h
+  item-size u n (items.numeric h) = some-any (λ x. NumericEnded (fixedText x) u n) (1 ≤ n) (λ x v. omega (arith, v .ended)) heads h
+  item-size u n (items.prompt h g) = rw g (item-some u (length u) (items.prompt h refl))
+  item-size u n (items.customPrompt h g) = rw g (item-some u (length u) (items.customPrompt h refl))
+
   -- at a CRLF an item takes a byte more than that
   byte-behind : (u : List ℕ) (q b : ℕ) → stands crlf u 0 ≡ true → getD u q 0 ≡ b → (b ≡ 13 → ⊥) → (b ≡ 10 → ⊥) → 2 ≤ q
   byte-behind u zero b h e f g = absurd (f (sym e ∙ stands-byte 13 (10 ∷ []) u 0 h .1 .0))
@@ -840,3 +855,206 @@ module _ (ts : List Token) (good : Texts ts) where
   complete =
       by-length (λ s. (p n : ℕ) → Holds ts s p n → isFound (digest ts s) ≡ true)
       (λ s ih p n w. rw (digest-step ts s) (at-level s ih p n w (tried ts s (skipped s)) refl))
+
+  -- Sound: what was found stands at a line start and ends at the consumed count.
+  -- An item with no CRLF in sight is a prompt, and the level before had it already.
+  alone-back : (c : ℕ) (u : List ℕ) (m : ℕ) → ((j : ℕ) → j < m → stands (c ∷ []) u j ≡ false) → FirstAlone c (drop m u) → FirstAlone c u
+  alone-back c u m h w =
+      record {
+        q = m + w .q;
+        here = sym (stands-drop (c ∷ []) u m (w .q)) ∙ w .here;
+        first = λ j a b.
+          ⊎-elim
+          (λ (k : j < m). h j k)
+          (λ (k : m ≤ j).
+            let i : m + (j - m) ≡ j = omega arith in
+            ap (stands (c ∷ []) u) (sym i) ∙ sym (stands-drop (c ∷ []) u m (j - m)) ∙ w .first (j - m) (omega arith) (omega arith))
+          (order j m);
+        after = λ j a b.
+          let i : m + (j - m) ≡ j = omega arith in
+          ap (λ (k : ℕ). isBlank sets.Run (getD u k 0)) (sym i) ∙ ap (isBlank sets.Run) (sym (getD-drop m u (j - m) 0)) ∙ w .after (j - m) (omega arith) (rw length-drop (omega arith));
+      }
+
+  ends-back : (x u : List ℕ) (m : ℕ) → EndsIn x (drop m u) → EndsIn x u
+  ends-back x u m w =
+      record {
+        q = m + w .q;
+        here = sym (stands-drop x u m (w .q)) ∙ w .here;
+        after = λ j a b.
+          let i : m + (j - m) ≡ j = omega arith in
+          ap (λ (k : ℕ). isBlank sets.Run (getD u k 0)) (sym i) ∙ ap (isBlank sets.Run) (sym (getD-drop m u (j - m) 0)) ∙ w .after (j - m) (omega arith) (rw length-drop (omega arith));
+      }
+
+  no-crlf-line : (u : List ℕ) → ((j : ℕ) → stands crlf u j ≡ false) → (t r : List ℕ) → t ≡ crlf ++ r → stands t u 0 ≡ true → ⊥
+  no-crlf-line u h t r e g = false-true (stands-front crlf r u 0 (rw e at g)) (h 0)
+
+  no-crlf-notice : (u : List ℕ) → ((j : ℕ) → stands crlf u j ≡ false) → (x : List ℕ) (n : ℕ) → NoticeEnded x u n → ⊥
+  no-crlf-notice u h x n w = go (w .ended)
+    where
+      go : NoticeEnd u (lineEnding u 0 + length x) n → ⊥
+      go (bare c d) = false-true c (h (lineEnding u 0 + length x))
+      go (colon c q g v z d) = false-true v (h q)
+
+  no-crlf-fixed : (u : List ℕ) → ((j : ℕ) → stands crlf u j ≡ false) → (ls : List Fixed) → EveryLine ls → (n : ℕ) → Some (λ l. Line (fixedText l) u n) ls → ⊥
+  no-crlf-fixed u h [] w n g = g
+  no-crlf-fixed u h (l ∷ ls) w n (inl g) = no-crlf-line u h (fixedText l) (w .0 .rest) (w .0 .front) (g .0)
+  no-crlf-fixed u h (l ∷ ls) w n (inr g) = no-crlf-fixed u h ls (w .1) n g
+
+  no-crlf-custom : (u : List ℕ) → ((j : ℕ) → stands crlf u j ≡ false) → (l : List Entry) (n : ℕ) → Some (λ x. Line (wrapped (x .text)) u n) l → ⊥
+  no-crlf-custom u h l n g = some-any (λ x. Line (wrapped (x .text)) u n) ⊥ (λ x v. no-crlf-line u h (wrapped (x .text)) (x .text ++ crlf) refl (v .0)) l g
+
+  no-crlf-numbers : (u : List ℕ) → ((j : ℕ) → stands crlf u j ≡ false) → (n : ℕ) → Some (λ h. NumericEnded (fixedText h) u n) heads → ⊥
+  no-crlf-numbers u h n (inl g) = no-crlf-line u h (fixedText fixed.Cme) (bytes "+CME ERROR:") refl (g .head)
+  no-crlf-numbers u h n (inr (inl g)) = no-crlf-line u h (fixedText fixed.Cms) (bytes "+CMS ERROR:") refl (g .head)
+  no-crlf-numbers u h n (inr (inr (inl g))) = no-crlf-line u h (fixedText fixed.Modem) (bytes "MODEM ERROR:") refl (g .head)
+  no-crlf-numbers u h n (inr (inr (inr g))) = g
+
+  module _ (s : List ℕ) (e : ℕ) (w : Silent ts good s e) (inside : e ≤ length s) (c : stands crlf s e ≡ true) (p : ℕ) (spaces : All (isBlank sets.Space) (drop (e + 2) s) 0 p) where
+    -- from e up to the item there are CR, LF and spaces
+    before-byte : (j : ℕ) → j < 2 + p → (getD (drop e s) j 0 ≡ 13) ⊎ ((getD (drop e s) j 0 ≡ 10) ⊎ (getD (drop e s) j 0 ≡ 32))
+    before-byte zero h = let u : stands crlf (drop e s) 0 ≡ true = sym (stands-here crlf s e) ∙ c in inl (stands-byte 13 (10 ∷ []) (drop e s) 0 u .1 .0)
+    before-byte (suc zero) h = let u : stands crlf (drop e s) 0 ≡ true = sym (stands-here crlf s e) ∙ c in inr (inl (crlf-lf (drop e s) 0 u))
+    before-byte (suc (suc j)) h =
+        let i : e + suc (suc j) ≡ e + 2 + j = omega arith in
+        let b : getD (drop e s) (suc (suc j)) 0 ≡ getD (drop (e + 2) s) j 0 = getD-drop e s (suc (suc j)) 0 ∙ ap (λ (k : ℕ). getD s k 0) i ∙ sym (getD-drop (e + 2) s j 0) in
+        inr (inr (b ∙ space-is (getD (drop (e + 2) s) j 0) (spaces j (omega arith) (omega arith))))
+      where
+        space-is : (b : ℕ) → isBlank sets.Space b ≡ true → b ≡ 32
+        space-is b h = go (eqb b 32) refl (unfold isBlank among blanks in h)
+          where
+            go : (x : Bool) → eqb b 32 ≡ x → x || false ≡ true → b ≡ 32
+            go true q g = eqb-true b 32 q
+            go false q g = absurd (false-true g refl)
+
+    before-prompt : (b : ℕ) → 32 < b → (j : ℕ) → j < 2 + p → stands (b ∷ []) (drop e s) j ≡ false
+    before-prompt b h j l =
+        not-true-false (stands (b ∷ []) (drop e s) j) (λ g.
+        let v = stands-byte b [] (drop e s) j g .1 .0 in
+        ⊎-elim
+        (λ (q : getD (drop e s) j 0 ≡ 13). omega arith)
+        (λ (q : (getD (drop e s) j 0 ≡ 10) ⊎ (getD (drop e s) j 0 ≡ 32)). ⊎-elim (λ (r : getD (drop e s) j 0 ≡ 10). omega arith) (λ (r : getD (drop e s) j 0 ≡ 32). omega arith) q)
+        (before-byte j l))
+
+    rest-is : drop p (drop (e + 2) s) ≡ drop (2 + p) (drop e s)
+    rest-is = let i : e + 2 + p ≡ e + (2 + p) = omega arith in drop-drop p (e + 2) s ∙ ap (λ (k : ℕ). drop k s) i ∙ sym (drop-drop (2 + p) e s)
+
+    lone : ((j : ℕ) → stands crlf (drop (e + 2) s) j ≡ false) → (n : ℕ) → Item ts (drop p (drop (e + 2) s)) n → ⊥
+    lone h n i = go i
+      where
+        none-there : (j : ℕ) → stands crlf (drop p (drop (e + 2) s)) j ≡ false
+        none-there j = stands-drop crlf (drop (e + 2) s) p j ∙ h (p + j)
+
+        go : Item ts (drop p (drop (e + 2) s)) n → ⊥
+        go (items.notice g) = some-any (λ x. NoticeEnded (x .text) (drop p (drop (e + 2) s)) n) ⊥ (λ x v. no-crlf-notice (drop p (drop (e + 2) s)) none-there (x .text) n v) (ofMark mark.Notice 0 ts) g
+        go (items.line g) = no-crlf-fixed (drop p (drop (e + 2) s)) none-there nine nine-lines n g
+        go (items.customSuccess g) = no-crlf-custom (drop p (drop (e + 2) s)) none-there (ofMark mark.Success 0 ts) n g
+        go (items.customError g) = no-crlf-custom (drop p (drop (e + 2) s)) none-there (ofMark mark.Error 0 ts) n g
+        go (items.numeric g) = no-crlf-numbers (drop p (drop (e + 2) s)) none-there n g
+        go (items.prompt (inl g) z) = no-alone ts good s e w inside 62 (w .greater) (alone-back 62 (drop e s) (2 + p) (before-prompt 62 (omega arith)) (rw rest-is at g))
+        go (items.prompt (inr g) z) = no-alone ts good s e w inside 64 (w .atSign) (alone-back 64 (drop e s) (2 + p) (before-prompt 64 (omega arith)) (rw rest-is at g))
+        go (items.customPrompt g z) =
+            no-customs ts good s e (ofMark mark.Prompt 0 ts) (mark-texts mark.Prompt 0 ts good) (w .customs)
+            (some-map (λ x. EndsIn (x .text) (drop p (drop (e + 2) s))) (λ x. EndsIn (x .text) (drop e s)) (λ x v. ends-back (x .text) (drop e s) (2 + p) (rw rest-is at v)) (ofMark mark.Prompt 0 ts) g)
+
+  hit-where : (s : List ℕ) (a : Answer) → Within (length s) a → Hit ts s (skipped s) a → Where ts s a
+  hit-where s a v h =
+      record {
+        p = h .p;
+        n = h .n;
+        holds = record {
+          start =
+            ⊎-elim
+            (λ (q : h .p ≡ skipped s).
+              let m = item-some (drop (h .p) s) (h .n) (h .item) in
+              rw q (start-here s (omega (arith, m, length-drop (h .p) s))))
+            (λ (q : stands crlf s (h .p) ≡ true). atCrlf q)
+            (h .at);
+          item = h .item;
+          finished = h .finished;
+        };
+        ends = h .ends;
+        payload = v .payload;
+      }
+
+  retries-crlf : (s : List ℕ) (e : ℕ) → retries s e ≡ true → stands crlf s e ≡ true
+  unfolding retries
+  retries-crlf s e h = and-both (stands crlf s e) (ltb 4 (length s - e)) h .0
+
+  module _ (s : List ℕ) (ih : (l : List ℕ) → length l < length s → isFound (digest ts l) ≡ true → Where ts l (digest ts l)) where
+    again-where : tried ts s (skipped s) ≡ tries.Next → (r : Answer) → r ≡ digest ts (drop (skipped s + 2) s) → retries s (skipped s) ≡ true → isFound r ≡ true → Where ts s (shift (skipped s + 2) r)
+    unfolding shift
+    again-where q r v h g =
+        let e = skipped s in
+        let x : Where ts (drop (e + 2) s) r = rw v (ih (drop (e + 2) s) (rest-shorter s e h) (rw v at g)) in
+        let i : drop (x .p) (drop (e + 2) s) ≡ drop (e + 2 + x .p) s = drop-drop (x .p) (e + 2) s in
+        record {
+          p = e + 2 + x .p;
+          n = x .n;
+          holds = record {
+            start = on x (x .holds .start);
+            item = rw i at (x .holds .item);
+            finished = rw i at (x .holds .finished);
+          };
+          ends = omega (arith, x .ends);
+          payload = omega (arith, placed-le (r .len) (r .place + (e + 2)), x .payload);
+        }
+      where
+        on : (x : Where ts (drop (skipped s + 2) s) r) → LineStart (drop (skipped s + 2) s) (x .p) → LineStart s (skipped s + 2 + x .p)
+        on x (atCrlf c) = atCrlf (sym (stands-drop crlf s (skipped s + 2) (x .p)) ∙ c)
+        on x (onlyOne a b l d) = absurd (lone s (skipped s) (silent ts good s (skipped s) q) (skipped-le s) (retries-crlf s (skipped s) h) (x .p) b a (x .n) (x .holds .item))
+
+    found-where : tried ts s (skipped s) ≡ tries.Next → (r : Answer) → r ≡ digest ts (drop (skipped s + 2) s) → (b : Bool) → retries s (skipped s) ≡ b → isFound (again b (skipped s) r) ≡ true → Where ts s (again b (skipped s) r)
+    unfolding again
+    found-where q r v true h g = go (isFound r) refl g
+      where
+        go : (y : Bool) → isFound r ≡ y → isFound (ifFound y (skipped s) r) ≡ true → Where ts s (ifFound y (skipped s) r)
+        go true k m = unfold ifFound in again-where q r v h k
+        go false k m = absurd (false-true m (unfold ifFound in refl))
+    found-where q r v false h g = absurd (false-true g refl)
+
+    level-where : (t : Tried) → tried ts s (skipped s) ≡ t → isFound (after s (digest ts) (skipped s) t) ≡ true → Where ts s (after s (digest ts) (skipped s) t)
+    unfolding after
+    level-where (tries.Done a) q g =
+        ⊎-elim
+        (λ (h : Hit ts s (skipped s) a). hit-where s a (rw q at (tried-within s (skipped s) (skipped-le s) ts)) h)
+        (λ (h : (a ≡ nothing (skipped s)) × Broken ts s (skipped s)). absurd (false-true g (ap isFound (h .0))))
+        (tried-sound ts good s (skipped s) (skipped-le s) a q)
+    level-where tries.Next q g = found-where q (digest ts (drop (skipped s + 2) s)) refl (retries s (skipped s)) refl g
+
+  pub sound : (s : List ℕ) → isFound (digest ts s) ≡ true → Where ts s (digest ts s)
+  sound =
+      by-length (λ s. isFound (digest ts s) ≡ true → Where ts s (digest ts s))
+      (λ s ih g. rw (digest-step ts s) (level-where s ih (tried ts s (skipped s)) refl (rw (digest-step ts s) at g)))
+
+  -- None is rule 7's or rule 2's answer, and nothing else
+  level-none : (s : List ℕ) (t : Tried) → tried ts s (skipped s) ≡ t → isFound (after s (digest ts) (skipped s) t) ≡ false → after s (digest ts) (skipped s) t ≡ nothing (skipped s)
+  unfolding after
+  level-none s (tries.Done a) q g =
+      ⊎-elim
+      (λ (h : Hit ts s (skipped s) a). absurd (false-true (h .found) g))
+      (λ (h : (a ≡ nothing (skipped s)) × Broken ts s (skipped s)). h .0)
+      (tried-sound ts good s (skipped s) (skipped-le s) a q)
+  level-none s tries.Next q g = go (retries s (skipped s)) (digest ts (drop (skipped s + 2) s)) g
+    where
+      go : (b : Bool) (r : Answer) → isFound (again b (skipped s) r) ≡ false → again b (skipped s) r ≡ nothing (skipped s)
+      go true r h = unfold again in on (isFound r) refl (unfold again in h)
+        where
+          on : (y : Bool) → isFound r ≡ y → isFound (ifFound y (skipped s) r) ≡ false → ifFound y (skipped s) r ≡ nothing (skipped s)
+          on true k m = absurd (false-true k (unfold ifFound shift in m))
+          on false k m = unfold ifFound in refl
+      go false r h = unfold again in refl
+
+  pub none-is : (s : List ℕ) → isFound (digest ts s) ≡ false → digest ts s ≡ nothing (skipped s)
+  none-is s h = digest-step ts s ∙ level-none s (tried ts s (skipped s)) refl (rw (digest-step ts s) at h)
+
+  -- the theorem, of whatever answer the digest gave
+  pub heard-so : (s : List ℕ) (a : Answer) → a ≡ digest ts s → Heard ts s a
+  heard-so s a e =
+      record {
+        none = λ h p n w. false-true (complete s p n w) (ap isFound (sym e) ∙ h);
+        only = λ h. not-true-false (isFound a) (λ f. let w = sound s (ap isFound (sym e) ∙ f) in h (w .p) (w .n) (w .holds));
+        skip = λ h. ap (λ (x : Answer). x .consumed) (e ∙ none-is s (ap isFound (sym e) ∙ h));
+        item = λ h. rw e (sound s (ap isFound (sym e) ∙ h));
+        some = λ h. let w : Where ts s a = rw e (sound s (ap isFound (sym e) ∙ h)) in omega (arith, w .ends, item-size (drop (w .p) s) (w .n) (w .holds .item));
+        within = rw e (digest-within ts s .all);
+      }
