@@ -24,6 +24,8 @@ use Rattle.digest.specs.declared.Kind.the-variants as kind
 use Rattle.digest.specs.declared.Answer.{Answer}
 use Rattle.digest.specs.declared.Occurs.{Occurs}
 use Rattle.digest.specs.declared.Occurs.the-variants as occurs
+use Rattle.digest.specs.declared.Digested.{Digested}
+use Rattle.digest.specs.declared.Digested.the-variants as says
 use Rattle.digest.specs.declared.Tried.{Tried}
 use Rattle.digest.specs.declared.Tried.the-variants.{Done, Next}
 use Rattle.digest.specs.Answer.{isFound, answer, nothing, shift}
@@ -221,3 +223,18 @@ unlessLong false r = refused 1 []
 unfoldable pub digested : List ℕ → List ℕ → Outcome Answer
 unfolding underTable unlessLong
 digested t s = unlessLong (leb (length s) 4096) (underTable (ruling t) t s)
+
+-- document 01's number and values for each case of the digest's answer
+abbrev pub outcome : Digested → Outcome Answer
+outcome (says.Is a) = answered a
+outcome says.TooLong = refused 1 []
+outcome (says.BadTable k) = refused 2 (k ∷ [])
+
+unfoldable pub unlessOver : Bool → Answer → Answer
+unlessOver true a = a
+unlessOver false a = nothing 0
+
+-- under a table that isn't asked about: its records as they lie; an input over 4,096 bytes is None, 0
+unfoldable pub digestChecked : List ℕ → List ℕ → Answer
+unfolding unlessOver digest
+digestChecked t s = unlessOver (leb (length s) 4096) (digest (tokens t) s)

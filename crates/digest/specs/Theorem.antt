@@ -11,7 +11,7 @@ use native.Mathlib.Omega.{arith}
 use lib.ListN.{length, getD, take, drop, length-append, length-drop, List·getD-append}
 use lib.Seq.{drop-drop, getD-append-add, getD-drop}
 use lib.Dec.{eqb, ltb}
-use borrow.Author.Tests.{eqb-true, lt-ltb}
+use borrow.Author.Tests.{eqb-true, lt-ltb, le-leb, lt-leb}
 use Rattle.text.specs.Bytes.{bytes}
 use Rattle.text.specs.Logic.{false-true, not-true-false, and-both, order}
 use Rattle.text.specs.Text.{among, blanks, isBlank, past, trimmed, stands, findIn}
@@ -20,8 +20,9 @@ use Rattle.text.specs.Laws.{found-at, found-none, stands-drop, stands-front, st
 use Rattle.text.specs.declared.Blanks.the-variants as sets
 use Rattle.text.specs.declared.Found.{Found}
 use Rattle.text.specs.declared.Found.the-variants.{At, Nothing}
-use Rattle.table.specs.Table.{isText, Token, Entry, ofMark}
-use Rattle.table.specs.Laws.{Texts, EntryTexts, mark-texts, text-some, text-byte}
+use Rattle.table.specs.Outcome.{Outcome, answered, refused}
+use Rattle.table.specs.Table.{isText, Token, Entry, ofMark, tokens, ruling}
+use Rattle.table.specs.Laws.{Texts, EntryTexts, mark-texts, text-some, text-byte, GoodTokens, good-tokens}
 use Rattle.table.specs.declared.Mark.the-variants as mark
 use Rattle.parser.specs.Parser.{crlf, fixedText, value, pick, lineEnding, atFound, numericAt, numericError, promptFrom, customPrompt, wrapped, breaksOff, noticeAt}
 use Rattle.parser.specs.Laws.{ending-fits}
@@ -37,10 +38,12 @@ use Rattle.digest.specs.declared.Kind.the-variants as kind
 use Rattle.digest.specs.declared.Answer.{Answer}
 use Rattle.digest.specs.declared.Occurs.{Occurs}
 use Rattle.digest.specs.declared.Occurs.the-variants as occurs
+use Rattle.digest.specs.declared.Digested.{Digested}
+use Rattle.digest.specs.declared.Digested.the-variants as says
 use Rattle.digest.specs.declared.Tried.{Tried}
 use Rattle.digest.specs.declared.Tried.the-variants as tries
 use Rattle.digest.specs.Answer.{kindFound, isFound, placed, answer, nothing, shift}
-use Rattle.digest.specs.Digest.{orElse, foundOr, skipped, trimmedAnswer, heard, notices, occursOr, firstCustom, success, customSuccess, lineSuccess, successes, promptTried, customPrompts, prompts, customError, numericTried, lineTried, headTried, numericFrom, lineFrom, numericErrors, lineErrors, errors, tried, retries, ifFound, again, after, digest}
+use Rattle.digest.specs.Digest.{orElse, foundOr, skipped, trimmedAnswer, heard, notices, occursOr, firstCustom, success, customSuccess, lineSuccess, successes, promptTried, customPrompts, prompts, customError, numericTried, lineTried, headTried, numericFrom, lineFrom, numericErrors, lineErrors, errors, tried, retries, ifFound, again, after, digest, underTable, unlessLong, digested, outcome, unlessOver, digestChecked}
 use Rattle.digest.specs.Finished.{Some, All, Nowhere, LineStart, atCrlf, onlyOne, NoticeEnd, bare, colon, NoticeEnded, Unfinished, NumericEnded, FirstAlone, EndsIn, nine, heads, Line, Item, Holds, NothingFinished}
 use Rattle.digest.specs.Finished as items
 use Rattle.digest.specs.Laws.{skipped-le, retries-on, retries-room}
@@ -1058,3 +1061,45 @@ module _ (ts : List Token) (good : Texts ts) where
         some = λ h. let w : Where ts s a = rw e (sound s (ap isFound (sym e) ∙ h)) in omega (arith, w .ends, item-size (drop (w .p) s) (w .n) (w .holds .item));
         within = rw e (digest-within ts s .all);
       }
+
+-- The public calls. The promise of `digest` determines its answer.
+pub outcome-one : (r q : Digested) → outcome r ≡ outcome q → r ≡ q
+outcome-one (says.Is a) (says.Is b) e = cc
+outcome-one (says.Is a) says.TooLong e = let z : _≡_ {A = ℕ} 0 1 = cc in absurd (omega arith)
+outcome-one (says.Is a) (says.BadTable k) e = let z : _≡_ {A = ℕ} 0 1 = cc in absurd (omega arith)
+outcome-one says.TooLong (says.Is a) e = let z : _≡_ {A = ℕ} 0 1 = cc in absurd (omega arith)
+outcome-one says.TooLong says.TooLong e = refl
+outcome-one says.TooLong (says.BadTable k) e = let z : _≡_ {A = ℕ} 0 1 = cc in absurd (omega arith)
+outcome-one (says.BadTable k) (says.Is a) e = let z : _≡_ {A = ℕ} 0 1 = cc in absurd (omega arith)
+outcome-one (says.BadTable k) says.TooLong e = let z : _≡_ {A = ℕ} 0 1 = cc in absurd (omega arith)
+outcome-one (says.BadTable k) (says.BadTable m) e = cc
+
+-- what a digest under a good table hears
+pub digest-heard : (t s : List ℕ) (n : ℕ) → ruling t ≡ answered n → (a : Answer) → a ≡ digest (tokens t) s → Heard (tokens t) s a
+digest-heard t s n h a e = heard-so (tokens t) (good-tokens t n h .texts) s a e
+
+module _ (t s : List ℕ) where
+  pub digested-long : 4096 < length s → refused 1 [] ≡ digested t s
+  unfolding digested unlessLong
+  digested-long h = rw (lt-leb (length s) 4096 h)
+
+  module _ (l : length s ≤ 4096) where
+    at-table : underTable (ruling t) t s ≡ digested t s
+    unfolding digested unlessLong
+    at-table = rw (le-leb (length s) 4096 l)
+
+    pub digested-bad : (k : ℕ) → refused 2 (k ∷ []) ≡ ruling t → refused 2 (k ∷ []) ≡ digested t s
+    unfolding underTable
+    digested-bad k p = ap (λ (x : Outcome ℕ). underTable x t s) p ∙ at-table
+
+    pub digested-is : (n : ℕ) → answered n ≡ ruling t → (a : Answer) → a ≡ digest (tokens t) s → answered a ≡ digested t s
+    unfolding underTable
+    digested-is n p a w = ap answered w ∙ ap (λ (x : Outcome ℕ). underTable x t s) p ∙ at-table
+
+    pub checked-is : (a : Answer) → a ≡ digest (tokens t) s → a ≡ digestChecked t s
+    unfolding digestChecked unlessOver
+    checked-is a w = rw (le-leb (length s) 4096 l) w
+
+  pub checked-long : 4096 < length s → (a : Answer) → a ≡ nothing 0 → a ≡ digestChecked t s
+  unfolding digestChecked unlessOver
+  checked-long h a w = rw (lt-leb (length s) 4096 h) w

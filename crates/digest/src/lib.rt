@@ -5,14 +5,16 @@ ghost use Prim.Native.Nat.{_≤_, _+_};
 ghost use lib.ListN.{length};
 ghost use Rattle.table.specs.Table.{tokens, entries};
 ghost use Rattle.table.specs.declared.Mark.the-variants as mark;
-ghost use Rattle.text.specs.Text.{stands, findIn};
+ghost use Rattle.text.specs.Text.{stands, findIn, partOf};
 ghost use Rattle.parser.specs.Parser.{fixedText, noticeAt};
 ghost use Rattle.parser.specs.declared.Fixed.the-variants as fixed;
 ghost use Rattle.digest.specs.Answer.{numbered, stored, isFound, placed, answer, nothing, shift};
-ghost use Rattle.digest.specs.Digest.{skipped, trimmedAnswer, heard, notices, firstCustom, success, customSuccess, lineSuccess, successes, customPrompts, promptTried, prompts, customError, numericFrom, lineFrom, numericErrors, lineErrors, headTried, errors, tried, retries, digest, digested};
+ghost use Rattle.digest.specs.Digest.{skipped, trimmedAnswer, heard, notices, firstCustom, success, customSuccess, lineSuccess, successes, customPrompts, promptTried, prompts, customError, numericFrom, lineFrom, numericErrors, lineErrors, headTried, errors, tried, retries, digest, digested, digestChecked, outcome};
+ghost use Rattle.digest.specs.Heard.{HeardIn};
 use parser::Fixed;
 use parser::Notice;
 use parser::Numeric;
+use table::Checked;
 use table::Mark;
 use table::Next;
 use text::Blanks;
@@ -466,3 +468,36 @@ pub enum Digested {
 
 // The longest input that is digested.
 pub const LONGEST: usize = 4096;
+
+// What the input was: the answer by document 01's rules 1 to 7 under the table, or the refusal. Nothing is demanded of the caller.
+// None exactly when no line start of the input holds a finished item, and a found item ends at the consumed count (`HeardIn`).
+pub fn digest(table: &[u8], input: &[u8]) -> Digested
+    ensures is { λ r. ⌜ outcome r ≡ digested (now (table .entry)) (now (input .entry)) ⌝ }
+    ensures heard { λ r. ⌜ HeardIn (now (table .entry)) (now (input .entry)) (outcome r) ⌝ }
+{
+    if LONGEST < input.len() {
+        return Digested::TooLong;
+    }
+    match table::check(table) {
+        Checked::Faulty(k) => Digested::BadTable(k),
+        Checked::Good(_) => Digested::Is(digest_in(table, input)),
+    }
+}
+
+// The same under a table that was checked before: it isn't checked again. Under a faulty one the records count as they lie,
+// up to the first that can't be read. An input over 4,096 bytes is None with nothing consumed.
+pub fn digest_checked(table: &[u8], input: &[u8]) -> Answer
+    ensures { λ r. ⌜ r ≡ digestChecked (now (table .entry)) (now (input .entry)) ⌝ }
+{
+    if LONGEST < input.len() {
+        return nothing(0);
+    }
+    digest_in(table, input)
+}
+
+// The payload of an answer as a part of the caller's own input; a place and length that don't fit give its empty front part.
+pub fn payload(input: &[u8], place: usize, len: usize) -> &[u8]
+    ensures { λ r. ⌜ now r ≡ partOf (now (input .entry)) place len ⌝ }
+{
+    text::part(input, place, len)
+}

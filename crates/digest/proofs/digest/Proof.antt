@@ -1,0 +1,47 @@
+-- `digest` meets its contract: the refusals in their order, then the recursive digester; what it heard by the theorem. Assumes nothing.
+use mathlib.Core.Path.{sym, ap, _∙_}
+use Prim.Native.Nat.{_-_}
+use Rattle.table.specs.Table.{outcome}
+use Rattle.digest.specs.Theorem.{digested-long, digested-bad, digested-is, digest-heard}
+use borrow.Author.Needs.{needs}
+use Rattle.digest.proofs.digest.Statement.{statement}
+use Rattle.table.specs.declared.Mark.the-variants as mark
+use Rattle.parser.specs.declared.Fixed.the-variants as fixed
+use Rattle.digest.proofs.digest.Tie as tie
+
+returns : tie.Need-returns
+returns c =
+    let args = c .before .before .before .args in
+    (digested-long (args .table .now) (args .input .now) (c .if1 .taken), tt)
+
+check-requires : tie.Need-check-requires
+check-requires c κs = search needs
+
+enum-known-k : tie.Need-enum-known-k
+enum-known-k c = search needs
+
+enum-told : tie.Need-enum-told
+enum-told c = search needs
+
+digest-in-requires : tie.Need-digest-in-requires
+digest-in-requires c κs = search needs
+
+returns-2 : tie.Need-returns-2
+returns-2 c =
+    let args = c .before .before .before .before .before .before .before .args in
+    let if1 = c .before .before .before .before .if1 in
+    let check = c .before .before .before .check in
+    (digested-bad (args .table .now) (args .input .now) (if1 .left) _ (ap outcome (sym (c .before .k .given .1)) ∙ check .ensures), tt)
+
+returns-3 : tie.Need-returns-3
+returns-3 c =
+    let args = c .before .before .before .before .before .before .before .args in
+    let if1 = c .before .before .before .before .if1 in
+    let check = c .before .before .before .check in
+    let enum-told = c .before .enum-told in
+    (digested-is (args .table .now) (args .input .now) (if1 .left) _ (ap outcome (sym (enum-told .given .1)) ∙ check .ensures) _ (c .digest-in .ensures), digest-heard (args .table .now) (args .input .now) _ (sym (ap outcome (sym (enum-told .given .1)) ∙ check .ensures)) _ (c .digest-in .ensures))
+
+pub digest-spec : {M : Type 1} → statement M
+digest-spec =
+    tie.close
+    (tie.spec returns check-requires enum-known-k enum-told digest-in-requires returns-2 returns-3)

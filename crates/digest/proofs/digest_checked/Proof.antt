@@ -1,0 +1,27 @@
+-- `digest_checked` meets its contract. Assumes nothing.
+use Prim.Native.Nat.{_-_}
+use Rattle.digest.specs.Theorem.{checked-is, checked-long}
+use borrow.Author.Needs.{needs}
+use Rattle.digest.proofs.digest_checked.Statement.{statement}
+use Rattle.table.specs.declared.Mark.the-variants as mark
+use Rattle.parser.specs.declared.Fixed.the-variants as fixed
+use Rattle.digest.proofs.digest_checked.Tie as tie
+
+nothing-requires : tie.Need-nothing-requires
+nothing-requires c κs = search needs
+
+returns : tie.Need-returns
+returns c =
+    let args = c .before .before .before .before .args in
+    checked-long (args .table .now) (args .input .now) (c .before .if1 .taken) _ (c .nothing .ensures)
+
+digest-in-requires : tie.Need-digest-in-requires
+digest-in-requires c κs = search needs
+
+returns-2 : tie.Need-returns-2
+returns-2 c =
+    let args = c .before .before .before .before .args in
+    checked-is (args .table .now) (args .input .now) (c .before .if1 .left) _ (c .digest-in .ensures)
+
+pub digest-checked-spec : {M : Type 1} → statement M
+digest-checked-spec = tie.close (tie.spec nothing-requires returns digest-in-requires returns-2)
