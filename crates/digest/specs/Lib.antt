@@ -7,3 +7,4 @@ pub mod Laws
 pub mod Step
 pub mod Position
 pub mod Theorem
+pub mod Retry

@@ -52,12 +52,12 @@ use Rattle.digest.specs.Step.{by-length, rest-shorter, digest-step, With
 use Rattle.digest.specs.Position.{ending-moved, shiftNotice, notice-moved, ended-is, unfinished-is, ended-told, unfinished-told, alone-is, alone-told, prompt-moved, ends-is, ends-told, custom-moved, shiftNumeric, numeric-moved, numeric-is, numeric-told}
 
 -- `Some`
-some-map : {A : Type 0} (P Q : A → Type 0) → ((x : A) → P x → Q x) → (l : List A) → Some P l → Some Q l
+pub some-map : {A : Type 0} (P Q : A → Type 0) → ((x : A) → P x → Q x) → (l : List A) → Some P l → Some Q l
 some-map P Q f [] h = h
 some-map P Q f (x ∷ l) (inl h) = inl (f x h)
 some-map P Q f (x ∷ l) (inr h) = inr (some-map P Q f l h)
 
-some-any : {A : Type 0} (P : A → Type 0) (R : Type 0) → ((x : A) → P x → R) → (l : List A) → Some P l → R
+pub some-any : {A : Type 0} (P : A → Type 0) (R : Type 0) → ((x : A) → P x → R) → (l : List A) → Some P l → R
 some-any P R f [] h = absurd h
 some-any P R f (x ∷ l) (inl h) = f x h
 some-any P R f (x ∷ l) (inr h) = some-any P R f l h
@@ -68,7 +68,7 @@ some-either P Q R f (x ∷ l) (inl h) = ⊎-elim (λ (q : Q x). inl (inl q)) (λ
 some-either P Q R f (x ∷ l) (inr h) = ⊎-elim (λ (q : Some Q l). inl (inr q)) (λ (r : Some R l). inr (inr r)) (some-either P Q R f l h)
 
 -- with a good text for each record
-some-texts : (P : Entry → Type 0) (R : Type 0) → ((x : Entry) → isText (x .text) ≡ true → P x → R) → (l : List Entry) → EntryTexts l → Some P l → R
+pub some-texts : (P : Entry → Type 0) (R : Type 0) → ((x : Entry) → isText (x .text) ≡ true → P x → R) → (l : List Entry) → EntryTexts l → Some P l → R
 some-texts P R f [] w h = absurd h
 some-texts P R f (x ∷ l) w (inl h) = f x (w .0) h
 some-texts P R f (x ∷ l) w (inr h) = some-texts P R f l (w .1) h
@@ -84,7 +84,7 @@ unfolding orElse
 done-one (tries.Done b) r a h = inl h
 done-one tries.Next r a h = inr (refl, h)
 
-done-next : (a : Answer) {t : Tried} → t ≡ tries.Done a → t ≡ tries.Next → ⊥
+pub done-next : (a : Answer) {t : Tried} → t ≡ tries.Done a → t ≡ tries.Next → ⊥
 done-next a h g = let z : _≡_ {A = ℕ} 0 1 = cc in omega arith
 
 -- An LF behind the line ending: no notice is unfinished there, since neither its text nor the CR behind it has one.
@@ -113,9 +113,9 @@ module _ (u : List ℕ) where
       ⊎-elim
       (λ (q : j - k < length x). omega (arith, c, List·getD-append x (bytes "\r") 0 (j - k) q, text-byte x t (j - k) q))
       (λ (q : length x ≤ j - k).
-        let m : j - k ≡ length x + 0 = omega (arith, length-drop k u) in
-        let n : getD y (length x + 0) 0 ≡ 13 = getD-append-add x (bytes "\r") 0 0 in
-        omega (arith, n, ap (λ (p : ℕ). getD y p 0) m))
+      let m : j - k ≡ length x + 0 = omega (arith, length-drop k u) in
+      let n : getD y (length x + 0) 0 ≡ 13 = getD-append-add x (bytes "\r") 0 0 in
+      omega (arith, n, ap (λ (p : ℕ). getD y p 0) m))
       (order (j - k) (length x))
 
   lf-finished : (j : ℕ) → 2 ≤ j → j < length u → getD u j 0 ≡ 10 → (l : List Entry) → EntryTexts l → Some (λ x. Unfinished (x .text) u) l → ⊥
@@ -153,16 +153,31 @@ EveryLine [] = Unit {0}
 EveryLine (l ∷ ls) = IsLine (fixedText l) × EveryLine ls
 
 nine-lines : EveryLine nine
-nine-lines =
-    (record { rest = bytes "OK\r\n"; front = refl; long = omega arith; last = refl },
-    (record { rest = bytes "CONNECT\r\n"; front = refl; long = omega arith; last = refl },
-    (record { rest = bytes "ERROR\r\n"; front = refl; long = omega arith; last = refl },
-    (record { rest = bytes "COMMAND NOT SUPPORT\r\n"; front = refl; long = omega arith; last = refl },
-    (record { rest = bytes "NO CARRIER\r\n"; front = refl; long = omega arith; last = refl },
-    (record { rest = bytes "BUSY\r\n"; front = refl; long = omega arith; last = refl },
-    (record { rest = bytes "NO ANSWER\r\n"; front = refl; long = omega arith; last = refl },
-    (record { rest = bytes "NO DIALTONE\r\n"; front = refl; long = omega arith; last = refl },
-    (record { rest = bytes "NA\r\n"; front = refl; long = omega arith; last = refl }, tt)))))))))
+nine-lines = (
+  record { rest = bytes "OK\r\n"; front = refl; long = omega arith; last = refl },
+  (
+    record { rest = bytes "CONNECT\r\n"; front = refl; long = omega arith; last = refl },
+    (
+      record { rest = bytes "ERROR\r\n"; front = refl; long = omega arith; last = refl },
+      (
+        record { rest = bytes "COMMAND NOT SUPPORT\r\n"; front = refl; long = omega arith; last = refl },
+        (
+          record { rest = bytes "NO CARRIER\r\n"; front = refl; long = omega arith; last = refl },
+          (
+            record { rest = bytes "BUSY\r\n"; front = refl; long = omega arith; last = refl },
+            (
+              record { rest = bytes "NO ANSWER\r\n"; front = refl; long = omega arith; last = refl },
+              (
+                record { rest = bytes "NO DIALTONE\r\n"; front = refl; long = omega arith; last = refl },
+                (record { rest = bytes "NA\r\n"; front = refl; long = omega arith; last = refl }, tt),
+              ),
+            ),
+          ),
+        ),
+      ),
+    ),
+  ),
+)
 
 wrapped-long : (x : List ℕ) → length (wrapped x) ≡ length x + 4
 wrapped-long x = omega (arith, length-append x crlf)
@@ -194,7 +209,7 @@ Broken ts s e = Some (λ x. Unfinished (x .text) (drop e s)) (ofMark mark.Notice
 abbrev Sound : List Token → List ℕ → ℕ → Answer → Type 0
 Sound ts s e a = Hit ts s e a ⊎ ((a ≡ nothing e) × Broken ts s e)
 
-stands-here : (t s : List ℕ) (k : ℕ) → stands t s k ≡ stands t (drop k s) 0
+pub stands-here : (t s : List ℕ) (k : ℕ) → stands t s k ≡ stands t (drop k s) 0
 stands-here t s k = ap (stands t s) (sym (add-zero k)) ∙ sym (stands-drop t s k 0)
 
 module _ (ts : List Token) (good : Texts ts) (s : List ℕ) (e : ℕ) where
@@ -259,7 +274,7 @@ module _ (ts : List Token) (good : Texts ts) (s : List ℕ) (e : ℕ) where
       inl (ap (stands (wrapped (x .text)) s) (sym a) ∙ found-at (wrapped (x .text)) s e j q .here, sym b)
   custom-at x l Nothing q r ih n len k h = inr (ih n len k h)
 
-  custom-some : (l : List Entry) (n len k : ℕ) → firstCustom l s e ≡ occurs.At n len k → Some (CustomAt len k) l
+  pub custom-some : (l : List Entry) (n len k : ℕ) → firstCustom l s e ≡ occurs.At n len k → Some (CustomAt len k) l
   unfolding firstCustom
   custom-some [] n len k h = let z : _≡_ {A = ℕ} 0 1 = cc in absurd (omega arith)
   custom-some (x ∷ l) n len k h = custom-at x l (findIn (wrapped (x .text)) s e) refl (firstCustom l s e) (λ m b j g. custom-some l m b j g) n len k h
@@ -297,8 +312,8 @@ module _ (ts : List Token) (good : Texts ts) (s : List ℕ) (e : ℕ) where
           ends = sym d;
           found = g;
           finished =
-            lf-finished u (w .b + lineEnding u (w .b) - 1) (omega (arith, w .spaces .0, w .digits .0, w .ended .0)) (omega (arith, w .ended .0)) (ending-lf u (w .b) (w .ended .0)) (ofMark mark.Notice 0 ts)
-            (mark-texts mark.Notice 0 ts good);
+              lf-finished u (w .b + lineEnding u (w .b) - 1) (omega (arith, w .spaces .0, w .digits .0, w .ended .0)) (omega (arith, w .ended .0)) (ending-lf u (w .b) (w .ended .0)) (ofMark mark.Notice 0 ts)
+              (mark-texts mark.Notice 0 ts good);
         }
 
     numeric-sound : (a : Answer) → numericFrom c h s e ≡ tries.Done a → Hit ts s e a
@@ -373,20 +388,20 @@ module _ (ts : List Token) (good : Texts ts) (s : List ℕ) (e : ℕ) where
       let good-l = mark-texts mark.Notice 0 ts good in
       ⊎-elim
       (λ (q : Some (EndedBy a) l).
-        let i : Some (λ x. NoticeEnded (x .text) (drop e s) (a .consumed - e)) l = some-map (EndedBy a) (λ x. NoticeEnded (x .text) (drop e s) (a .consumed - e)) (λ x v. v .0) l q in
-        inl (some-any (EndedBy a) (Hit ts s e a) (λ x v.
-          let b = notice-lf (x .text) (drop e s) (a .consumed - e) (v .0) in
-          record {
-            p = e;
-            n = a .consumed - e;
-            at = inl refl;
-            item = items.notice i;
-            ends = omega (arith, v .1 .0);
-            found = v .1 .1;
-            finished = lf-finished (drop e s) (a .consumed - e - 1) (omega (arith, b .1 .0)) (omega (arith, b .0, b .1 .0)) (b .1 .1) l good-l;
-          }) l q))
+      let i : Some (λ x. NoticeEnded (x .text) (drop e s) (a .consumed - e)) l = some-map (EndedBy a) (λ x. NoticeEnded (x .text) (drop e s) (a .consumed - e)) (λ x v. v .0) l q in
+      inl (some-any (EndedBy a) (Hit ts s e a) (λ x v.
+      let b = notice-lf (x .text) (drop e s) (a .consumed - e) (v .0) in
+      record {
+        p = e;
+        n = a .consumed - e;
+        at = inl refl;
+        item = items.notice i;
+        ends = omega (arith, v .1 .0);
+        found = v .1 .1;
+        finished = lf-finished (drop e s) (a .consumed - e - 1) (omega (arith, b .1 .0)) (omega (arith, b .0, b .1 .0)) (b .1 .1) l good-l;
+      }) l q))
       (λ (q : Some (BrokenBy a) l).
-        inr (some-any (BrokenBy a) (a ≡ nothing e) (λ x v. v .1) l q, some-map (BrokenBy a) (λ x. Unfinished (x .text) (drop e s)) (λ x v. v .0) l q))
+      inr (some-any (BrokenBy a) (a ≡ nothing e) (λ x v. v .1) l q, some-map (BrokenBy a) (λ x. Unfinished (x .text) (drop e s)) (λ x v. v .0) l q))
       (some-either (λ x. heard (noticeAt (x .text) s e) (x .number) s e ≡ tries.Done a) (EndedBy a) (BrokenBy a)
       (λ x v. one-heard x a (noticeAt (x .text) (drop e s) 0) refl (rw (notice-moved (x .text) s e) at v)) l (notices-some l a h))
 
@@ -427,11 +442,11 @@ module _ (ts : List Token) (good : Texts ts) (s : List ℕ) (e : ℕ) where
     customs-some (x ∷ l) a h =
         ⊎-elim
         (λ (q : promptTried (customPrompt (x .text) s e) (x .prompt) s ≡ tries.Done a).
-          let w = prompt-done (customPrompt (x .text) s e) (x .prompt) a q in
-          (inl (ends-told (x .text) (drop e s) (sym (custom-moved (x .text) s e) ∙ w .0)), w .1))
+        let w = prompt-done (customPrompt (x .text) s e) (x .prompt) a q in
+        (inl (ends-told (x .text) (drop e s) (sym (custom-moved (x .text) s e) ∙ w .0)), w .1))
         (λ (q : (promptTried (customPrompt (x .text) s e) (x .prompt) s ≡ tries.Next) × (customPrompts l s e ≡ tries.Done a)).
-          let w = customs-some l a (q .1) in
-          (inr (w .0), w .1))
+        let w = customs-some l a (q .1) in
+        (inr (w .0), w .1))
         (done-one (promptTried (customPrompt (x .text) s e) (x .prompt) s) (customPrompts l s e) a h)
 
     prompts-sound : (a : Answer) → prompts (ofMark mark.Prompt 0 ts) s e ≡ tries.Done a → Hit ts s e a
@@ -441,10 +456,10 @@ module _ (ts : List Token) (good : Texts ts) (s : List ℕ) (e : ℕ) where
         ⊎-elim
         (λ (q : customPrompts l s e ≡ tries.Done a). let w = customs-some l a q in all-hit (items.customPrompt (w .0) refl) a (w .1 .0) (w .1 .1))
         (λ (q : (customPrompts l s e ≡ tries.Next) × (orElse (promptTried (promptFrom 62 s e) 62 s) (promptTried (promptFrom 64 s e) 64 s) ≡ tries.Done a)).
-          ⊎-elim
-          (λ (r : promptTried (promptFrom 62 s e) 62 s ≡ tries.Done a). prompt-sound 62 (λ v. inl v) a r)
-          (λ (r : (promptTried (promptFrom 62 s e) 62 s ≡ tries.Next) × (promptTried (promptFrom 64 s e) 64 s ≡ tries.Done a)). prompt-sound 64 (λ v. inr v) a (r .1))
-          (done-one (promptTried (promptFrom 62 s e) 62 s) (promptTried (promptFrom 64 s e) 64 s) a (q .1)))
+        ⊎-elim
+        (λ (r : promptTried (promptFrom 62 s e) 62 s ≡ tries.Done a). prompt-sound 62 (λ v. inl v) a r)
+        (λ (r : (promptTried (promptFrom 62 s e) 62 s ≡ tries.Next) × (promptTried (promptFrom 64 s e) 64 s ≡ tries.Done a)). prompt-sound 64 (λ v. inr v) a (r .1))
+        (done-one (promptTried (promptFrom 62 s e) 62 s) (promptTried (promptFrom 64 s e) 64 s) a (q .1)))
         (done-one (customPrompts l s e) (orElse (promptTried (promptFrom 62 s e) 62 s) (promptTried (promptFrom 64 s e) 64 s)) a h)
 
   -- the chains of rules 3 and 5: whichever answered, an item was found
@@ -492,9 +507,9 @@ module _ (ts : List Token) (good : Texts ts) (s : List ℕ) (e : ℕ) where
       ⊎-elim
       (λ (q : n ≡ tries.Done a). notices-sound a q)
       (λ (q : (n ≡ tries.Next) × (orElse (successes (ofMark mark.Success 0 ts) s e) (orElse (prompts (ofMark mark.Prompt 0 ts) s e) (errors (ofMark mark.Error 0 ts) s e)) ≡ tries.Done a)).
-        inl
-        (either (successes (ofMark mark.Success 0 ts) s e) (orElse (prompts (ofMark mark.Prompt 0 ts) s e) (errors (ofMark mark.Error 0 ts) s e)) a (successes-sound a)
-        (either (prompts (ofMark mark.Prompt 0 ts) s e) (errors (ofMark mark.Error 0 ts) s e) a (prompts-sound i (q .0) a) (errors-sound a)) (q .1)))
+      inl
+      (either (successes (ofMark mark.Success 0 ts) s e) (orElse (prompts (ofMark mark.Prompt 0 ts) s e) (errors (ofMark mark.Error 0 ts) s e)) a (successes-sound a)
+      (either (prompts (ofMark mark.Prompt 0 ts) s e) (errors (ofMark mark.Error 0 ts) s e) a (prompts-sound i (q .0) a) (errors-sound a)) (q .1)))
       (done-one n (orElse (successes (ofMark mark.Success 0 ts) s e) (orElse (prompts (ofMark mark.Prompt 0 ts) s e) (errors (ofMark mark.Error 0 ts) s e))) a h)
 
   -- where no rule answers, no item stands where buf begins
@@ -534,7 +549,7 @@ module _ (ts : List Token) (good : Texts ts) (s : List ℕ) (e : ℕ) where
   unfolding headTried
   no-head h g = done-next (answer kind.NotAllowed 0 0 0 (e + 6)) (ap (λ (b : Bool). headTried b e) (stands-here (fixedText fixed.Na) s e ∙ g)) h
 
-  occurs-none : (f : Found) (x : Entry) (r : Occurs) → occursOr f x r ≡ occurs.Nothing → (f ≡ Nothing) × (r ≡ occurs.Nothing)
+  pub occurs-none : (f : Found) (x : Entry) (r : Occurs) → occursOr f x r ≡ occurs.Nothing → (f ≡ Nothing) × (r ≡ occurs.Nothing)
   unfolding occursOr
   occurs-none (At k) x r h = let z : _≡_ {A = ℕ} 0 1 = cc in absurd (omega arith)
   occurs-none Nothing x r h = (refl, h)
@@ -564,12 +579,12 @@ module _ (ts : List Token) (good : Texts ts) (s : List ℕ) (e : ℕ) where
       let i : numericTried c (atFound (fixedText h) s (findIn (fixedText h) s e)) ≡ tries.Done (answer c (d .code) 0 0 (d .end)) = ap (λ (f : Found). numericTried c (atFound (fixedText h) s f)) q ∙ (unfold atFound in ap (numericTried c) r) ∙ (unfold numericTried in refl) in
       done-next (answer c (d .code) 0 0 (d .end)) i g
 
-  no-prompt : (b : Bool) (c : ℕ) → promptTried b c s ≡ tries.Next → b ≡ true → ⊥
+  pub no-prompt : (b : Bool) (c : ℕ) → promptTried b c s ≡ tries.Next → b ≡ true → ⊥
   unfolding promptTried
   no-prompt true c h g = done-next (answer kind.Prompt c 0 0 (length s)) refl h
   no-prompt false c h g = false-true g refl
 
-  no-customs : (l : List Entry) → EntryTexts l → customPrompts l s e ≡ tries.Next → Some (λ x. EndsIn (x .text) (drop e s)) l → ⊥
+  pub no-customs : (l : List Entry) → EntryTexts l → customPrompts l s e ≡ tries.Next → Some (λ x. EndsIn (x .text) (drop e s)) l → ⊥
   unfolding customPrompts
   no-customs [] w h g = g
   no-customs (x ∷ l) w h (inl v) =
@@ -578,27 +593,27 @@ module _ (ts : List Token) (good : Texts ts) (s : List ℕ) (e : ℕ) where
   no-customs (x ∷ l) w h (inr v) = no-customs l (w .1) (next-both (promptTried (customPrompt (x .text) s e) (x .prompt) s) (customPrompts l s e) h .1) v
 
   -- each rule that didn't answer, from the chain that didn't
-  record Silent : Type 0 where
-    heardNone : notices (ofMark mark.Notice 0 ts) s e ≡ tries.Next
-    customOk : firstCustom (ofMark mark.Success 0 ts) s e ≡ occurs.Nothing
-    ok : lineSuccess fixed.Ok (findIn (fixedText fixed.Ok) s e) s e ≡ tries.Next
-    connect : lineSuccess fixed.Connect (findIn (fixedText fixed.Connect) s e) s e ≡ tries.Next
-    customs : customPrompts (ofMark mark.Prompt 0 ts) s e ≡ tries.Next
-    greater : promptTried (promptFrom 62 s e) 62 s ≡ tries.Next
-    atSign : promptTried (promptFrom 64 s e) 64 s ≡ tries.Next
-    customBad : firstCustom (ofMark mark.Error 0 ts) s e ≡ occurs.Nothing
-    cme : numericFrom kind.Cme fixed.Cme s e ≡ tries.Next
-    cms : numericFrom kind.Cms fixed.Cms s e ≡ tries.Next
-    modem : numericFrom kind.Unknown fixed.Modem s e ≡ tries.Next
-    error : lineFrom kind.Error fixed.Error s e ≡ tries.Next
-    command : lineFrom kind.Error fixed.CommandNotSupport s e ≡ tries.Next
-    carrier : lineFrom kind.NoCarrier fixed.NoCarrier s e ≡ tries.Next
-    busy : lineFrom kind.Busy fixed.Busy s e ≡ tries.Next
-    noAnswer : lineFrom kind.NoAnswer fixed.NoAnswer s e ≡ tries.Next
-    dialtone : lineFrom kind.NoDialtone fixed.NoDialtone s e ≡ tries.Next
-    na : headTried (stands (fixedText fixed.Na) s e) e ≡ tries.Next
+  pub record Silent : Type 0 where
+    pub heardNone : notices (ofMark mark.Notice 0 ts) s e ≡ tries.Next
+    pub customOk : firstCustom (ofMark mark.Success 0 ts) s e ≡ occurs.Nothing
+    pub ok : lineSuccess fixed.Ok (findIn (fixedText fixed.Ok) s e) s e ≡ tries.Next
+    pub connect : lineSuccess fixed.Connect (findIn (fixedText fixed.Connect) s e) s e ≡ tries.Next
+    pub customs : customPrompts (ofMark mark.Prompt 0 ts) s e ≡ tries.Next
+    pub greater : promptTried (promptFrom 62 s e) 62 s ≡ tries.Next
+    pub atSign : promptTried (promptFrom 64 s e) 64 s ≡ tries.Next
+    pub customBad : firstCustom (ofMark mark.Error 0 ts) s e ≡ occurs.Nothing
+    pub cme : numericFrom kind.Cme fixed.Cme s e ≡ tries.Next
+    pub cms : numericFrom kind.Cms fixed.Cms s e ≡ tries.Next
+    pub modem : numericFrom kind.Unknown fixed.Modem s e ≡ tries.Next
+    pub error : lineFrom kind.Error fixed.Error s e ≡ tries.Next
+    pub command : lineFrom kind.Error fixed.CommandNotSupport s e ≡ tries.Next
+    pub carrier : lineFrom kind.NoCarrier fixed.NoCarrier s e ≡ tries.Next
+    pub busy : lineFrom kind.Busy fixed.Busy s e ≡ tries.Next
+    pub noAnswer : lineFrom kind.NoAnswer fixed.NoAnswer s e ≡ tries.Next
+    pub dialtone : lineFrom kind.NoDialtone fixed.NoDialtone s e ≡ tries.Next
+    pub na : headTried (stands (fixedText fixed.Na) s e) e ≡ tries.Next
 
-  silent : tried ts s e ≡ tries.Next → Silent
+  pub silent : tried ts s e ≡ tries.Next → Silent
   unfolding tried successes prompts errors numericErrors lineErrors
   silent h =
       let a = next-both (notices (ofMark mark.Notice 0 ts) s e) _ h in
@@ -686,7 +701,7 @@ module _ (s : List ℕ) where
       (⊎-elim (λ (l : p < k). absurd (false-true g (w .first p h l))) (λ (l : k ≤ p). l) (order p k), w .here)
   crlf-from a Nothing q p h g = absurd (false-true g (found-none crlf s a q p h))
 
-  first-crlf : (p : ℕ) → stands crlf s p ≡ true → (skipped s ≤ p) × (stands crlf s (skipped s) ≡ true)
+  pub first-crlf : (p : ℕ) → stands crlf s p ≡ true → (skipped s ≤ p) × (stands crlf s (skipped s) ≡ true)
   unfolding skipped
   first-crlf p g =
       let a = past (isBlank sets.Space) s 0 in
@@ -710,7 +725,7 @@ module _ (s : List ℕ) where
   crlf-apart : (p : ℕ) → stands crlf s p ≡ true → stands crlf s (p + 1) ≡ true → ⊥
   crlf-apart p h g = omega (arith, crlf-lf s p h, stands-byte 13 (10 ∷ []) s (p + 1) g .1 .0)
 
-  only-skip : ((j : ℕ) → stands crlf s j ≡ false) → skipped s ≡ past (isBlank sets.Space) s 0
+  pub only-skip : ((j : ℕ) → stands crlf s j ≡ false) → skipped s ≡ past (isBlank sets.Space) s 0
   unfolding skipped
   only-skip h = go (findIn crlf s (past (isBlank sets.Space) s 0)) refl
     where
@@ -725,10 +740,10 @@ module _ (s : List ℕ) where
       ⊎-elim
       (λ (q : skipped s ≡ p). inl (sym q))
       (λ (q : skipped s < p).
-        ⊎-elim
-        (λ (r : skipped s + 1 ≡ p). absurd (crlf-apart (skipped s) (w .1) (ap (stands crlf s) r ∙ h)))
-        (λ (r : skipped s + 1 < p). inr (omega arith, (h, w .1)))
-        (eq-or-lt-of-le {n = skipped s + 1} {m = p} (omega arith)))
+      ⊎-elim
+      (λ (r : skipped s + 1 ≡ p). absurd (crlf-apart (skipped s) (w .1) (ap (stands crlf s) r ∙ h)))
+      (λ (r : skipped s + 1 < p). inr (omega arith, (h, w .1)))
+      (eq-or-lt-of-le {n = skipped s + 1} {m = p} (omega arith)))
       (eq-or-lt-of-le (w .0))
   start-is p (onlyOne h a l b) = inl (sym (only-skip h ∙ past-is (isBlank sets.Space) s 0 p (omega arith) (omega arith) a (λ q. b)))
 
@@ -801,12 +816,12 @@ module _ (ts : List Token) (good : Texts ts) where
   item-long u n c (items.customPrompt h g) =
       some-texts (λ x. EndsIn (x .text) u) (3 ≤ length u)
       (λ x t v.
-        let l = text-some (x .text) t in
-        let f = stands-fits (x .text) u (v .q) (omega arith) (v .here) in
-        let b : getD u (v .q + 0) 0 ≡ getD (x .text) 0 0 = stands-getD (x .text) u (v .q) 0 (v .here) (omega arith) in
-        let w = text-byte (x .text) t 0 (omega arith) in
-        let k : v .q + 0 ≡ v .q = omega arith in
-        omega (arith, byte-behind u (v .q) (getD (x .text) 0 0) c (ap (λ (m : ℕ). getD u m 0) (sym k) ∙ b) (λ z. omega arith) (λ z. omega arith)))
+      let l = text-some (x .text) t in
+      let f = stands-fits (x .text) u (v .q) (omega arith) (v .here) in
+      let b : getD u (v .q + 0) 0 ≡ getD (x .text) 0 0 = stands-getD (x .text) u (v .q) 0 (v .here) (omega arith) in
+      let w = text-byte (x .text) t 0 (omega arith) in
+      let k : v .q + 0 ≡ v .q = omega arith in
+      omega (arith, byte-behind u (v .q) (getD (x .text) 0 0) c (ap (λ (m : ℕ). getD u m 0) (sym k) ∙ b) (λ z. omega arith) (λ z. omega arith)))
       (ofMark mark.Prompt 0 ts) (mark-texts mark.Prompt 0 ts good) h
 
   -- Complete: a line start that holds a finished item, and the digest isn't None.
@@ -838,15 +853,15 @@ module _ (ts : List Token) (good : Texts ts) where
         ⊎-elim
         (λ (h : Hit ts s (skipped s) a). h .found)
         (λ (h : (a ≡ nothing (skipped s)) × Broken ts s (skipped s)).
-          absurd (⊎-elim
-          (λ (k : p ≡ skipped s). w .finished (rw k (h .1)))
-          (λ (k : (skipped s + 2 ≤ p) × ((stands crlf s p ≡ true) × (stands crlf s (skipped s) ≡ true))).
-            let e = skipped s in
-            let i : e + (p + 1 - e) ≡ p + 1 = omega (arith, k .0) in
-            let b : getD (drop e s) (p + 1 - e) 0 ≡ 10 = getD-drop e s (p + 1 - e) 0 ∙ ap (λ (m : ℕ). getD s m 0) i ∙ crlf-lf s p (k .1 .0) in
-            let o = stands-fits crlf s p (omega arith) (k .1 .0) in
-            lf-finished (drop e s) (p + 1 - e) (omega (arith, k .0)) (rw length-drop (omega (arith, k .0))) b (ofMark mark.Notice 0 ts) (mark-texts mark.Notice 0 ts good) (h .1))
-          (start-is s p (w .start))))
+        absurd (⊎-elim
+        (λ (k : p ≡ skipped s). w .finished (rw k (h .1)))
+        (λ (k : (skipped s + 2 ≤ p) × ((stands crlf s p ≡ true) × (stands crlf s (skipped s) ≡ true))).
+        let e = skipped s in
+        let i : e + (p + 1 - e) ≡ p + 1 = omega (arith, k .0) in
+        let b : getD (drop e s) (p + 1 - e) 0 ≡ 10 = getD-drop e s (p + 1 - e) 0 ∙ ap (λ (m : ℕ). getD s m 0) i ∙ crlf-lf s p (k .1 .0) in
+        let o = stands-fits crlf s p (omega arith) (k .1 .0) in
+        lf-finished (drop e s) (p + 1 - e) (omega (arith, k .0)) (rw length-drop (omega (arith, k .0))) b (ofMark mark.Notice 0 ts) (mark-texts mark.Notice 0 ts good) (h .1))
+        (start-is s p (w .start))))
         (tried-sound ts good s (skipped s) (skipped-le s) a q)
     at-level tries.Next q =
         ⊎-elim
@@ -867,25 +882,25 @@ module _ (ts : List Token) (good : Texts ts) where
         q = m + w .q;
         here = sym (stands-drop (c ∷ []) u m (w .q)) ∙ w .here;
         first = λ j a b.
-          ⊎-elim
-          (λ (k : j < m). h j k)
-          (λ (k : m ≤ j).
+            ⊎-elim
+            (λ (k : j < m). h j k)
+            (λ (k : m ≤ j).
             let i : m + (j - m) ≡ j = omega arith in
             ap (stands (c ∷ []) u) (sym i) ∙ sym (stands-drop (c ∷ []) u m (j - m)) ∙ w .first (j - m) (omega arith) (omega arith))
-          (order j m);
+            (order j m);
         after = λ j a b.
-          let i : m + (j - m) ≡ j = omega arith in
-          ap (λ (k : ℕ). isBlank sets.Run (getD u k 0)) (sym i) ∙ ap (isBlank sets.Run) (sym (getD-drop m u (j - m) 0)) ∙ w .after (j - m) (omega arith) (rw length-drop (omega arith));
+            let i : m + (j - m) ≡ j = omega arith in
+            ap (λ (k : ℕ). isBlank sets.Run (getD u k 0)) (sym i) ∙ ap (isBlank sets.Run) (sym (getD-drop m u (j - m) 0)) ∙ w .after (j - m) (omega arith) (rw length-drop (omega arith));
       }
 
-  ends-back : (x u : List ℕ) (m : ℕ) → EndsIn x (drop m u) → EndsIn x u
+  pub ends-back : (x u : List ℕ) (m : ℕ) → EndsIn x (drop m u) → EndsIn x u
   ends-back x u m w =
       record {
         q = m + w .q;
         here = sym (stands-drop x u m (w .q)) ∙ w .here;
         after = λ j a b.
-          let i : m + (j - m) ≡ j = omega arith in
-          ap (λ (k : ℕ). isBlank sets.Run (getD u k 0)) (sym i) ∙ ap (isBlank sets.Run) (sym (getD-drop m u (j - m) 0)) ∙ w .after (j - m) (omega arith) (rw length-drop (omega arith));
+            let i : m + (j - m) ≡ j = omega arith in
+            ap (λ (k : ℕ). isBlank sets.Run (getD u k 0)) (sym i) ∙ ap (isBlank sets.Run) (sym (getD-drop m u (j - m) 0)) ∙ w .after (j - m) (omega arith) (rw length-drop (omega arith));
       }
 
   no-crlf-line : (u : List ℕ) → ((j : ℕ) → stands crlf u j ≡ false) → (t r : List ℕ) → t ≡ crlf ++ r → stands t u 0 ≡ true → ⊥
@@ -966,12 +981,12 @@ module _ (ts : List Token) (good : Texts ts) where
         n = h .n;
         holds = record {
           start =
-            ⊎-elim
-            (λ (q : h .p ≡ skipped s).
+              ⊎-elim
+              (λ (q : h .p ≡ skipped s).
               let m = item-some (drop (h .p) s) (h .n) (h .item) in
               rw q (start-here s (omega (arith, m, length-drop (h .p) s))))
-            (λ (q : stands crlf s (h .p) ≡ true). atCrlf q)
-            (h .at);
+              (λ (q : stands crlf s (h .p) ≡ true). atCrlf q)
+              (h .at);
           item = h .item;
           finished = h .finished;
         };

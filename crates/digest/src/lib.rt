@@ -127,16 +127,16 @@ fn made(kind: Kind, n: u32, place: usize, len: usize, consumed: usize) -> Answer
     }
 }
 
-// The answer None with `consumed` bytes consumed.
-fn nothing(consumed: usize) -> Answer
-    ensures { λ r. ⌜ r ≡ nothing consumed ⌝ }
+// The answer None with e bytes consumed.
+fn nothing(e: usize) -> Answer
+    ensures { λ r. ⌜ r ≡ nothing e ⌝ }
 {
     Answer {
         kind: Kind::None,
         number: 0,
         place: 0,
         len: 0,
-        consumed: consumed,
+        consumed: e,
     }
 }
 
@@ -145,9 +145,9 @@ fn shifted(a: Answer, d: usize) -> Answer
     requires { ⌜ (a .place + d ≤ 4096) × (a .consumed + d ≤ 4096) ⌝ }
     ensures { λ r. ⌜ r ≡ shift d a ⌝ }
 {
-    let kind = a.kind;
+    let same = a.kind;
     Answer {
-        kind: kind,
+        kind: same,
         number: a.number,
         place: placed_at(a.len, a.place + d),
         len: a.len,
@@ -489,10 +489,10 @@ pub fn digest(table: &[u8], input: &[u8]) -> Digested
 pub fn digest_checked(table: &[u8], input: &[u8]) -> Answer
     ensures { λ r. ⌜ r ≡ digestChecked (now (table .entry)) (now (input .entry)) ⌝ }
 {
-    if LONGEST < input.len() {
-        return nothing(0);
+    if input.len() <= LONGEST {
+        return digest_in(table, input);
     }
-    digest_in(table, input)
+    nothing(0)
 }
 
 // The payload of an answer as a part of the caller's own input; a place and length that don't fit give its empty front part.

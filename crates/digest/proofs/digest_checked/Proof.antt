@@ -7,21 +7,21 @@ use Rattle.table.specs.declared.Mark.the-variants as mark
 use Rattle.parser.specs.declared.Fixed.the-variants as fixed
 use Rattle.digest.proofs.digest_checked.Tie as tie
 
-nothing-requires : tie.Need-nothing-requires
-nothing-requires c κs = search needs
+digest-in-requires : tie.Need-digest-in-requires
+digest-in-requires c κs = search needs
 
 returns : tie.Need-returns
 returns c =
     let args = c .before .before .before .before .args in
-    checked-long (args .table .now) (args .input .now) (c .before .if1 .taken) _ (c .nothing .ensures)
+    checked-is (args .table .now) (args .input .now) (c .before .if1 .taken) _ (c .digest-in .ensures)
 
-digest-in-requires : tie.Need-digest-in-requires
-digest-in-requires c κs = search needs
+nothing-requires : tie.Need-nothing-requires
+nothing-requires c κs = search needs
 
 returns-2 : tie.Need-returns-2
 returns-2 c =
     let args = c .before .before .before .before .args in
-    checked-is (args .table .now) (args .input .now) (c .before .if1 .left) _ (c .digest-in .ensures)
+    checked-long (args .table .now) (args .input .now) (c .before .if1 .left) _ (c .nothing .ensures)
 
 pub digest-checked-spec : {M : Type 1} → statement M
-digest-checked-spec = tie.close (tie.spec nothing-requires returns digest-in-requires returns-2)
+digest-checked-spec = tie.close (tie.spec digest-in-requires returns nothing-requires returns-2)
