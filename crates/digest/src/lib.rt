@@ -60,7 +60,7 @@ pub enum Occurs {
 }
 
 // The number that is stored for a kind: n where it has one, else 0.
-fn number_of(kind: Kind, n: u32) -> u32
+pub fn number_of(kind: Kind, n: u32) -> u32
     ensures { λ r. ⌜ r ≡ stored (numbered kind n) ⌝ }
 {
     match kind {

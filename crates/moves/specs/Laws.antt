@@ -1,0 +1,69 @@
+-- Laws of `put` and `moved`. Both loops copy a list over another byte by byte, which is the library's `paste`. Assumes nothing.
+use mathlib.Core.Path.{_≡_, refl, sym, ap, _∙_}
+use mathlib.Core.Bool.{Bool, true, false, _&&_}
+use mathlib.Core.List.{List, [], _∷_, _++_}
+use Prim.Native.Nat.{ℕ, suc, _+_, _-_, _≤_, _<_}
+use native.Mathlib.Numerals.{add-one}
+use native.Mathlib.Omega.{arith}
+use lib.ListN.{length, getD, take, drop, set, length-append, length-drop}
+use lib.Seq.{paste, paste-zero, paste-suc, length-paste, drop-paste, getD-drop, take-length, length-take-le}
+use lib.Dec.{leb}
+use borrow.Author.Tests.{le-leb, lt-leb, leb-true}
+use Rattle.moves.specs.Moves.{ifFits, put, moved}
+
+module _ (m : List ℕ) (i : ℕ) (p : List ℕ) where
+  pub put-none : length m < i + length p → m ≡ put m i p
+  unfolding put ifFits
+  put-none h = rw (lt-leb (i + length p) (length m) h)
+
+  module _ (h : i + length p ≤ length m) where
+    pub put-is : take i m ++ p ++ drop (i + length p) m ≡ put m i p
+    unfolding put ifFits
+    put-is = rw (le-leb (i + length p) (length m) h)
+
+    pub put-all : paste m i p (length p) ≡ put m i p
+    put-all = ap (λ (x : List ℕ). take i m ++ x ++ drop (i + length p) m) (take-length p) ∙ put-is
+
+  -- the memory keeps its length
+  pub put-length : length (put m i p) ≡ length m
+  unfolding put
+  put-length = go (leb (i + length p) (length m)) refl
+    where
+      go : (b : Bool) → leb (i + length p) (length m) ≡ b → length (ifFits b (take i m ++ p ++ drop (i + length p) m) m) ≡ length m
+      go true e =
+          unfold ifFits in
+          let g : i + length p ≤ length m = leb-true (i + length p) (length m) e in
+          let k : i ≤ length m = omega arith in
+          rw (length-append, length-append, length-take-le i m k, length-drop) (omega arith)
+      go false e = unfold ifFits in refl
+
+module _ (b : List ℕ) (n e : ℕ) where
+  pub moved-back : e < n → b ≡ moved b n e
+  unfolding moved ifFits
+  moved-back h = rw (lt-leb n e h)
+
+  module _ (h : n ≤ e) where
+    pub moved-past : length b < e → b ≡ moved b n e
+    unfolding moved ifFits
+    moved-past g = rw (le-leb n e h, lt-leb e (length b) g)
+
+    module _ (g : e ≤ length b) where
+      pub moved-is : take (e - n) (drop n b) ++ drop (e - n) b ≡ moved b n e
+      unfolding moved ifFits
+      moved-is = rw (le-leb n e h, le-leb e (length b) g)
+
+      pub moved-all : paste b 0 (drop n b) (e - n) ≡ moved b n e
+      moved-all = let i : 0 + (e - n) ≡ e - n = omega arith in ap (λ (k : ℕ). take (e - n) (drop n b) ++ drop k b) i ∙ moved-is
+
+-- one turn: what is copied so far, with one byte more
+pub paste-more : (d : List ℕ) (at : ℕ) (l : List ℕ) (j x : ℕ) → x ≡ getD l j 0 → at + j < length d → j < length l → set (paste d at l j) (at + j) x ≡ paste d at l (j + 1)
+paste-more d at l j x e h g = rw (e, add-one) (paste-suc d at l j 0 h g)
+
+pub front-more : (d l : List ℕ) (j x : ℕ) → x ≡ getD l j 0 → j < length d → j < length l → set (paste d 0 l j) j x ≡ paste d 0 l (j + 1)
+front-more d l j x e h g = let i : j ≡ 0 + j = omega arith in ap (λ (k : ℕ). set (paste d 0 l j) k x) i ∙ paste-more d 0 l j x e (omega arith) g
+
+-- a byte that no turn has reached is what it was
+pub paste-later : (d l : List ℕ) (j k : ℕ) → j ≤ length l → j ≤ k → getD (paste d 0 l j) k 0 ≡ getD d k 0
+paste-later d l j k h g =
+    let i : 0 + j + (k - j) ≡ k = omega arith in
+    ap (λ (x : ℕ). getD (paste d 0 l j) x 0) (sym i) ∙ sym (getD-drop (0 + j) (paste d 0 l j) (k - j) 0) ∙ ap (λ (x : List ℕ). getD x (k - j) 0) (drop-paste d 0 l j (omega arith) h) ∙ getD-drop (0 + j) d (k - j) 0 ∙ ap (λ (x : ℕ). getD d x 0) i

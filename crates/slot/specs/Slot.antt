@@ -1,0 +1,126 @@
+-- The response slot in document 01's words: what each call leaves of the slot and of its memory, and when it refuses.
+use mathlib.Core.Bool.{Bool, true, false}
+use mathlib.Core.List.{List, []}
+use Prim.Native.Nat.{ℕ}
+use lib.ListN.{length}
+use lib.Dec.{leb}
+use Rattle.moves.specs.Moves.{put, oneMore}
+use Rattle.table.specs.Outcome.{Outcome, answered, refused}
+use Rattle.digest.specs.Answer.{numbered, stored}
+use Rattle.digest.specs.declared.Kind.{Kind}
+use Rattle.digest.specs.declared.Kind.the-variants as kind
+use Rattle.digest.specs.declared.Answer.{Answer}
+use Rattle.slot.specs.declared.Held.{Held}
+use Rattle.slot.specs.declared.Held.the-variants.{Heard, Capacity}
+use Rattle.slot.specs.declared.Slot.{Slot}
+use Rattle.slot.specs.declared.Turned.{Turned}
+use Rattle.slot.specs.declared.Turned.the-variants as turns
+use Rattle.slot.specs.declared.Looked.{Looked}
+use Rattle.slot.specs.declared.Looked.the-variants as looks
+
+-- None and notices are no answers for the slot
+abbrev pub isResponse : Kind → Bool
+isResponse kind.None = false
+isResponse kind.Ok = true
+isResponse kind.Prompt = true
+isResponse kind.Cme = true
+isResponse kind.Cms = true
+isResponse kind.Unknown = true
+isResponse kind.NotAllowed = true
+isResponse kind.Error = true
+isResponse kind.NoCarrier = true
+isResponse kind.Busy = true
+isResponse kind.NoAnswer = true
+isResponse kind.NoDialtone = true
+isResponse kind.Custom = true
+isResponse kind.Notice = false
+
+-- the payload's bytes are used for Ok and custom error only
+abbrev pub carries : Kind → Bool
+carries kind.None = false
+carries kind.Ok = true
+carries kind.Prompt = false
+carries kind.Cme = false
+carries kind.Cms = false
+carries kind.Unknown = false
+carries kind.NotAllowed = false
+carries kind.Error = false
+carries kind.NoCarrier = false
+carries kind.Busy = false
+carries kind.NoAnswer = false
+carries kind.NoDialtone = false
+carries kind.Custom = true
+carries kind.Notice = false
+
+-- A new slot is free and holds an empty Ok, counts 0.
+abbrev pub newSlot : Slot
+newSlot = record { signalled = false; held = Heard kind.Ok; number = 0; len = 0; lost = 0 }
+
+-- A signal on a free slot stores the answer.
+abbrev pub filled : Slot → Kind → ℕ → ℕ → Slot
+filled x k n len = record { signalled = true; held = Heard k; number = stored (numbered k n); len = len; lost = x .lost }
+
+-- The slot reads CapacityError.
+abbrev pub overflowing : Slot → Slot
+overflowing x = record { signalled = true; held = Capacity; number = 0; len = 0; lost = x .lost }
+
+-- Nothing changes but a count of lost answers.
+abbrev pub lostOne : Slot → Slot
+lostOne x = record { signalled = x .signalled; held = x .held; number = x .number; len = x .len; lost = oneMore (x .lost) }
+
+-- Reset frees, and changes nothing else.
+abbrev pub freed : Slot → Slot
+freed x = record { signalled = false; held = x .held; number = x .number; len = x .len; lost = x .lost }
+
+-- what a call says, and the memory that it leaves
+pub record After : Type 0 where
+  pub said : Outcome Slot
+  pub memory : List ℕ
+
+abbrev pub after : Outcome Slot → List ℕ → After
+after o m = record { said = o; memory = m }
+
+-- By: does the stored length lie in the memory, is it an answer for the slot, is the slot signalled, does the kind carry a payload, does that fit?
+unfoldable pub turn : Bool → Bool → Bool → Bool → Bool → Slot → Answer → List ℕ → List ℕ → After
+turn false r t c f x a p m = after (refused 3 []) m
+turn true false t c f x a p m = after (answered x) m
+turn true true true c f x a p m = after (answered (lostOne x)) m
+turn true true false false f x a p m = after (answered (filled x (a .kind) (a .number) 0)) m
+turn true true false true false x a p m = after (answered (overflowing x)) m
+turn true true false true true x a p m = after (answered (filled x (a .kind) (a .number) (length p))) (put m 0 p)
+
+-- a signal of the answer a with the payload's bytes p, on the slot x with the memory m
+unfoldable pub signalled : Slot → Answer → List ℕ → List ℕ → After
+unfolding turn
+signalled x a p m = turn (leb (x .len) (length m)) (isResponse (a .kind)) (x .signalled) (carries (a .kind)) (leb (length p) (length m)) x a p m
+
+unfoldable pub unlessShort : Bool → Outcome Slot → Outcome Slot
+unlessShort true o = o
+unlessShort false o = refused 3 []
+
+unfoldable pub wasReset : Slot → List ℕ → Outcome Slot
+unfolding unlessShort
+wasReset x m = unlessShort (leb (x .len) (length m)) (answered (freed x))
+
+-- document 01's number for each case
+abbrev pub outcome : Turned → Outcome Slot
+outcome (turns.Is x) = answered x
+outcome turns.BadLength = refused 3 []
+
+-- What a look says: whether there is an answer, and the slot as it stood.
+pub record Reading : Type 0 where
+  pub there : Bool
+  pub slot : Slot
+
+abbrev pub reading : Looked → Outcome Reading
+reading (looks.Signalled x) = answered (record { there = true; slot = x })
+reading (looks.Nothing x) = answered (record { there = false; slot = x })
+reading looks.BadLength = refused 3 []
+
+unfoldable pub unlessShortRead : Bool → Outcome Reading → Outcome Reading
+unlessShortRead true o = o
+unlessShortRead false o = refused 3 []
+
+unfoldable pub wasRead : Slot → List ℕ → Outcome Reading
+unfolding unlessShortRead
+wasRead x m = unlessShortRead (leb (x .len) (length m)) (answered (record { there = x .signalled; slot = x }))

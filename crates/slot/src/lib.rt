@@ -1,0 +1,196 @@
+// The response slot of atat's response_slot.rs by document 01: one answer, held until the client resets it.
+// The slot is a struct by value beside lent memory; each call takes the slot and hands the next slot back, or refuses with 3
+// where the stored length is past the memory, and then neither slot nor memory has changed.
+ghost use mathlib.Core.Path.{_≡_};
+ghost use Rattle.text.specs.Text.{partOf};
+ghost use Rattle.slot.specs.Slot.{isResponse, carries, newSlot, lostOne, filled, overflowing, freed, after, signalled, outcome, wasReset, wasRead, reading};
+use digest::Answer;
+use digest::Kind;
+
+// What is stored: an answer's kind, or that its payload was longer than the memory (CapacityError).
+pub enum Held {
+    Heard(Kind),
+    Capacity,
+}
+
+pub struct Slot {
+    pub signalled: bool,
+    pub held: Held,
+    pub number: u32,
+    pub len: usize,
+    pub lost: u32,
+}
+
+// The next slot, or refusal 3.
+pub enum Turned {
+    Is(Slot),
+    BadLength,
+}
+
+// A look at the slot: it is signalled, it is free and answers nothing, or refusal 3. Looking changes nothing.
+pub enum Looked {
+    Signalled(Slot),
+    Nothing(Slot),
+    BadLength,
+}
+
+// Is it an answer for the slot? None and notices aren't.
+fn is_response(kind: Kind) -> bool
+    ensures { λ r. ⌜ r ≡ isResponse kind ⌝ }
+{
+    match kind {
+        Kind::None => false,
+        Kind::Ok => true,
+        Kind::Prompt => true,
+        Kind::Cme => true,
+        Kind::Cms => true,
+        Kind::Unknown => true,
+        Kind::NotAllowed => true,
+        Kind::Error => true,
+        Kind::NoCarrier => true,
+        Kind::Busy => true,
+        Kind::NoAnswer => true,
+        Kind::NoDialtone => true,
+        Kind::Custom => true,
+        Kind::Notice => false,
+    }
+}
+
+// Does the kind carry a payload? An Ok and a custom error do.
+fn carries_payload(kind: Kind) -> bool
+    ensures { λ r. ⌜ r ≡ carries kind ⌝ }
+{
+    match kind {
+        Kind::None => false,
+        Kind::Ok => true,
+        Kind::Prompt => false,
+        Kind::Cme => false,
+        Kind::Cms => false,
+        Kind::Unknown => false,
+        Kind::NotAllowed => false,
+        Kind::Error => false,
+        Kind::NoCarrier => false,
+        Kind::Busy => false,
+        Kind::NoAnswer => false,
+        Kind::NoDialtone => false,
+        Kind::Custom => true,
+        Kind::Notice => false,
+    }
+}
+
+impl Slot {
+    // A new slot is free and holds an empty Ok, with nothing lost.
+    pub fn new() -> Slot
+        ensures { λ r. ⌜ r ≡ newSlot ⌝ }
+    {
+        Slot {
+            signalled: false,
+            held: Held::Heard(Kind::Ok),
+            number: 0,
+            len: 0,
+            lost: 0,
+        }
+    }
+
+    // The slot with an answer stored that takes `len` bytes of the memory.
+    fn fill(self, kind: Kind, n: u32, len: usize) -> Slot
+        ensures { λ r. ⌜ r ≡ filled self kind n len ⌝ }
+    {
+        Slot {
+            signalled: true,
+            held: Held::Heard(kind),
+            number: digest::number_of(kind, n),
+            len: len,
+            lost: self.lost,
+        }
+    }
+
+    // The slot that reads CapacityError.
+    fn overflow(self) -> Slot
+        ensures { λ r. ⌜ r ≡ overflowing self ⌝ }
+    {
+        Slot {
+            signalled: true,
+            held: Held::Capacity,
+            number: 0,
+            len: 0,
+            lost: self.lost,
+        }
+    }
+
+    // The slot with one more answer lost, and nothing else changed.
+    fn lose(self) -> Slot
+        ensures { λ r. ⌜ r ≡ lostOne self ⌝ }
+    {
+        let held = self.held;
+        Slot {
+            signalled: self.signalled,
+            held: held,
+            number: self.number,
+            len: self.len,
+            lost: moves::one_more(self.lost),
+        }
+    }
+
+    // Signals an answer with its payload's bytes, which are used for an Ok or a custom error only. A free slot stores it; on a signalled one
+    // it is lost and counted; None or a notice changes nothing on either.
+    pub fn signal(self, a: Answer, p: &[u8], mem: &mut [u8]) -> Turned
+        ensures { λ r. ⌜ after (outcome r) (now (mem .exit)) ≡ signalled self a (now (p .entry)) (now (mem .entry)) ⌝ }
+    {
+        if mem.len() < self.len {
+            return Turned::BadLength;
+        }
+        let kind = a.kind;
+        if !is_response(kind) {
+            return Turned::Is(self);
+        }
+        if self.signalled {
+            return Turned::Is(self.lose());
+        }
+        if !carries_payload(kind) {
+            return Turned::Is(self.fill(kind, a.number, 0));
+        }
+        if mem.len() < p.len() {
+            return Turned::Is(self.overflow());
+        }
+        moves::put(mem, 0, p);
+        Turned::Is(self.fill(kind, a.number, p.len()))
+    }
+
+    // Frees the slot and changes nothing else.
+    pub fn reset(self, mem: &[u8]) -> Turned
+        ensures { λ r. ⌜ outcome r ≡ wasReset self (now (mem .entry)) ⌝ }
+    {
+        if mem.len() < self.len {
+            return Turned::BadLength;
+        }
+        let held = self.held;
+        Turned::Is(Slot {
+            signalled: false,
+            held: held,
+            number: self.number,
+            len: self.len,
+            lost: self.lost,
+        })
+    }
+
+    // Looks at the slot. Looking doesn't free it; a free one answers nothing.
+    pub fn lookup(self, mem: &[u8]) -> Looked
+        ensures { λ r. ⌜ reading r ≡ wasRead self (now (mem .entry)) ⌝ }
+    {
+        if mem.len() < self.len {
+            return Looked::BadLength;
+        }
+        if self.signalled {
+            return Looked::Signalled(self);
+        }
+        Looked::Nothing(self)
+    }
+
+    // The stored payload as a part of the caller's memory; a stored length past the memory gives its empty front part.
+    pub fn payload(self, mem: &[u8]) -> &[u8]
+        ensures { λ r. ⌜ now r ≡ partOf (now (mem .entry)) 0 (self .len) ⌝ }
+    {
+        text::part(mem, 0, self.len)
+    }
+}
