@@ -1,0 +1,129 @@
+-- The notice queue in document 01's words, over a geometry of records: what each call leaves of queue and memory, and when it refuses.
+use mathlib.Core.Bool.{Bool, true, false, _&&_}
+use mathlib.Core.List.{List, [], _∷_, _++_}
+use Prim.Native.Nat.{ℕ, zero, suc, _+_, _-_, _*_, _/_, min}
+use lib.ListN.{length, getD}
+use lib.Dec.{eqb, leb, ltb}
+use Rattle.text.specs.Bytes.{bytes}
+use Rattle.text.specs.Text.{stands}
+use Rattle.moves.specs.Moves.{put, oneMore}
+use Rattle.table.specs.Outcome.{Outcome, answered, refused}
+use Rattle.queue.specs.declared.Queue.{Queue}
+use Rattle.queue.specs.declared.Notice.{Notice}
+use Rattle.queue.specs.declared.Put.{Put}
+use Rattle.queue.specs.declared.Put.the-variants as puts
+use Rattle.queue.specs.declared.Taken.{Taken}
+use Rattle.queue.specs.declared.Taken.the-variants as takes
+
+-- How records lie: a record's size, its mark, what stands before its payload, the longest payload, and the most records.
+pub record Geometry : Type 0 where
+  pub size : ℕ
+  pub mark : List ℕ
+  pub head : ℕ
+  pub longest : ℕ
+  pub most : ℕ
+
+-- Records of 132 bytes: mark `UR`, table number, payload length 1 to 128, 128 payload bytes.
+abbrev pub ours : Geometry
+ours = record { size = 132; mark = bytes "UR"; head = 4; longest = 128; most = 16 }
+
+-- The memory's length divided by the record's, rounded down, at most 16.
+abbrev pub capacityOf : Geometry → ℕ → ℕ
+capacityOf g n = min (n / g .size) (g .most)
+
+-- A start below the capacity (0 if that is 0).
+unfoldable pub startIn : ℕ → ℕ → Bool
+startIn zero start = eqb start 0
+startIn (suc c) start = ltb start (suc c)
+
+-- And a count up to it.
+unfoldable pub inBounds : ℕ → Queue → Bool
+unfolding startIn
+inBounds cap x = startIn cap (x .start) && leb (x .count) cap
+
+unfoldable pub pick : Bool → ℕ → ℕ → ℕ
+pick true a b = a
+pick false a b = b
+
+-- the place i records on from start, round the ring
+unfoldable pub ringPlace : ℕ → ℕ → ℕ → ℕ
+unfolding pick
+ringPlace start i cap = pick (ltb (start + i) cap) (start + i) (start + i - cap)
+
+abbrev pub newQueue : Queue
+newQueue = record { start = 0; count = 0; lost = 0 }
+
+abbrev pub lostOne : Queue → Queue
+lostOne x = record { start = x .start; count = x .count; lost = oneMore (x .lost) }
+
+abbrev pub longer : Queue → Queue
+longer x = record { start = x .start; count = x .count + 1; lost = x .lost }
+
+-- what a call says, and the memory that it leaves
+pub record After : Type 0 where
+  pub said : Outcome Queue
+  pub memory : List ℕ
+
+abbrev pub after : Outcome Queue → List ℕ → After
+after o m = record { said = o; memory = m }
+
+-- the record next after those held: its head, and the payload behind it; unused bytes untouched
+unfoldable pub written : Geometry → Queue → ℕ → List ℕ → List ℕ → List ℕ
+unfolding ringPlace
+written g x number p m =
+    let base = g .size * ringPlace (x .start) (x .count) (capacityOf g (length m)) in
+    put (put m base (g .mark ++ (number ∷ length p ∷ []))) (base + g .head) p
+
+-- By: is the queue within its bounds, is the payload 1 to 128 bytes long, is there room? In this order: 3, a lost notice even when full, 5.
+unfoldable pub putBy : Bool → Bool → Bool → Geometry → Queue → ℕ → List ℕ → List ℕ → After
+unfolding written
+putBy false l r g x number p m = after (refused 3 []) m
+putBy true false r g x number p m = after (answered (lostOne x)) m
+putBy true true false g x number p m = after (refused 5 []) m
+putBy true true true g x number p m = after (answered (longer x)) (written g x number p m)
+
+unfoldable pub putInto : Geometry → Queue → ℕ → List ℕ → List ℕ → After
+unfolding putBy
+putInto g x number p m =
+    let cap = capacityOf g (length m) in
+    putBy (inBounds cap x) (leb 1 (length p) && leb (length p) (g .longest)) (ltb (x .count) cap) g x number p m
+
+-- document 01's number for each case
+abbrev pub outcome : Put → Outcome Queue
+outcome (puts.Is x) = answered x
+outcome puts.BadBounds = refused 3 []
+outcome puts.Full = refused 5 []
+
+-- What taking gives: the next queue, and the oldest record's number with its payload's place and length, or nothing.
+pub data Got : Type 0 where
+  got : Queue → Notice → Got
+  empty : Queue → Got
+
+abbrev pub taking : Taken → Outcome Got
+taking (takes.Is x n) = answered (got x n)
+taking (takes.Nothing x) = answered (empty x)
+taking takes.Bad = refused 3 []
+
+-- Moves the start one on round the ring and lowers the count.
+unfoldable pub shorter : ℕ → Queue → Queue
+unfolding ringPlace
+shorter cap x = record { start = ringPlace (x .start) 1 cap; count = x .count - 1; lost = x .lost }
+
+-- the record at `base` has the mark and a length of 1 to 128
+unfoldable pub recordGood : Geometry → List ℕ → ℕ → Bool
+recordGood g m base = let len = getD m (base + 3) 0 in stands (g .mark) m base && (leb 1 len && leb len (g .longest))
+
+abbrev pub noticeAt : Geometry → List ℕ → ℕ → Notice
+noticeAt g m base = record { number = getD m (base + 2) 0; place = base + g .head; len = getD m (base + 3) 0 }
+
+-- By: is the queue within its bounds, does it hold a record, is that record good? Taking changes no byte.
+unfoldable pub takeBy : Bool → Bool → Bool → Geometry → Queue → List ℕ → Outcome Got
+unfolding shorter
+takeBy false c r g x m = refused 3 []
+takeBy true false r g x m = answered (empty x)
+takeBy true true false g x m = refused 3 []
+takeBy true true true g x m = answered (got (shorter (capacityOf g (length m)) x) (noticeAt g m (g .size * x .start)))
+
+unfoldable pub taken : Geometry → Queue → List ℕ → Outcome Got
+unfolding takeBy
+taken g x m = takeBy (inBounds (capacityOf g (length m)) x) (leb 1 (x .count)) (recordGood g m (g .size * x .start)) g x m
