@@ -164,10 +164,10 @@ impl Slot {
         if mem.len() < self.len {
             return Turned::BadLength;
         }
-        let held = self.held;
+        let stored = self.held;
         Turned::Is(Slot {
             signalled: false,
-            held: held,
+            held: stored,
             number: self.number,
             len: self.len,
             lost: self.lost,
