@@ -1,6 +1,6 @@
 -- Demand 3, first half, as `digest` promises it: over document 01's line starts and finished items, and no search.
 use mathlib.Core.Path.{_≡_}
-use mathlib.Core.Bool.{Bool, true, false}
+use mathlib.Core.Bool.{true, false}
 use mathlib.Core.List.{List}
 use Prim.Native.Nat.{ℕ, _+_, _≤_}
 use lib.ListN.{length}

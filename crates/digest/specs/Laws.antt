@@ -1,27 +1,27 @@
 -- Laws of the rules: the ways out of each function, over plain lists. Assumes nothing.
 use mathlib.Core.Path.{_≡_, refl, sym, ap, _∙_}
-use mathlib.Core.Bool.{Bool, true, false, _&&_}
+use mathlib.Core.Bool.{Bool, true, false}
 use mathlib.Core.List.{List, [], _∷_}
 use Prim.Native.Nat.{ℕ, zero, suc, _+_, _-_, _≤_, _<_}
 use native.Mathlib.Omega.{arith}
-use lib.ListN.{length, take, drop, length-drop, length-append}
+use lib.ListN.{length, take, drop, length-append}
 use lib.Dec.{ltb}
-use borrow.Author.Tests.{ltb-true, le-ltb, lt-ltb}
-use Rattle.text.specs.Logic.{false-true, and-both}
+use borrow.Author.Tests.{ltb-true}
+use Rattle.text.specs.Logic.{and-both}
 use Rattle.text.specs.Text.{isBlank, past, trimmed, stands, findIn}
-use Rattle.text.specs.Laws.{FoundAt, found-at, past-bounds, stands-fits, trimmed-fits, length-part, rest}
+use Rattle.text.specs.Laws.{found-at, past-bounds, stands-fits, trimmed-fits, length-part}
 use Rattle.text.specs.declared.Blanks.the-variants as blanks
 use Rattle.text.specs.declared.Span.{Span}
 use Rattle.text.specs.declared.Found.{Found}
 use Rattle.text.specs.declared.Found.the-variants.{At, Nothing}
-use Rattle.table.specs.Table.{Token, tokenOf, Entry, entryOf, textOf, ofMark, tokens, nextOf, entries}
-use Rattle.table.specs.Laws.{NextIs, next-nothing, next-first, text-length}
+use Rattle.table.specs.Table.{tokenOf, Entry, entryOf, textOf, nextOf, entries}
+use Rattle.table.specs.Laws.{next-nothing, next-first, text-length}
 use Rattle.table.specs.declared.Mark.{Mark}
 use Rattle.table.specs.declared.Mark.the-variants as mark
 use Rattle.table.specs.declared.Record.{Record}
 use Rattle.table.specs.declared.Next.{Next}
 use Rattle.table.specs.declared.Next.the-variants as next
-use Rattle.parser.specs.Parser.{crlf, fixedText, numericError, promptFrom, customPrompt, wrapped, noticeAt}
+use Rattle.parser.specs.Parser.{crlf, fixedText, numericError, customPrompt, wrapped, noticeAt}
 use Rattle.parser.specs.Laws.{fixed-some, notice-bounds}
 use Rattle.parser.specs.declared.Fixed.{Fixed}
 use Rattle.parser.specs.declared.Fixed.the-variants as fixed
@@ -37,8 +37,8 @@ use Rattle.digest.specs.declared.Occurs.{Occurs}
 use Rattle.digest.specs.declared.Occurs.the-variants as occurs
 use Rattle.digest.specs.declared.Tried.{Tried}
 use Rattle.digest.specs.declared.Tried.the-variants as tries
-use Rattle.digest.specs.Answer.{numbered, stored, isFound, placed, answer, nothing, shift}
-use Rattle.digest.specs.Digest.{orElse, foundOr, skipped, trimmedAnswer, heard, notices, occursOr, firstCustom, success, customSuccess, lineSuccess, successes, promptTried, customPrompts, prompts, customError, numericTried, lineTried, headTried, numericFrom, lineFrom, numericErrors, lineErrors, errors, tried, retries, ifFound, again, after, digestBy, digest}
+use Rattle.digest.specs.Answer.{numbered, stored, placed, answer, nothing, shift}
+use Rattle.digest.specs.Digest.{orElse, foundOr, skipped, trimmedAnswer, heard, notices, occursOr, firstCustom, success, customSuccess, lineSuccess, promptTried, customPrompts, customError, numericTried, lineTried, headTried, numericFrom, lineFrom, retries, after}
 
 -- A chain of rules: u is what the first rule t gave. It answered; or it didn't, and the rest r decides.
 pub hit : (t r u : Tried) (a : Answer) → u ≡ t → u ≡ tries.Done a → tries.Done a ≡ orElse t r

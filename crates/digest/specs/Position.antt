@@ -1,7 +1,7 @@
 -- What stands at a place, by position: each form of `Finished` is what the parser's definition computes, both ways.
 -- Rests on the parser's definitions not seeing what stands before the place (`..-moved`), so that it is enough to look at place 0. Assumes nothing.
 use mathlib.Core.Path.{_≡_, refl, sym, ap, _∙_}
-use mathlib.Core.Logic.{_⊎_, inl, inr, ⊎-elim}
+use mathlib.Core.Logic.{_⊎_, ⊎-elim}
 use mathlib.Core.Bool.{Bool, true, false, _&&_}
 use mathlib.Core.List.{List, [], _∷_, _++_}
 use Prim.Native.Nat.{ℕ, zero, suc, _+_, _*_, _-_, _≤_, _<_}
@@ -10,11 +10,11 @@ use native.Mathlib.Omega.{arith}
 use lib.ListN.{length, getD, take, drop, length-append, length-drop}
 use lib.Seq.{drop-drop}
 use lib.Dec.{leb, ltb}
-use borrow.Author.Tests.{le-leb, leb-true, lt-leb, ltb-true, lt-ltb, le-ltb, ne-eqb}
+use borrow.Author.Tests.{le-leb, leb-true, ltb-true, lt-ltb, le-ltb, ne-eqb}
 use Rattle.text.specs.Bytes.{bytes}
 use Rattle.text.specs.Logic.{false-true, not-true-false, and-both, order, leb-shift}
-use Rattle.text.specs.Text.{among, blanks, isBlank, lead, leadAfter, past, keep, begins, stands, findIn}
-use Rattle.text.specs.Laws.{FoundAt, found-at, found-none, find-is, find-drop, moved, stands-drop, stands-append, stands-fits, stands-byte, stands-getD, begins-fits, past-passes, past-is, past-drop, past-bounds, past-stops, keep-passes, keep-is}
+use Rattle.text.specs.Text.{among, blanks, isBlank, lead, leadAfter, past, keep, stands, findIn}
+use Rattle.text.specs.Laws.{found-at, find-is, find-drop, moved, stands-drop, stands-append, stands-fits, stands-byte, stands-getD, begins-fits, past-passes, past-is, past-drop, past-bounds, keep-passes, keep-is}
 use Rattle.text.specs.declared.Blanks.the-variants as blanks
 use Rattle.text.specs.declared.Found.{Found}
 use Rattle.text.specs.declared.Found.the-variants.{At, Nothing}
@@ -29,7 +29,7 @@ use Rattle.parser.specs.declared.Numeric.{Numeric}
 use Rattle.parser.specs.declared.Numeric.the-variants as numeric
 use Rattle.parser.specs.declared.Notice.{Notice}
 use Rattle.parser.specs.declared.Notice.the-variants as notice
-use Rattle.digest.specs.Finished.{All, Nowhere, NoticeEnd, bare, colon, NoticeEnded, Unfinished, NumericEnded, FirstAlone, EndsIn}
+use Rattle.digest.specs.Finished.{NoticeEnd, bare, colon, NoticeEnded, Unfinished, NumericEnded, FirstAlone, EndsIn}
 
 -- what stands before a place isn't seen
 pub ending-moved : (s : List ℕ) (d p : ℕ) → lineEnding (drop d s) p ≡ lineEnding s (d + p)

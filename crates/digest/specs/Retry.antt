@@ -4,39 +4,35 @@
 -- Assumes nothing.
 use mathlib.Core.Path.{_≡_, refl, sym, ap, _∙_}
 use mathlib.Core.Logic.{_⊎_, inl, inr, ⊎-elim}
-use mathlib.Core.Bool.{Bool, true, false}
+use mathlib.Core.Bool.{true, false}
 use mathlib.Core.List.{List, [], _∷_}
-use Prim.Native.Nat.{ℕ, zero, suc, _+_, _-_, _≤_, _<_}
-use native.Mathlib.Nat.{add-zero}
+use Prim.Native.Nat.{ℕ, _+_, _-_, _≤_, _<_}
 use native.Mathlib.Omega.{arith}
 use lib.ListN.{length, getD, drop, length-drop}
 use lib.Seq.{drop-drop, getD-drop}
 use Rattle.text.specs.Logic.{false-true, not-true-false, order}
-use Rattle.text.specs.Text.{isBlank, past, stands, findIn}
+use Rattle.text.specs.Text.{isBlank, stands, findIn}
 use Rattle.text.specs.Steps.{past-end, past-stop}
-use Rattle.text.specs.Laws.{found-at, found-none, find-is, stands-drop, past-passes, past-stops, past-is}
+use Rattle.text.specs.Laws.{found-at, found-none, find-is, stands-drop, past-passes, past-stops}
 use Rattle.text.specs.declared.Blanks.the-variants as sets
 use Rattle.text.specs.declared.Found.{Found}
 use Rattle.text.specs.declared.Found.the-variants.{At, Nothing}
-use Rattle.table.specs.Table.{isText, Token, Entry, ofMark}
-use Rattle.table.specs.Laws.{Texts, EntryTexts, mark-texts}
+use Rattle.table.specs.Table.{Token, Entry, ofMark}
+use Rattle.table.specs.Laws.{Texts, mark-texts}
 use Rattle.table.specs.declared.Mark.the-variants as mark
 use Rattle.parser.specs.Parser.{crlf, fixedText, promptFrom, customPrompt, wrapped}
 use Rattle.parser.specs.declared.Fixed.{Fixed}
 use Rattle.parser.specs.declared.Fixed.the-variants as fixed
 use Rattle.digest.specs.declared.Kind.{Kind}
 use Rattle.digest.specs.declared.Kind.the-variants as kind
-use Rattle.digest.specs.declared.Answer.{Answer}
 use Rattle.digest.specs.declared.Occurs.{Occurs}
 use Rattle.digest.specs.declared.Occurs.the-variants as occurs
-use Rattle.digest.specs.declared.Tried.{Tried}
 use Rattle.digest.specs.declared.Tried.the-variants as tries
 use Rattle.digest.specs.Answer.{isFound, answer, nothing}
-use Rattle.digest.specs.Digest.{orElse, skipped, trimmedAnswer, success, notices, occursOr, firstCustom, customSuccess, lineSuccess, successes, promptTried, customPrompts, prompts, customError, lineTried, headTried, lineFrom, numericErrors, lineErrors, errors, tried, digest}
-use Rattle.digest.specs.Finished.{Some, All, LineStart, atCrlf, onlyOne, EndsIn, Holds}
-use Rattle.digest.specs.Laws.{skipped-le}
-use Rattle.digest.specs.Position.{ends-is, ends-told, custom-moved}
-use Rattle.digest.specs.Theorem.{done-next, Silent, silent, stands-here, first-crlf, only-skip, some-map, some-any, some-texts, custom-some, occurs-none, no-prompt, no-customs, ends-back, complete, sound, none-is}
+use Rattle.digest.specs.Digest.{orElse, skipped, trimmedAnswer, success, notices, firstCustom, customSuccess, lineSuccess, successes, promptTried, customPrompts, prompts, customError, lineTried, headTried, lineFrom, numericErrors, lineErrors, errors, tried, digest}
+use Rattle.digest.specs.Finished.{Some, LineStart, atCrlf, onlyOne, EndsIn}
+use Rattle.digest.specs.Position.{ends-told, custom-moved}
+use Rattle.digest.specs.Theorem.{done-next, Silent, silent, stands-here, first-crlf, only-skip, some-map, custom-some, occurs-none, no-customs, ends-back, complete, sound, none-is}
 
 -- rule 1 on what it left: nothing more is skipped
 module _ (s : List ℕ) where

@@ -3,26 +3,26 @@
 -- Assumes nothing.
 use mathlib.Core.Path.{_≡_, refl, sym, ap, _∙_}
 use mathlib.Core.Logic.{_⊎_, inl, inr, ⊎-elim}
-use mathlib.Core.Bool.{Bool, true, false, _&&_, _||_}
+use mathlib.Core.Bool.{Bool, true, false, _||_}
 use mathlib.Core.List.{List, [], _∷_, _++_}
 use Prim.Native.Nat.{ℕ, zero, suc, _+_, _-_, _≤_, _<_}
 use native.Mathlib.Nat.{add-zero, eq-or-lt-of-le}
 use native.Mathlib.Omega.{arith}
-use lib.ListN.{length, getD, take, drop, length-append, length-drop, List·getD-append}
+use lib.ListN.{length, getD, drop, length-append, length-drop, List·getD-append}
 use lib.Seq.{drop-drop, getD-append-add, getD-drop}
 use lib.Dec.{eqb, ltb}
 use borrow.Author.Tests.{eqb-true, lt-ltb, le-leb, lt-leb}
 use Rattle.text.specs.Bytes.{bytes}
 use Rattle.text.specs.Logic.{false-true, not-true-false, and-both, order}
-use Rattle.text.specs.Text.{among, blanks, isBlank, past, trimmed, stands, findIn}
+use Rattle.text.specs.Text.{among, blanks, isBlank, past, stands, findIn}
 use Rattle.text.specs.Steps.{find-here}
-use Rattle.text.specs.Laws.{found-at, found-none, stands-drop, stands-front, stands-fits, stands-byte, stands-getD, stands-append, past-passes, past-stops, past-is, past-bounds, stands-room}
+use Rattle.text.specs.Laws.{found-at, found-none, stands-drop, stands-front, stands-fits, stands-byte, stands-getD, past-passes, past-stops, past-is, stands-room}
 use Rattle.text.specs.declared.Blanks.the-variants as sets
 use Rattle.text.specs.declared.Found.{Found}
 use Rattle.text.specs.declared.Found.the-variants.{At, Nothing}
 use Rattle.table.specs.Outcome.{Outcome, answered, refused}
 use Rattle.table.specs.Table.{isText, Token, Entry, ofMark, tokens, ruling}
-use Rattle.table.specs.Laws.{Texts, EntryTexts, mark-texts, text-some, text-byte, GoodTokens, good-tokens}
+use Rattle.table.specs.Laws.{Texts, EntryTexts, mark-texts, text-some, text-byte, good-tokens}
 use Rattle.table.specs.declared.Mark.the-variants as mark
 use Rattle.parser.specs.Parser.{crlf, fixedText, value, pick, lineEnding, atFound, numericAt, numericError, promptFrom, customPrompt, wrapped, breaksOff, noticeAt}
 use Rattle.parser.specs.Laws.{ending-fits}
@@ -42,14 +42,14 @@ use Rattle.digest.specs.declared.Digested.{Digested}
 use Rattle.digest.specs.declared.Digested.the-variants as says
 use Rattle.digest.specs.declared.Tried.{Tried}
 use Rattle.digest.specs.declared.Tried.the-variants as tries
-use Rattle.digest.specs.Answer.{kindFound, isFound, placed, answer, nothing, shift}
+use Rattle.digest.specs.Answer.{kindFound, isFound, answer, nothing, shift}
 use Rattle.digest.specs.Digest.{orElse, foundOr, skipped, trimmedAnswer, heard, notices, occursOr, firstCustom, success, customSuccess, lineSuccess, successes, promptTried, customPrompts, prompts, customError, numericTried, lineTried, headTried, numericFrom, lineFrom, numericErrors, lineErrors, errors, tried, retries, ifFound, again, after, digest, underTable, unlessLong, digested, outcome, unlessOver, digestChecked}
-use Rattle.digest.specs.Finished.{Some, All, Nowhere, LineStart, atCrlf, onlyOne, NoticeEnd, bare, colon, NoticeEnded, Unfinished, NumericEnded, FirstAlone, EndsIn, nine, heads, Line, Item, Holds, NothingFinished}
+use Rattle.digest.specs.Finished.{Some, All, LineStart, atCrlf, onlyOne, NoticeEnd, bare, colon, NoticeEnded, Unfinished, NumericEnded, FirstAlone, EndsIn, nine, heads, Line, Item, Holds}
 use Rattle.digest.specs.Finished as items
-use Rattle.digest.specs.Laws.{skipped-le, retries-on, retries-room}
+use Rattle.digest.specs.Laws.{skipped-le, retries-on}
 use Rattle.digest.specs.Heard.{Where, Heard}
 use Rattle.digest.specs.Step.{by-length, rest-shorter, digest-step, Within, placed-le, tried-within, digest-within}
-use Rattle.digest.specs.Position.{ending-moved, shiftNotice, notice-moved, ended-is, unfinished-is, ended-told, unfinished-told, alone-is, alone-told, prompt-moved, ends-is, ends-told, custom-moved, shiftNumeric, numeric-moved, numeric-is, numeric-told}
+use Rattle.digest.specs.Position.{shiftNotice, notice-moved, ended-is, unfinished-is, ended-told, unfinished-told, alone-is, alone-told, prompt-moved, ends-is, ends-told, custom-moved, shiftNumeric, numeric-moved, numeric-is, numeric-told}
 
 -- `Some`
 pub some-map : {A : Type 0} (P Q : A → Type 0) → ((x : A) → P x → Q x) → (l : List A) → Some P l → Some Q l

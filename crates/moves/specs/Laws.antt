@@ -1,12 +1,12 @@
 -- Laws of `put` and `moved`. Both loops copy a list over another byte by byte, which is the library's `paste`. Assumes nothing.
 use mathlib.Core.Path.{_≡_, refl, sym, ap, _∙_}
-use mathlib.Core.Bool.{Bool, true, false, _&&_}
-use mathlib.Core.List.{List, [], _∷_, _++_}
-use Prim.Native.Nat.{ℕ, suc, _+_, _-_, _≤_, _<_}
+use mathlib.Core.Bool.{Bool, true, false}
+use mathlib.Core.List.{List, _++_}
+use Prim.Native.Nat.{ℕ, _+_, _-_, _≤_, _<_}
 use native.Mathlib.Numerals.{add-one}
 use native.Mathlib.Omega.{arith}
 use lib.ListN.{length, getD, take, drop, set, length-append, length-drop}
-use lib.Seq.{paste, paste-zero, paste-suc, length-paste, drop-paste, getD-drop, take-length, length-take-le}
+use lib.Seq.{paste, paste-suc, drop-paste, getD-drop, take-length, length-take-le}
 use lib.Dec.{leb}
 use borrow.Author.Tests.{le-leb, lt-leb, leb-true}
 use Rattle.moves.specs.Moves.{ifFits, put, moved}

@@ -11,10 +11,10 @@ use lib.Seq.{drop-cons}
 use lib.Dec.{eqb, leb, ltb, eqb·suc-zero}
 use borrow.Author.Tests.{le-leb, lt-leb, leb-true, le-ltb, lt-ltb, ltb-true}
 use Rattle.text.specs.Bytes.{bytes}
-use Rattle.text.specs.Logic.{false-true, and-both, and-false}
+use Rattle.text.specs.Logic.{and-both}
 use Rattle.text.specs.Text.{isBlank, past, keep, begins, stands, findIn}
-use Rattle.text.specs.Steps.{past-more, past-stop, past-end, stands-past, stands-short, begins-short}
-use Rattle.text.specs.Laws.{FoundAt, found-at, stands-fits, stands-append, stands-behind, begins-flip, rest, keep-le}
+use Rattle.text.specs.Steps.{past-more, past-stop, past-end, stands-past, begins-short}
+use Rattle.text.specs.Laws.{found-at, stands-fits, stands-append, stands-behind, begins-flip, rest, keep-le}
 use Rattle.text.specs.declared.Blanks.the-variants as blanks
 use Rattle.text.specs.declared.Found.{Found}
 use Rattle.text.specs.declared.Found.the-variants.{At, Nothing}
@@ -25,7 +25,6 @@ use Rattle.parser.specs.declared.Run.the-variants.{Value, TooLarge}
 use Rattle.parser.specs.declared.Digits.{Digits}
 use Rattle.parser.specs.declared.Numeric.{Numeric}
 use Rattle.parser.specs.declared.Numeric.the-variants as numeric
-use Rattle.parser.specs.declared.Notice.{Notice}
 use Rattle.parser.specs.declared.Notice.the-variants as notice
 use Rattle.parser.specs.Parser.{crlf, fixedText, pick, lineEnding, isDigit, valueAfter, value, atMost, digitsAt, ifEnded, endedRun, tailAt, ifHead, numericAt, atFound, numericError, onlyBlanks, promptFrom, customPrompt, wrapped, breaksOff, through, ifColon, ifBare, unlessBroken, noticeText, afterEnding, noticeAt}
 

@@ -3,7 +3,7 @@ use mathlib.Core.Bool.{Bool, true, false, _&&_}
 use mathlib.Core.List.{List, [], _∷_, _++_}
 use Prim.Native.Nat.{ℕ, zero, suc, _+_, _*_, _-_}
 use lib.ListN.{length, drop}
-use lib.Dec.{eqb, leb, ltb}
+use lib.Dec.{leb, ltb}
 use Rattle.text.specs.Bytes.{bytes}
 use Rattle.text.specs.Text.{isBlank, past, keep, begins, stands, findIn}
 use Rattle.text.specs.declared.Blanks.the-variants as blanks

@@ -1,8 +1,8 @@
 -- The ways out of the queue's calls, each with the tests that led there, and that their promises determine them. Assumes nothing.
 use mathlib.Core.Path.{_≡_, refl, sym, ap, _∙_}
 use mathlib.Core.Bool.{Bool, true, false, _&&_}
-use mathlib.Core.List.{List, [], _∷_, _++_}
-use Prim.Native.Nat.{ℕ, zero, suc, _+_, _-_, _*_, _/_, _≤_, _<_, min}
+use mathlib.Core.List.{List, [], _∷_}
+use Prim.Native.Nat.{ℕ, zero, suc, _+_, _-_, _*_, _≤_, _<_}
 use native.Mathlib.Omega.{arith}
 use lib.ListN.{length, getD}
 use lib.Dec.{eqb, leb, ltb}
@@ -11,14 +11,13 @@ use Rattle.text.specs.Bytes.{bytes}
 use Rattle.text.specs.Logic.{and-both}
 use Rattle.text.specs.Text.{stands}
 use Rattle.moves.specs.Moves.{put, oneMore}
-use Rattle.table.specs.Outcome.{Outcome, answered, refused}
+use Rattle.table.specs.Outcome.{answered, refused}
 use Rattle.queue.specs.declared.Queue.{Queue}
-use Rattle.queue.specs.declared.Notice.{Notice}
 use Rattle.queue.specs.declared.Put.{Put}
 use Rattle.queue.specs.declared.Put.the-variants as puts
 use Rattle.queue.specs.declared.Taken.{Taken}
 use Rattle.queue.specs.declared.Taken.the-variants as takes
-use Rattle.queue.specs.Queue.{Geometry, ours, capacityOf, startIn, inBounds, pick, ringPlace, newQueue, lostOne, longer, After, after, written, putBy, putInto, outcome, Got, got, empty, taking, shorter, recordGood, noticeAt, takeBy, taken}
+use Rattle.queue.specs.Queue.{ours, capacityOf, startIn, inBounds, pick, ringPlace, lostOne, longer, After, after, written, putBy, putInto, outcome, got, empty, taking, shorter, recordGood, takeBy, taken}
 
 pub outcome-one : (r q : Put) → outcome r ≡ outcome q → r ≡ q
 outcome-one (puts.Is x) (puts.Is y) e = cc

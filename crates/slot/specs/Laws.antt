@@ -12,7 +12,7 @@ use Rattle.table.specs.Outcome.{Outcome, answered, refused}
 use Rattle.digest.specs.Answer.{numbered, stored}
 use Rattle.digest.specs.declared.Kind.{Kind}
 use Rattle.digest.specs.declared.Answer.{Answer}
-use Rattle.slot.specs.declared.Held.the-variants.{Heard, Capacity}
+use Rattle.slot.specs.declared.Held.the-variants.{Heard}
 use Rattle.slot.specs.declared.Slot.{Slot}
 use Rattle.slot.specs.declared.Turned.{Turned}
 use Rattle.slot.specs.declared.Turned.the-variants as turns

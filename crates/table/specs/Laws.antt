@@ -1,8 +1,8 @@
 -- Laws of the token table: the ways out of each reader, the two loops over the records, and what a good table's tokens are.
 -- Assumes nothing.
 use mathlib.Core.Path.{_≡_, refl, sym, ap, _∙_}
-use mathlib.Core.Bool.{Bool, true, false, _&&_, not}
-use mathlib.Core.List.{List, [], _∷_, _++_}
+use mathlib.Core.Bool.{Bool, true, false, not}
+use mathlib.Core.List.{List, [], _∷_}
 use Prim.Native.Nat.{ℕ, zero, suc, _+_, _-_, _≤_, _<_}
 use native.Mathlib.Numerals.{add-one}
 use native.Mathlib.Nat.{not-suc-le-zero, le-of-suc-le-suc}
@@ -12,11 +12,11 @@ use lib.Seq.{drop-cons, length-take-le}
 use lib.Dec.{eqb, leb, ltb}
 use borrow.Author.Tests.{lt-ltb, le-ltb, le-leb, lt-leb, eq-eqb, ne-eqb, ltb-true, leb-true, eqb-false, not-true}
 use Rattle.text.specs.Bytes.{bytes}
-use Rattle.text.specs.Logic.{false-true, and-both}
+use Rattle.text.specs.Logic.{and-both}
 use Rattle.text.specs.Text.{among, blanks, isBlank, stands}
 use Rattle.text.specs.Laws.{part-is}
 use Rattle.text.specs.declared.Blanks.the-variants.{Run}
-use Rattle.table.specs.Outcome.{Outcome, answered, refused}
+use Rattle.table.specs.Outcome.{answered, refused}
 use Rattle.table.specs.declared.Mark.{Mark}
 use Rattle.table.specs.declared.Mark.the-variants.{Notice, Success, Error, Prompt}
 use Rattle.table.specs.declared.Record.{Record}
@@ -26,7 +26,7 @@ use Rattle.table.specs.declared.Next.{Next}
 use Rattle.table.specs.declared.Next.the-variants as next
 use Rattle.table.specs.declared.Checked.{Checked}
 use Rattle.table.specs.declared.Checked.the-variants as checks
-use Rattle.table.specs.Table.{isPlain, allPlain, isText, orFaulty, textAt, promptAt, ifMark, marked, unlessEnd, recordAt, textOf, endOf, goodIf, goodAt, noMore, thenRule, rulingBy, ruling, outcome, thenRead, nthFrom, markNumber, sameMark, hereOrNext, thenNext, nextBy, nextOf, Token, tokenOf, thenTokens, tokensBy, tokens, Entry, entryOf, consIf, ofMark, entries}
+use Rattle.table.specs.Table.{isPlain, allPlain, isText, orFaulty, textAt, promptAt, ifMark, marked, unlessEnd, recordAt, textOf, endOf, goodIf, goodAt, noMore, thenRule, rulingBy, ruling, outcome, thenRead, nthFrom, sameMark, hereOrNext, thenNext, nextBy, nextOf, Token, tokenOf, thenTokens, tokensBy, tokens, Entry, entryOf, consIf, ofMark, entries}
 
 -- The check's promise determines its answer.
 pub outcome-one : (r q : Checked) → outcome r ≡ outcome q → r ≡ q

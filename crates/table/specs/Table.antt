@@ -2,10 +2,10 @@
 use mathlib.Core.Bool.{Bool, true, false, _&&_, not}
 use mathlib.Core.List.{List, [], _∷_}
 use Prim.Native.Nat.{ℕ, zero, suc, _+_, _-_}
-use lib.ListN.{length, getD, take, drop}
+use lib.ListN.{length, getD}
 use lib.Dec.{eqb, leb, ltb}
 use Rattle.text.specs.Bytes.{bytes}
-use Rattle.text.specs.Text.{stands, begins, partOf}
+use Rattle.text.specs.Text.{stands, partOf}
 use Rattle.table.specs.Outcome.{Outcome, answered, refused}
 use Rattle.table.specs.declared.Mark.{Mark}
 use Rattle.table.specs.declared.Mark.the-variants.{Notice, Success, Error, Prompt}

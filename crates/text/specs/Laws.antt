@@ -8,13 +8,13 @@ use Prim.Native.Nat.{ℕ, zero, suc, _+_, _-_, _≤_, _<_}
 use native.Mathlib.Numerals.{add-one, sub-one}
 use native.Mathlib.Nat.{add-zero, not-suc-le-zero, le-of-suc-le-suc, eq-or-lt-of-le}
 use native.Mathlib.Omega.{arith}
-use lib.ListN.{length, getD, take, drop, length-drop, drop-of-length-le}
+use lib.ListN.{length, getD, take, drop, length-drop}
 use lib.Seq.{take-all, drop-cons, length-take-le, drop-drop, drop-append-le, getD-drop}
 use lib.Dec.{eqb}
 use borrow.Author.Tests.{eq-eqb, ne-eqb, eqb-true, eqb-false, le-leb, lt-leb}
-use Rattle.text.specs.Logic.{false-true, not-true-false, and-both, and-assoc, order}
+use Rattle.text.specs.Logic.{false-true, and-both, and-assoc, order}
 use Rattle.text.specs.Text.{leadAfter, lead, past, keepAfter, keep, trimmed, begins, stands, search, hereOr, findIn, orEmpty, partOf}
-use Rattle.text.specs.Steps.{stands-past, find-here, find-next, find-end, past-more, past-stop, past-end}
+use Rattle.text.specs.Steps.{stands-past, find-here, find-next, find-end}
 use Rattle.text.specs.declared.Span.{Span}
 use Rattle.text.specs.declared.Found.{Found}
 use Rattle.text.specs.declared.Found.the-variants.{At, Nothing}

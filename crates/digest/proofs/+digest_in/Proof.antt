@@ -11,8 +11,6 @@ use borrow.Fn.Kinds.{In}
 use borrow.Fn.PlainCycle.{Measures, is, falls, and}
 use Rattle.digest.proofs.+digest_in.{statement}
 use Rattle.digest.proofs.+digest_in.Tie.{close}
-use Rattle.table.specs.declared.Mark.the-variants as mark
-use Rattle.parser.specs.declared.Fixed.the-variants as fixed
 use Rattle.digest.proofs.digest_in.Reads as digest-in
 use Rattle.digest.proofs.digest_in.Kinds as digest-in-kinds
 use Rattle.digest.proofs.+digest_in.Lts-digest_in as digest-in-lts

@@ -8,7 +8,6 @@ use borrow.Author.Needs.{needs}
 use native.Mathlib.Omega.{arith}
 use Rattle.digest.proofs.custom_prompts.Statement.{statement}
 use Rattle.table.specs.declared.Mark.the-variants as mark
-use Rattle.parser.specs.declared.Fixed.the-variants as fixed
 use Rattle.digest.proofs.custom_prompts.Tie as tie
 
 abbrev Inv-loop : tie.InvT-loop

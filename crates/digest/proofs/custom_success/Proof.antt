@@ -7,8 +7,6 @@ use borrow.Author.Needs.{needs}
 use native.Mathlib.Omega.{arith}
 use Rattle.digest.proofs.custom_success.Statement.{statement}
 use Rattle.table.specs.declared.Mark.the-variants as mark
-use Rattle.parser.specs.declared.Fixed.the-variants as fixed
-use Rattle.digest.specs.declared.Tried.the-variants as tries
 use Rattle.digest.proofs.custom_success.Tie as tie
 
 first-custom-requires : tie.Need-first-custom-requires

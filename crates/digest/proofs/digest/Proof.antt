@@ -5,8 +5,6 @@ use Rattle.table.specs.Table.{outcome}
 use Rattle.digest.specs.Theorem.{digested-long, digested-bad, digested-is, digest-heard}
 use borrow.Author.Needs.{needs}
 use Rattle.digest.proofs.digest.Statement.{statement}
-use Rattle.table.specs.declared.Mark.the-variants as mark
-use Rattle.parser.specs.declared.Fixed.the-variants as fixed
 use Rattle.digest.proofs.digest.Tie as tie
 
 returns : tie.Need-returns

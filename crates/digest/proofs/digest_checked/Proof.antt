@@ -3,8 +3,6 @@ use Prim.Native.Nat.{_-_}
 use Rattle.digest.specs.Theorem.{checked-is, checked-long}
 use borrow.Author.Needs.{needs}
 use Rattle.digest.proofs.digest_checked.Statement.{statement}
-use Rattle.table.specs.declared.Mark.the-variants as mark
-use Rattle.parser.specs.declared.Fixed.the-variants as fixed
 use Rattle.digest.proofs.digest_checked.Tie as tie
 
 digest-in-requires : tie.Need-digest-in-requires

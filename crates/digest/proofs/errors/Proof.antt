@@ -5,9 +5,6 @@ use Rattle.digest.specs.Digest.{errors}
 use Rattle.digest.specs.Laws.{hit, miss}
 use borrow.Author.Needs.{needs}
 use Rattle.digest.proofs.errors.Statement.{statement}
-use Rattle.table.specs.declared.Mark.the-variants as mark
-use Rattle.parser.specs.declared.Fixed.the-variants as fixed
-use Rattle.digest.specs.declared.Tried.the-variants as tries
 use Rattle.digest.proofs.errors.Tie as tie
 
 custom-error-requires : tie.Need-custom-error-requires

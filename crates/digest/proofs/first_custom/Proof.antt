@@ -7,8 +7,6 @@ use Rattle.digest.specs.Laws.{next-room, custom-end, custom-hit, custom-
 use borrow.Author.Needs.{needs}
 use native.Mathlib.Omega.{arith}
 use Rattle.digest.proofs.first_custom.Statement.{statement}
-use Rattle.table.specs.declared.Mark.the-variants as mark
-use Rattle.parser.specs.declared.Fixed.the-variants as fixed
 use Rattle.digest.proofs.first_custom.Tie as tie
 
 abbrev Inv-loop : tie.InvT-loop

@@ -5,8 +5,6 @@ use Rattle.digest.specs.Digest.{lineErrors}
 use Rattle.digest.specs.Laws.{hit, miss}
 use borrow.Author.Needs.{needs}
 use Rattle.digest.proofs.line_errors.Statement.{statement}
-use Rattle.table.specs.declared.Mark.the-variants as mark
-use Rattle.parser.specs.declared.Fixed.the-variants as fixed
 use Rattle.digest.proofs.line_errors.Tie as tie
 
 line-from-requires : tie.Need-line-from-requires

@@ -4,8 +4,6 @@ use Rattle.digest.specs.Laws.{line-room, line-from-is, line-from-none}
 use borrow.Author.Needs.{needs}
 use native.Mathlib.Omega.{arith}
 use Rattle.digest.proofs.line_from.Statement.{statement}
-use Rattle.table.specs.declared.Mark.the-variants as mark
-use Rattle.parser.specs.declared.Fixed.the-variants as fixed
 use Rattle.digest.proofs.line_from.Tie as tie
 
 find-fixed-requires : tie.Need-find-fixed-requires

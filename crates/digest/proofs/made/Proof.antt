@@ -3,8 +3,6 @@ use Prim.Native.Nat.{_-_}
 use Rattle.digest.specs.Laws.{made-is}
 use borrow.Author.Needs.{needs}
 use Rattle.digest.proofs.made.Statement.{statement}
-use Rattle.table.specs.declared.Mark.the-variants as mark
-use Rattle.parser.specs.declared.Fixed.the-variants as fixed
 use Rattle.digest.proofs.made.Tie as tie
 
 number-of-requires : tie.Need-number-of-requires

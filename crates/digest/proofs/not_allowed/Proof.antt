@@ -5,8 +5,6 @@ use Rattle.digest.specs.Laws.{na-room, na-hit, na-miss}
 use borrow.Author.Needs.{needs}
 use native.Mathlib.Omega.{arith}
 use Rattle.digest.proofs.not_allowed.Statement.{statement}
-use Rattle.table.specs.declared.Mark.the-variants as mark
-use Rattle.parser.specs.declared.Fixed.the-variants as fixed
 use Rattle.digest.proofs.not_allowed.Tie as tie
 
 fixed-at-requires : tie.Need-fixed-at-requires

@@ -5,8 +5,6 @@ use Rattle.digest.specs.Digest.{numericErrors}
 use Rattle.digest.specs.Laws.{hit, miss}
 use borrow.Author.Needs.{needs}
 use Rattle.digest.proofs.numeric_errors.Statement.{statement}
-use Rattle.table.specs.declared.Mark.the-variants as mark
-use Rattle.parser.specs.declared.Fixed.the-variants as fixed
 use Rattle.digest.proofs.numeric_errors.Tie as tie
 
 numeric-from-requires : tie.Need-numeric-from-requires

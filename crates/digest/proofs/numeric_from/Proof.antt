@@ -3,8 +3,6 @@ use Prim.Native.Nat.{_-_}
 use Rattle.digest.specs.Laws.{numeric-from-is, numeric-from-none}
 use borrow.Author.Needs.{needs}
 use Rattle.digest.proofs.numeric_from.Statement.{statement}
-use Rattle.table.specs.declared.Mark.the-variants as mark
-use Rattle.parser.specs.declared.Fixed.the-variants as fixed
 use Rattle.digest.proofs.numeric_from.Tie as tie
 
 numeric-error-requires : tie.Need-numeric-error-requires

@@ -3,8 +3,6 @@ use Prim.Native.Nat.{_-_}
 use Rattle.digest.specs.Laws.{heard-ended, heard-broken, heard-nothing, ended-room}
 use borrow.Author.Needs.{needs}
 use Rattle.digest.proofs.one_notice.Statement.{statement}
-use Rattle.table.specs.declared.Mark.the-variants as mark
-use Rattle.parser.specs.declared.Fixed.the-variants as fixed
 use Rattle.digest.proofs.one_notice.Tie as tie
 
 notice-at-requires : tie.Need-notice-at-requires

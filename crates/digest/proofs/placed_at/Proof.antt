@@ -2,8 +2,6 @@
 use Prim.Native.Nat.{_-_}
 use Rattle.digest.specs.Laws.{placed-none, placed-some}
 use Rattle.digest.proofs.placed_at.Statement.{statement}
-use Rattle.table.specs.declared.Mark.the-variants as mark
-use Rattle.parser.specs.declared.Fixed.the-variants as fixed
 use Rattle.digest.proofs.placed_at.Tie as tie
 
 returns : tie.Need-returns

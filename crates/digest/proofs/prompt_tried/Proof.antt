@@ -4,8 +4,6 @@ use borrow.Author.Tests.{not-true, not-false}
 use Rattle.digest.specs.Laws.{prompt-hit, prompt-miss}
 use borrow.Author.Needs.{needs}
 use Rattle.digest.proofs.prompt_tried.Statement.{statement}
-use Rattle.table.specs.declared.Mark.the-variants as mark
-use Rattle.parser.specs.declared.Fixed.the-variants as fixed
 use Rattle.digest.proofs.prompt_tried.Tie as tie
 
 returns : tie.Need-returns

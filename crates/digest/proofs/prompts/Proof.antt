@@ -6,9 +6,6 @@ use Rattle.digest.specs.Laws.{hit, miss}
 use mathlib.Core.Bool.{Bool}
 use borrow.Author.Needs.{needs}
 use Rattle.digest.proofs.prompts.Statement.{statement}
-use Rattle.table.specs.declared.Mark.the-variants as mark
-use Rattle.parser.specs.declared.Fixed.the-variants as fixed
-use Rattle.digest.specs.declared.Tried.the-variants as tries
 use Rattle.digest.proofs.prompts.Tie as tie
 
 custom-prompts-requires : tie.Need-custom-prompts-requires

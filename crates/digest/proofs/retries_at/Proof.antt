@@ -8,8 +8,6 @@ use Rattle.digest.specs.Laws.{retries-off, retries-on}
 use borrow.Author.Needs.{needs}
 use native.Mathlib.Omega.{arith}
 use Rattle.digest.proofs.retries_at.Statement.{statement}
-use Rattle.table.specs.declared.Mark.the-variants as mark
-use Rattle.parser.specs.declared.Fixed.the-variants as fixed
 use Rattle.digest.proofs.retries_at.Tie as tie
 
 slice-aggregate-matches-at : tie.Need-slice-aggregate-matches-at

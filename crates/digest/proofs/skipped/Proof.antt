@@ -3,8 +3,6 @@ use Prim.Native.Nat.{_-_}
 use Rattle.digest.specs.Laws.{skipped-at, skipped-none}
 use borrow.Author.Needs.{needs}
 use Rattle.digest.proofs.skipped.Statement.{statement}
-use Rattle.table.specs.declared.Mark.the-variants as mark
-use Rattle.parser.specs.declared.Fixed.the-variants as fixed
 use Rattle.digest.proofs.skipped.Tie as tie
 
 skip-requires : tie.Need-skip-requires

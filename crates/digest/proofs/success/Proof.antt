@@ -4,8 +4,6 @@ use Prim.Native.Nat.{_-_}
 use Rattle.digest.specs.Digest.{success}
 use borrow.Author.Needs.{needs}
 use Rattle.digest.proofs.success.Statement.{statement}
-use Rattle.table.specs.declared.Mark.the-variants as mark
-use Rattle.parser.specs.declared.Fixed.the-variants as fixed
 use Rattle.digest.specs.declared.Tried.the-variants as tries
 use Rattle.digest.proofs.success.Tie as tie
 

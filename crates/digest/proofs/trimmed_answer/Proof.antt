@@ -4,8 +4,6 @@ use Rattle.digest.specs.Laws.{trim-room, trimmed-is}
 use borrow.Author.Needs.{needs}
 use native.Mathlib.Omega.{arith}
 use Rattle.digest.proofs.trimmed_answer.Statement.{statement}
-use Rattle.table.specs.declared.Mark.the-variants as mark
-use Rattle.parser.specs.declared.Fixed.the-variants as fixed
 use Rattle.digest.proofs.trimmed_answer.Tie as tie
 
 sub-trim : tie.Need-sub-trim
