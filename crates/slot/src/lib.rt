@@ -144,7 +144,8 @@ impl Slot {
         if !is_response(kind) {
             return Turned::Is(self);
         }
-        if self.signalled {
+        let busy = self.signalled;
+        if busy {
             return Turned::Is(self.lose());
         }
         if !carries_payload(kind) {
