@@ -10,7 +10,7 @@ use native.Mathlib.Nat.{add-zero, eq-or-lt-of-le}
 use native.Mathlib.Omega.{arith}
 use lib.ListN.{length, getD, drop, length-append, length-drop, List·getD-append}
 use lib.Seq.{drop-drop, getD-append-add, getD-drop}
-use lib.Dec.{eqb, ltb}
+use lib.Dec.{eqb, leb, ltb}
 use borrow.Author.Tests.{eqb-true, lt-ltb, le-leb, lt-leb}
 use Rattle.text.specs.Bytes.{bytes}
 use Rattle.text.specs.Logic.{false-true, not-true-false, and-both, order}
@@ -1118,3 +1118,12 @@ module _ (t s : List ℕ) where
   pub checked-long : 4096 < length s → (a : Answer) → a ≡ nothing 0 → a ≡ digestChecked t s
   unfolding digestChecked unlessOver
   checked-long h a w = rw (lt-leb (length s) 4096 h) w
+
+  -- what a digest under a checked table consumes lies in the input
+  pub checked-within : digestChecked t s .consumed ≤ length s
+  unfolding digestChecked
+  checked-within = go (leb (length s) 4096)
+    where
+      go : (b : Bool) → unlessOver b (digest (tokens t) s) .consumed ≤ length s
+      go true = unfold unlessOver in digest-within (tokens t) s .all
+      go false = unfold unlessOver in omega arith

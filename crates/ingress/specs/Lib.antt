@@ -1,0 +1,2 @@
+pub mod Ingress
+pub mod Laws

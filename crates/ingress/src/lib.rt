@@ -1,0 +1,148 @@
+// The blocking half of atat's ingress.rs by document 01: digest what is in the buffer, deliver, move the rest to the front.
+// The state is a struct by value beside lent slices; the buffer, the slot's memory and the queue's memory are the caller's.
+// It relies on the promises of digester, slot and queue, and opens none of their definitions.
+ghost use mathlib.Core.Path.{_≡_};
+ghost use Prim.Native.Nat.{_≤_};
+ghost use lib.ListN.{length};
+ghost use Rattle.ingress.specs.Ingress.{isNotice, deliver, delivery, world, once, stepped, run, ran};
+use digest::Answer;
+use digest::Kind;
+use queue::Put;
+use queue::Queue;
+use slot::Slot;
+use slot::Turned;
+
+// Where the bytes in the buffer end, and the slot and the queue beside it.
+pub struct State {
+    pub end: usize,
+    pub slot: Slot,
+    pub queue: Queue,
+}
+
+// What a delivery leaves, or that it must wait: the queue is full.
+pub enum Delivered {
+    Is(State),
+    Waits,
+}
+
+fn is_notice(kind: Kind) -> bool
+    ensures { λ r. ⌜ r ≡ isNotice kind ⌝ }
+{
+    match kind {
+        Kind::None => false,
+        Kind::Ok => false,
+        Kind::Prompt => false,
+        Kind::Cme => false,
+        Kind::Cms => false,
+        Kind::Unknown => false,
+        Kind::NotAllowed => false,
+        Kind::Error => false,
+        Kind::NoCarrier => false,
+        Kind::Busy => false,
+        Kind::NoAnswer => false,
+        Kind::NoDialtone => false,
+        Kind::Custom => false,
+        Kind::Notice => true,
+    }
+}
+
+// A notice goes to the queue as a record, any other answer to the slot as a signal; None delivers nothing.
+fn deliver(
+    state: State,
+    a: Answer,
+    p: &[u8],
+    slot_mem: &mut [u8],
+    queue_mem: &mut [u8],
+) -> Delivered
+    ensures { λ r. ⌜ delivery state r (now («slot_mem» .exit)) (now («queue_mem» .exit)) ≡ deliver state a (now (p .entry)) (now («slot_mem» .entry)) (now («queue_mem» .entry)) ⌝ }
+{
+    let kind = a.kind;
+    let slot = state.slot;
+    let queue = state.queue;
+    if is_notice(kind) {
+        return match queue.put(queue_mem, (a.number % 256) as u8, p) {
+            Put::Is(q) => Delivered::Is(State {
+                end: state.end,
+                slot: slot,
+                queue: q,
+            }),
+            Put::BadBounds => Delivered::Waits,
+            Put::Full => Delivered::Waits,
+        };
+    }
+    match slot.signal(a, p, slot_mem) {
+        Turned::Is(x) => Delivered::Is(State {
+            end: state.end,
+            slot: x,
+            queue: queue,
+        }),
+        Turned::BadLength => Delivered::Waits,
+    }
+}
+
+// One turn: the next state and the bytes consumed, or that its notice must wait.
+pub enum Stepped {
+    Is(State, usize),
+    Full,
+}
+
+// Digests what is in the buffer, delivers, and moves the rest to the front.
+fn step(
+    table: &[u8],
+    state: State,
+    buf: &mut [u8],
+    slot_mem: &mut [u8],
+    queue_mem: &mut [u8],
+) -> Stepped
+    requires { ⌜ state .end ≤ length (now buf) ⌝ }
+    ensures { λ r. ⌜ stepped state r (now (buf .exit)) (now («slot_mem» .exit)) (now («queue_mem» .exit)) ≡ once (now (table .entry)) (world state (now (buf .entry)) (now («slot_mem» .entry)) (now («queue_mem» .entry))) ⌝ }
+{
+    let end = state.end;
+    let a = digest::digest_checked(table, &buf[..end]);
+    let n = a.consumed;
+    let p = digest::payload(&buf[..end], a.place, a.len);
+    match deliver(state, a, p, slot_mem, queue_mem) {
+        Delivered::Waits => Stepped::Full,
+        Delivered::Is(next) => {
+            let slot = next.slot;
+            let queue = next.queue;
+            moves::move_down(buf, n, end);
+            Stepped::Is(
+                State {
+                    end: end - n,
+                    slot: slot,
+                    queue: queue,
+                },
+                n,
+            )
+        }
+    }
+}
+
+// How an advance ends: nothing more is consumed, or a notice met a full queue, with the state that is left.
+pub enum Ran {
+    Is(State),
+    Full(State),
+}
+
+// Turns until the digest consumes 0 or nothing is left.
+fn run(table: &[u8], state: State, buf: &mut [u8], slot_mem: &mut [u8], queue_mem: &mut [u8]) -> Ran
+    requires { ⌜ state .end ≤ length (now buf) ⌝ }
+    ensures { λ r. ⌜ ran r (now (buf .exit)) (now («slot_mem» .exit)) (now («queue_mem» .exit)) ≡ run (now (table .entry)) (world state (now (buf .entry)) (now («slot_mem» .entry)) (now («queue_mem» .entry))) ⌝ }
+{
+    let mut s = state;
+    while 0 < s.end {
+        match step(table, s, buf, slot_mem, queue_mem) {
+            Stepped::Full => {
+                return Ran::Full(s);
+            }
+            Stepped::Is(next, n) => {
+                s = next;
+                if n == 0 {
+                    return Ran::Is(s);
+                }
+            }
+        }
+    }
+    Ran::Is(s)
+}
