@@ -1,8 +1,8 @@
 -- The ingress in document 01's words.
-use mathlib.Core.Bool.{Bool, true, false}
-use mathlib.Core.List.{List}
-use Prim.Native.Nat.{ℕ, zero, suc, _-_, _%_}
-use lib.ListN.{take}
+use mathlib.Core.Bool.{Bool, true, false, _&&_}
+use mathlib.Core.List.{List, [], _∷_}
+use Prim.Native.Nat.{ℕ, zero, suc, _+_, _-_, _%_}
+use lib.ListN.{length, take}
 use lib.Dec.{leb}
 use Rattle.text.specs.Text.{partOf}
 use Rattle.moves.specs.Moves.{moved}
@@ -14,12 +14,15 @@ use Rattle.digest.specs.Digest.{digestChecked}
 use Rattle.slot.specs.Slot.{signalled}
 use Rattle.slot.specs.Slot as slots
 use Rattle.slot.specs.declared.Slot.{Slot}
-use Rattle.queue.specs.Queue.{ours, putInto}
+use Rattle.table.specs.Table.{ruling}
+use Rattle.queue.specs.Queue.{ours, putInto, capacityOf, inBounds}
 use Rattle.queue.specs.Queue as queues
 use Rattle.queue.specs.declared.Queue.{Queue}
 use Rattle.ingress.specs.declared.State.{State}
 use Rattle.ingress.specs.declared.Stepped.{Stepped}
 use Rattle.ingress.specs.declared.Stepped.the-variants as steps
+use Rattle.ingress.specs.declared.Advanced.{Advanced}
+use Rattle.ingress.specs.declared.Advanced.the-variants as advances
 use Rattle.ingress.specs.declared.Ran.{Ran}
 use Rattle.ingress.specs.declared.Ran.the-variants as runs
 use Rattle.ingress.specs.declared.Delivered.{Delivered}
@@ -150,3 +153,46 @@ run t w = runBy (suc (w .state .end)) t w
 abbrev pub ran : Ran → List ℕ → List ℕ → List ℕ → End
 ran (runs.Is s) b m n = finished (world s b m n)
 ran (runs.Full s) b m n = full (world s b m n)
+
+-- Refusal 3: the end is past the buffer; a stored length is past the slot's memory; start or count outside its bounds.
+unfoldable pub isSound : State → ℕ → ℕ → ℕ → Bool
+isSound s b m n = leb (s .end) b && (leb (s .slot .len) m && inBounds (capacityOf ours n) (s .queue))
+
+-- what an advance says, and all that it leaves: done, or refused by number with 01's values
+pub data Result : Type 0 where
+  done : World → Result
+  refusedAt : ℕ → List ℕ → World → Result
+
+unfoldable pub ended : End → Result
+ended (finished w) = done w
+ended (full w) = refusedAt 5 [] w
+
+unfoldable pub unless : Bool → ℕ → World → Result → Result
+unless true n w r = r
+unless false n w r = refusedAt n [] w
+
+unfoldable pub underTable : Outcome ℕ → World → Result → Result
+underTable (answered k) w r = r
+underTable (refused n v) w r = refusedAt n v w
+
+-- the commit is added to what is in the buffer
+abbrev pub committed : World → ℕ → World
+committed w c = world (record { end = w .state .end + c; slot = w .state .slot; queue = w .state .queue }) (w .buf) (w .slotMemory) (w .queueMemory)
+
+-- Refusals 1, 2, 3, 4 in this order, leaving everything; then the commit is added and turns are run, of which refusal 5 leaves those finished.
+unfoldable pub advanced : List ℕ → ℕ → World → Result
+unfolding unless underTable ended isSound
+advanced t c w =
+    unless (leb (length (w .buf)) 4096) 1 w
+    (underTable (ruling t) w
+    (unless (isSound (w .state) (length (w .buf)) (length (w .slotMemory)) (length (w .queueMemory))) 3 w
+    (unless (leb c (length (w .buf) - w .state .end)) 4 w
+    (ended (run t (committed w c))))))
+
+abbrev pub result : State → Advanced → List ℕ → List ℕ → List ℕ → Result
+result s (advances.Is x) b m n = done (world x b m n)
+result s advances.TooLong b m n = refusedAt 1 [] (world s b m n)
+result s (advances.BadTable k) b m n = refusedAt 2 (k ∷ []) (world s b m n)
+result s advances.BadState b m n = refusedAt 3 [] (world s b m n)
+result s advances.NoRoom b m n = refusedAt 4 [] (world s b m n)
+result s (advances.Full x) b m n = refusedAt 5 [] (world x b m n)

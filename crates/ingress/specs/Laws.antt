@@ -1,12 +1,12 @@
 -- Laws of the ingress. What it needs of the layers below are the laws that they export. Assumes nothing.
 use mathlib.Core.Path.{_≡_, refl, sym, ap, _∙_}
-use mathlib.Core.Bool.{Bool, true, false}
-use mathlib.Core.List.{List, []}
+use mathlib.Core.Bool.{Bool, true, false, _&&_}
+use mathlib.Core.List.{List, [], _∷_}
 use Prim.Native.Nat.{ℕ, zero, suc, _+_, _-_, _%_, _≤_, _<_}
 use native.Mathlib.Omega.{arith}
-use lib.ListN.{length, take, drop}
+use lib.ListN.{length, getD, take}
 use lib.Seq.{length-take-le}
-use lib.Dec.{leb}
+use lib.Dec.{eqb, leb}
 use borrow.Author.Tests.{le-leb, lt-leb, leb-true}
 use Rattle.text.specs.Text.{partOf}
 use Rattle.moves.specs.Moves.{moved}
@@ -16,15 +16,22 @@ use Rattle.digest.specs.declared.Answer.{Answer}
 use Rattle.slot.specs.Slot.{signalled}
 use Rattle.slot.specs.Slot as slots
 use Rattle.slot.specs.declared.Turned.{Turned}
-use Rattle.queue.specs.Queue.{ours, putInto}
+use Rattle.text.specs.Logic.{and-both}
+use Rattle.table.specs.Outcome.{Outcome, answered, refused}
+use Rattle.table.specs.Table.{ruling}
+use Rattle.queue.specs.Queue.{ours, putInto, capacityOf, inBounds}
 use Rattle.queue.specs.Queue as queues
 use Rattle.queue.specs.declared.Put.{Put}
 use Rattle.ingress.specs.declared.State.{State}
 use Rattle.ingress.specs.declared.Stepped.{Stepped}
 use Rattle.ingress.specs.declared.Stepped.the-variants as steps
+use Rattle.ingress.specs.declared.Advanced.{Advanced}
+use Rattle.ingress.specs.declared.Advanced.the-variants as advances
+use Rattle.ingress.specs.declared.Ran.{Ran}
+use Rattle.ingress.specs.declared.Ran.the-variants as runs
 use Rattle.ingress.specs.declared.Delivered.{Delivered}
 use Rattle.ingress.specs.declared.Delivered.the-variants as delivers
-use Rattle.ingress.specs.Ingress.{isNotice, Delivery, toQueue, toSlot, toEither, deliver, delivery, World, world, Step, went, stuck, onward, answered-by, once, stepped, End, finished, full, goOn, thenRun, unlessEmpty, runBy, run}
+use Rattle.ingress.specs.Ingress.{isNotice, Delivery, toQueue, toSlot, toEither, deliver, delivery, World, world, Step, went, stuck, onward, answered-by, once, stepped, End, finished, full, goOn, thenRun, unlessEmpty, runBy, run, ran, isSound, Result, done, refusedAt, ended, unless, underTable, committed, advanced, result}
 
 -- where a delivery went: x is what the queue or the slot answered, with the memory that it left
 module _ (s : State) (a : Answer) (p m n : List ℕ) where
@@ -171,3 +178,104 @@ module _ (t : List ℕ) (w₀ w : World) (g : Going t w₀ w) (h : 0 < w .state 
 
     pub turn-on : (k ≡ 0 → ⊥) → length b ≡ length (w .buf) → length m ≡ length (w .slotMemory) → length n ≡ length (w .queueMemory) → Going t w₀ (world x b m n)
     turn-on z = going-on t w₀ w (world x b m n) k g h (turned (steps.Is x k) q) z
+
+-- `isSound`
+module _ (s : State) (b m n : ℕ) where
+  pub sound-end : b < s .end → false ≡ isSound s b m n
+  unfolding isSound
+  sound-end h = rw (lt-leb (s .end) b h)
+
+  module _ (h : s .end ≤ b) where
+    pub sound-slot : m < s .slot .len → false ≡ isSound s b m n
+    unfolding isSound
+    sound-slot g = rw (le-leb (s .end) b h, lt-leb (s .slot .len) m g)
+
+    pub sound-queue : s .slot .len ≤ m → inBounds (capacityOf ours n) (s .queue) ≡ isSound s b m n
+    unfolding isSound
+    sound-queue g = rw (le-leb (s .end) b h, le-leb (s .slot .len) m g)
+
+  pub sound-inside : isSound s b m n ≡ true → s .end ≤ b
+  unfolding isSound
+  sound-inside h = leb-true (s .end) b (and-both (leb (s .end) b) (leb (s .slot .len) m && inBounds (capacityOf ours n) (s .queue)) h .0)
+
+-- the ways out of `advance`
+module _ (t : List ℕ) (c : ℕ) (w : World) where
+  pub advance-long : 4096 < length (w .buf) → refusedAt 1 [] w ≡ advanced t c w
+  unfolding advanced unless
+  advance-long h = rw (lt-leb (length (w .buf)) 4096 h)
+
+  module _ (l : length (w .buf) ≤ 4096) where
+    pub advance-table : (k : ℕ) → refused 2 (k ∷ []) ≡ ruling t → refusedAt 2 (k ∷ []) w ≡ advanced t c w
+    unfolding advanced unless underTable
+    advance-table k e = rw (le-leb (length (w .buf)) 4096 l, sym e)
+
+    module _ (k : ℕ) (e : answered k ≡ ruling t) where
+      pub advance-state : isSound (w .state) (length (w .buf)) (length (w .slotMemory)) (length (w .queueMemory)) ≡ false → refusedAt 3 [] w ≡ advanced t c w
+      unfolding advanced unless underTable
+      advance-state h = rw (le-leb (length (w .buf)) 4096 l, sym e, h)
+
+      module _ (s : isSound (w .state) (length (w .buf)) (length (w .slotMemory)) (length (w .queueMemory)) ≡ true) where
+        pub advance-room : length (w .buf) - w .state .end < c → refusedAt 4 [] w ≡ advanced t c w
+        unfolding advanced unless underTable
+        advance-room h = rw (le-leb (length (w .buf)) 4096 l, sym e, s, lt-leb c (length (w .buf) - w .state .end) h)
+
+        module _ (h : c ≤ length (w .buf) - w .state .end) where
+          at-run : ended (run t (committed w c)) ≡ advanced t c w
+          unfolding advanced unless underTable
+          at-run = rw (le-leb (length (w .buf)) 4096 l, sym e, s, le-leb c (length (w .buf) - w .state .end) h)
+
+          module _ (r : Ran) (b m n : List ℕ) (p : ran r b m n ≡ run t (committed w c)) (x : State) where
+            pub advance-done : r ≡ runs.Is x → done (world x b m n) ≡ advanced t c w
+            unfolding ended
+            advance-done q = ap (λ (y : Ran). ended (ran y b m n)) (sym q) ∙ ap ended p ∙ at-run
+
+            pub advance-full : r ≡ runs.Full x → refusedAt 5 [] (world x b m n) ≡ advanced t c w
+            unfolding ended
+            advance-full q = ap (λ (y : Ran). ended (ran y b m n)) (sym q) ∙ ap ended p ∙ at-run
+
+-- The promise of `advance` determines its answer and every byte of the three memories: each can be read off the result.
+abbrev pickAdvanced : Bool → Advanced → Advanced → Advanced
+pickAdvanced true a b = a
+pickAdvanced false a b = b
+
+abbrev answer-of : Result → Advanced
+answer-of (done w) = advances.Is (w .state)
+answer-of (refusedAt k v w) =
+    pickAdvanced (eqb k 1) advances.TooLong
+    (pickAdvanced (eqb k 2) (advances.BadTable (getD v 0 0))
+    (pickAdvanced (eqb k 3) advances.BadState (pickAdvanced (eqb k 4) advances.NoRoom (advances.Full (w .state)))))
+
+abbrev left-by : Result → World
+left-by (done w) = w
+left-by (refusedAt k v w) = w
+
+answer-back : (s : State) (r : Advanced) (b m n : List ℕ) → answer-of (result s r b m n) ≡ r
+answer-back s (advances.Is x) b m n = refl
+answer-back s advances.TooLong b m n = refl
+answer-back s (advances.BadTable k) b m n = refl
+answer-back s advances.BadState b m n = refl
+answer-back s advances.NoRoom b m n = refl
+answer-back s (advances.Full x) b m n = refl
+
+memory-back : (s : State) (r : Advanced) (b m n : List ℕ) → (left-by (result s r b m n) .buf ≡ b) × ((left-by (result s r b m n) .slotMemory ≡ m) × (left-by (result s r b m n) .queueMemory ≡ n))
+memory-back s (advances.Is x) b m n = (refl, (refl, refl))
+memory-back s advances.TooLong b m n = (refl, (refl, refl))
+memory-back s (advances.BadTable k) b m n = (refl, (refl, refl))
+memory-back s advances.BadState b m n = (refl, (refl, refl))
+memory-back s advances.NoRoom b m n = (refl, (refl, refl))
+memory-back s (advances.Full x) b m n = (refl, (refl, refl))
+
+pub advance-one : (x : Result) (s : State) (r q : Advanced) (b m n b′ m′ n′ : List ℕ) → result s r b m n ≡ x → result s q b′ m′ n′ ≡ x → (r ≡ q) × ((b ≡ b′) × ((m ≡ m′) × (n ≡ n′)))
+advance-one x s r q b m n b′ m′ n′ e f =
+    let g : result s r b m n ≡ result s q b′ m′ n′ = e ∙ sym f in
+    let u = memory-back s r b m n in
+    let v = memory-back s q b′ m′ n′ in (
+      sym (answer-back s r b m n) ∙ ap answer-of g ∙ answer-back s q b′ m′ n′,
+      (
+        sym (u .0) ∙ ap (λ (y : Result). left-by y .buf) g ∙ v .0,
+        (
+          sym (u .1 .0) ∙ ap (λ (y : Result). left-by y .slotMemory) g ∙ v .1 .0,
+          sym (u .1 .1) ∙ ap (λ (y : Result). left-by y .queueMemory) g ∙ v .1 .1,
+        ),
+      ),
+    )

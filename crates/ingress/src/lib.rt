@@ -4,13 +4,14 @@
 ghost use mathlib.Core.Path.{_≡_};
 ghost use Prim.Native.Nat.{_≤_};
 ghost use lib.ListN.{length};
-ghost use Rattle.ingress.specs.Ingress.{isNotice, deliver, delivery, world, once, stepped, run, ran};
+ghost use Rattle.ingress.specs.Ingress.{isNotice, deliver, delivery, world, once, stepped, run, ran, isSound, advanced, result};
 use digest::Answer;
 use digest::Kind;
 use queue::Put;
 use queue::Queue;
 use slot::Slot;
 use slot::Turned;
+use table::Checked;
 
 // Where the bytes in the buffer end, and the slot and the queue beside it.
 pub struct State {
@@ -145,4 +146,67 @@ fn run(table: &[u8], state: State, buf: &mut [u8], slot_mem: &mut [u8], queue_me
         }
     }
     Ran::Is(s)
+}
+
+// Do the numbers fit the memories? The end lies in the buffer, the stored length in the slot's memory, start and count within their bounds.
+fn is_sound(state: State, buf: usize, slot_mem: usize, queue_mem: usize) -> bool
+    ensures { λ r. ⌜ r ≡ isSound state buf «slot_mem» «queue_mem» ⌝ }
+{
+    if buf < state.end {
+        return false;
+    }
+    let slot = state.slot;
+    if slot_mem < slot.len {
+        return false;
+    }
+    let queue = state.queue;
+    queue.is_bounded(queue::capacity(queue_mem))
+}
+
+// The state after an advance, or the refusal: 1 to 4 leave all as it stood, 5 with the state that is left.
+pub enum Advanced {
+    Is(State),
+    TooLong,
+    BadTable(usize),
+    BadState,
+    NoRoom,
+    Full(State),
+}
+
+// Adds the commit to what is in the buffer, then digests, delivers and moves until nothing more is consumed.
+pub fn advance(
+    state: State,
+    commit: usize,
+    table: &[u8],
+    buf: &mut [u8],
+    slot_mem: &mut [u8],
+    queue_mem: &mut [u8],
+) -> Advanced
+    ensures { λ r. ⌜ result state r (now (buf .exit)) (now («slot_mem» .exit)) (now («queue_mem» .exit)) ≡ advanced (now (table .entry)) commit (world state (now (buf .entry)) (now («slot_mem» .entry)) (now («queue_mem» .entry))) ⌝ }
+{
+    let room = buf.len();
+    if digest::LONGEST < room {
+        return Advanced::TooLong;
+    }
+    if let Checked::Faulty(k) = table::check(table) {
+        return Advanced::BadTable(k);
+    }
+    if !is_sound(state, room, slot_mem.len(), queue_mem.len()) {
+        return Advanced::BadState;
+    }
+    let end = state.end;
+    if room - end < commit {
+        return Advanced::NoRoom;
+    }
+    let slot = state.slot;
+    let queue = state.queue;
+    let committed = State {
+        end: end + commit,
+        slot: slot,
+        queue: queue,
+    };
+    match run(table, committed, buf, slot_mem, queue_mem) {
+        Ran::Is(s) => Advanced::Is(s),
+        Ran::Full(s) => Advanced::Full(s),
+    }
 }

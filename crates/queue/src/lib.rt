@@ -94,7 +94,8 @@ impl Queue {
         }
     }
 
-    fn is_bounded(self, cap: usize) -> bool
+    // Are start and count within their bounds for a memory of that capacity?
+    pub fn is_bounded(self, cap: usize) -> bool
         ensures { λ r. ⌜ r ≡ inBounds cap self ⌝ }
     {
         if !start_in(cap, self.start) {
