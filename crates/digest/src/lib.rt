@@ -9,7 +9,7 @@ ghost use Rattle.text.specs.Text.{stands, findIn, partOf};
 ghost use Rattle.parser.specs.Parser.{fixedText, noticeAt};
 ghost use Rattle.parser.specs.declared.Fixed.the-variants as fixed;
 ghost use Rattle.digest.specs.Answer.{numbered, stored, isFound, placed, answer, nothing, shift};
-ghost use Rattle.digest.specs.Digest.{skipped, trimmedAnswer, heard, notices, firstCustom, success, customSuccess, lineSuccess, successes, customPrompts, promptTried, prompts, customError, numericFrom, lineFrom, numericErrors, lineErrors, headTried, errors, tried, retries, digest, digested, digestChecked, outcome};
+ghost use Rattle.digest.specs.Digest.{skipped, trimmedAnswer, heard, notices, firstCustom, success, customSuccess, lineSuccess, successes, customPrompts, promptTried, prompts, customError, numericFrom, lineFrom, numericErrors, lineErrors, headTried, errors, byRule, tried, retries, digest, digested, digestChecked, outcome};
 ghost use Rattle.digest.specs.Heard.{HeardIn};
 use parser::Fixed;
 use parser::Notice;
@@ -410,21 +410,42 @@ fn errors(table: &[u8], s: &[u8], e: usize) -> Tried
     not_allowed(s, e)
 }
 
-// Rules 2 to 5: all of a level but the retry.
+// The rules that may answer on a level.
+pub enum Rule {
+    Notices,
+    Successes,
+    Prompts,
+    Errors,
+}
+
+// What one rule gives.
+fn by_rule(rule: Rule, table: &[u8], s: &[u8], e: usize) -> Tried
+    requires { ⌜ e ≤ length (now s) ⌝ }
+    ensures { λ r. ⌜ r ≡ byRule rule (tokens (now (table .entry))) (now (s .entry)) e ⌝ }
+{
+    match rule {
+        Rule::Notices => notices(table, s, e),
+        Rule::Successes => successes(table, s, e),
+        Rule::Prompts => prompts(table, s, e),
+        Rule::Errors => errors(table, s, e),
+    }
+}
+
+// Rules 2 to 5 in their order: all of a level but the retry.
 fn try_once(table: &[u8], s: &[u8], e: usize) -> Tried
     requires { ⌜ e ≤ length (now s) ⌝ }
     ensures { λ r. ⌜ r ≡ tried (tokens (now (table .entry))) (now (s .entry)) e ⌝ }
 {
-    if let Tried::Done(a) = notices(table, s, e) {
+    if let Tried::Done(a) = by_rule(Rule::Notices, table, s, e) {
         return Tried::Done(a);
     }
-    if let Tried::Done(a) = successes(table, s, e) {
+    if let Tried::Done(a) = by_rule(Rule::Successes, table, s, e) {
         return Tried::Done(a);
     }
-    if let Tried::Done(a) = prompts(table, s, e) {
+    if let Tried::Done(a) = by_rule(Rule::Prompts, table, s, e) {
         return Tried::Done(a);
     }
-    errors(table, s, e)
+    by_rule(Rule::Errors, table, s, e)
 }
 
 // Rule 6: does the digester call itself?
