@@ -5,7 +5,7 @@ ghost use Prim.Native.Nat.{_≤_, _+_};
 ghost use lib.ListN.{length};
 ghost use Rattle.table.specs.Table.{tokens, entries};
 ghost use Rattle.table.specs.declared.Mark.the-variants as mark;
-ghost use Rattle.text.specs.Text.{stands, findIn, partOf};
+ghost use Rattle.text.specs.Text.{stands, findIn, partOf, partAt, further};
 ghost use Rattle.parser.specs.Parser.{fixedText, noticeAt};
 ghost use Rattle.parser.specs.declared.Fixed.the-variants as fixed;
 ghost use Rattle.digest.specs.Answer.{numbered, stored, isFound, placed, answer, nothing, shift};
@@ -519,6 +519,7 @@ pub fn digest_checked(table: &[u8], input: &[u8]) -> Answer
 // The payload of an answer as a part of the caller's own input; a place and length that don't fit give its empty front part.
 pub fn payload(input: &[u8], place: usize, len: usize) -> &[u8]
     ensures { λ r. ⌜ now r ≡ partOf (now (input .entry)) place len ⌝ }
+    ensures lies { λ r. ⌜ r .ptr ≡ further (input .entry .ptr) (partAt (now (input .entry)) place len) ⌝ }
 {
     text::part(input, place, len)
 }

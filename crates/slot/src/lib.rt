@@ -2,7 +2,7 @@
 // The slot is a struct by value beside lent memory; each call takes the slot and hands the next slot back, or refuses with 3
 // where the stored length is past the memory, and then neither slot nor memory has changed.
 ghost use mathlib.Core.Path.{_≡_};
-ghost use Rattle.text.specs.Text.{partOf};
+ghost use Rattle.text.specs.Text.{partOf, partAt, further};
 ghost use Rattle.slot.specs.Slot.{isResponse, carries, newSlot, lostOne, filled, overflowing, freed, after, signalled, outcome, wasReset, wasRead, reading};
 use digest::Answer;
 use digest::Kind;
@@ -191,6 +191,7 @@ impl Slot {
     // The stored payload as a part of the caller's memory; a stored length past the memory gives its empty front part.
     pub fn payload(self, mem: &[u8]) -> &[u8]
         ensures { λ r. ⌜ now r ≡ partOf (now (mem .entry)) 0 (self .len) ⌝ }
+        ensures lies { λ r. ⌜ r .ptr ≡ further (mem .entry .ptr) (partAt (now (mem .entry)) 0 (self .len)) ⌝ }
     {
         text::part(mem, 0, self.len)
     }

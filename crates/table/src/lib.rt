@@ -2,6 +2,7 @@
 // A record is a two-byte mark, for CP one prompt byte, a length byte and the text. It is known by its number, from 0.
 // Every function is total. `check` alone judges a table; the readers take the records as they lie, up to the first that can't be read.
 ghost use mathlib.Core.Path.{_≡_};
+ghost use Rattle.text.specs.Text.{partAt, further};
 ghost use Rattle.table.specs.Table.{isPlain, isText, textAt, promptAt, recordAt, textOf, goodAt, ruling, outcome, markNumber, sameMark, nextOf, nthFrom};
 
 // What a record stands for: UR, CS, CE, CP.
@@ -135,6 +136,7 @@ pub fn record_at(t: &[u8], at: usize) -> Read
 // A record's text as a part of the table; the empty front part where the record doesn't lie in this table.
 pub fn text_of(t: &[u8], r: Record) -> &[u8]
     ensures { λ x. ⌜ now x ≡ textOf (now (t .entry)) r ⌝ }
+    ensures lies { λ x. ⌜ x .ptr ≡ further (t .entry .ptr) (partAt (now (t .entry)) (r .place) (r .len)) ⌝ }
 {
     text::part(t, r.place, r.len)
 }

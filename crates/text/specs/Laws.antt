@@ -6,14 +6,14 @@ use mathlib.Core.Bool.{Bool, true, false, _&&_}
 use mathlib.Core.List.{List, [], _∷_, _++_}
 use Prim.Native.Nat.{ℕ, zero, suc, _+_, _-_, _≤_, _<_}
 use native.Mathlib.Numerals.{add-one, sub-one}
-use native.Mathlib.Nat.{add-zero, not-suc-le-zero, le-of-suc-le-suc, eq-or-lt-of-le}
+use native.Mathlib.Nat.{add-zero, zero-add, not-suc-le-zero, le-of-suc-le-suc, eq-or-lt-of-le}
 use native.Mathlib.Omega.{arith}
 use lib.ListN.{length, getD, take, drop, length-drop}
 use lib.Seq.{take-all, drop-cons, length-take-le, drop-drop, drop-append-le, getD-drop}
 use lib.Dec.{eqb}
 use borrow.Author.Tests.{eq-eqb, ne-eqb, eqb-true, eqb-false, le-leb, lt-leb}
 use Rattle.text.specs.Logic.{false-true, and-both, and-assoc, order}
-use Rattle.text.specs.Text.{leadAfter, lead, past, keepAfter, keep, trimmed, begins, stands, search, hereOr, findIn, orEmpty, partOf}
+use Rattle.text.specs.Text.{leadAfter, lead, past, keepAfter, keep, trimmed, begins, stands, search, hereOr, findIn, orEmpty, partOf, orFront, partAt, further}
 use Rattle.text.specs.Steps.{stands-past, find-here, find-next, find-end}
 use Rattle.text.specs.declared.Span.{Span}
 use Rattle.text.specs.declared.Found.{Found}
@@ -321,6 +321,14 @@ part-none s p len h = rw (lt-leb (p + len) (length s) h)
 pub part-is : (s : List ℕ) (p len : ℕ) → p + len ≤ length s → take len (drop p s) ≡ partOf s p len
 unfolding partOf orEmpty
 part-is s p len h = rw (le-leb (p + len) (length s) h)
+
+pub part-front : (s : List ℕ) (p len : ℕ) (a : ℕ × ℕ) → length s < p + len → a ≡ further a (partAt s p len)
+unfolding partAt orFront
+part-front s p len a h = rw (lt-leb (p + len) (length s) h, zero-add)
+
+pub part-on : (s : List ℕ) (p len : ℕ) (a : ℕ × ℕ) → p + len ≤ length s → further a p ≡ further a (partAt s p len)
+unfolding partAt orFront
+part-on s p len a h = rw (le-leb (p + len) (length s) h)
 
 pub trim-is : (f : ℕ → Bool) (s : List ℕ) (a n : ℕ) → a ≡ past f s 0 → n ≡ keep f (take (length s - a) (drop a s)) → _≡_ {A = Span} (record { start = a; len = n }) (trimmed f s)
 unfolding trimmed past

@@ -93,3 +93,16 @@ orEmpty false l = []
 unfoldable pub partOf : List ℕ → ℕ → ℕ → List ℕ
 unfolding orEmpty
 partOf s p len = orEmpty (leb (p + len) (length s)) (take len (drop p s))
+
+-- where that part begins: at p, or at the front where it doesn't fit
+unfoldable pub orFront : Bool → ℕ → ℕ
+orFront true p = p
+orFront false p = 0
+
+unfoldable pub partAt : List ℕ → ℕ → ℕ → ℕ
+unfolding orFront
+partAt s p len = orFront (leb (p + len) (length s)) p
+
+-- n bytes further on from an address (a block of memory and an offset in it)
+abbrev pub further : ℕ × ℕ → ℕ → ℕ × ℕ
+further a n = (a .0, n + a .1)

@@ -2,7 +2,8 @@
 // They answer as the slice methods that atat's digest.rs leans on (trim_ascii, nom's multispace0 and take_until), by places in the caller's bytes.
 // Every function is total: none has a `requires`, and a place past the end has a stated answer.
 ghost use mathlib.Core.Path.{_≡_};
-ghost use Rattle.text.specs.Text.{isBlank, past, keep, trimmed, stands, findIn, partOf};
+ghost use lib.Dec.{eqb};
+ghost use Rattle.text.specs.Text.{isBlank, past, keep, trimmed, stands, findIn, partOf, partAt, further};
 
 // Which bytes count as blank: the space alone, document 01's run blanks, or its trim blanks.
 pub enum Blanks {
@@ -98,6 +99,13 @@ pub fn trim(set: Blanks, s: &[u8]) -> Span
     Span { start: a, len: n }
 }
 
+// Letter case is exact: the crate's `tag_no_case` runs behind a search that is.
+fn same(a: u8, b: u8) -> bool
+    ensures { λ r. ⌜ r ≡ eqb a b ⌝ }
+{
+    a == b
+}
+
 // Does t stand in s at `at`? The empty text stands everywhere, past the end too; no other text does there.
 pub fn matches_at(s: &[u8], at: usize, t: &[u8]) -> bool
     ensures { λ r. ⌜ r ≡ stands (now (t .entry)) (now (s .entry)) at ⌝ }
@@ -110,7 +118,7 @@ pub fn matches_at(s: &[u8], at: usize, t: &[u8]) -> bool
     }
     let mut k = 0;
     while k < t.len() {
-        if s[at + k] != t[k] {
+        if !same(s[at + k], t[k]) {
             return false;
         }
         k += 1;
@@ -139,6 +147,7 @@ pub fn find(s: &[u8], from: usize, t: &[u8]) -> Found
 // A place and length that don't fit give the empty front part.
 pub fn part(s: &[u8], place: usize, len: usize) -> &[u8]
     ensures { λ r. ⌜ now r ≡ partOf (now (s .entry)) place len ⌝ }
+    ensures lies { λ r. ⌜ r .ptr ≡ further (s .entry .ptr) (partAt (now (s .entry)) place len) ⌝ }
 {
     if s.len() < place {
         return &s[..0];

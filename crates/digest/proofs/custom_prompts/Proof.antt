@@ -56,7 +56,7 @@ returns-2 c =
     let text-of = c .before .before .before .before .before .text-of in
     let custom-prompt = c .before .before .before .before .custom-prompt in
     let prompt-tried = c .before .before .before .prompt-tried in
-    prompts-hit (args .table .now) (args .s .now) (args .e) (loop .at) (loop .n) (loop .inv) _ (next-of .ensures) _ _ (r .given .1) _ (text-of .ensures) _ (custom-prompt .ensures) _ (prompt-tried .ensures) _ (c .before .a .given .1)
+    prompts-hit (args .table .now) (args .s .now) (args .e) (loop .at) (loop .n) (loop .inv) _ (next-of .ensures) _ _ (r .given .1) _ (text-of .ensures .0) _ (custom-prompt .ensures) _ (prompt-tried .ensures) _ (c .before .a .given .1)
 
 enum-told-2 : tie.Need-enum-told-2 Inv-loop μ-loop
 enum-told-2 c = search needs
@@ -94,7 +94,7 @@ loop-again c =
     let text-of = c .before .before .before .before .before .text-of in
     let custom-prompt = c .before .before .before .before .custom-prompt in
     let prompt-tried = c .before .before .before .prompt-tried in
-    prompts-more (args .table .now) (args .s .now) (args .e) (loop .at) (loop .n) (loop .inv) _ (next-of .ensures) _ _ (r .given .1) _ (text-of .ensures) _ (custom-prompt .ensures) _ (prompt-tried .ensures) (c .before .enum-told2 .given .1)
+    prompts-more (args .table .now) (args .s .now) (args .e) (loop .at) (loop .n) (loop .inv) _ (next-of .ensures) _ _ (r .given .1) _ (text-of .ensures .0) _ (custom-prompt .ensures) _ (prompt-tried .ensures) (c .before .enum-told2 .given .1)
 
 pub custom-prompts-spec : {M : Type 1} → statement M
 custom-prompts-spec =

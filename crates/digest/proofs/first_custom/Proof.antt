@@ -59,7 +59,7 @@ returns-2 c =
     let r = c .before .before .before .before .before .before .r in
     let text-of = c .before .before .before .before .text-of in
     let find-custom = c .before .before .before .find-custom in
-    custom-hit _ (args .table .now) (args .s .now) (args .e) (loop .at) (loop .n) (loop .inv) _ (next-of .ensures) _ _ (r .given .1) _ (text-of .ensures) _ (find-custom .ensures) _ (c .before .place .given .1)
+    custom-hit _ (args .table .now) (args .s .now) (args .e) (loop .at) (loop .n) (loop .inv) _ (next-of .ensures) _ _ (r .given .1) _ (text-of .ensures .0) _ (find-custom .ensures) _ (c .before .place .given .1)
 
 enum-told-2 : tie.Need-enum-told-2 Inv-loop μ-loop
 enum-told-2 c = search needs
@@ -96,7 +96,7 @@ loop-again c =
     let r = c .before .before .before .before .before .before .r in
     let text-of = c .before .before .before .before .text-of in
     let find-custom = c .before .before .before .find-custom in
-    custom-more _ (args .table .now) (args .s .now) (args .e) (loop .at) (loop .n) (loop .inv) _ (next-of .ensures) _ _ (r .given .1) _ (text-of .ensures) _ (find-custom .ensures) (c .before .enum-told2 .given .1)
+    custom-more _ (args .table .now) (args .s .now) (args .e) (loop .at) (loop .n) (loop .inv) _ (next-of .ensures) _ _ (r .given .1) _ (text-of .ensures .0) _ (find-custom .ensures) (c .before .enum-told2 .given .1)
 
 pub first-custom-spec : {M : Type 1} → statement M
 first-custom-spec =

@@ -62,7 +62,7 @@ returns-2 c =
     let r = c .before .before .before .before .before .before .r in
     let text-of = c .before .before .before .before .text-of in
     let one-notice = c .before .before .before .one-notice in
-    notices-hit (args .table .now) (args .s .now) (args .e) (loop .at) (loop .n) (loop .inv) _ (next-of .ensures) _ _ (r .given .1) _ (text-of .ensures) _ (one-notice .ensures) _ (c .before .a .given .1)
+    notices-hit (args .table .now) (args .s .now) (args .e) (loop .at) (loop .n) (loop .inv) _ (next-of .ensures) _ _ (r .given .1) _ (text-of .ensures .0) _ (one-notice .ensures) _ (c .before .a .given .1)
 
 enum-told-2 : tie.Need-enum-told-2 Inv-loop μ-loop
 enum-told-2 c = search needs
@@ -99,7 +99,7 @@ loop-again c =
     let r = c .before .before .before .before .before .before .r in
     let text-of = c .before .before .before .before .text-of in
     let one-notice = c .before .before .before .one-notice in
-    notices-more (args .table .now) (args .s .now) (args .e) (loop .at) (loop .n) (loop .inv) _ (next-of .ensures) _ _ (r .given .1) _ (text-of .ensures) _ (one-notice .ensures) (c .before .enum-told2 .given .1)
+    notices-more (args .table .now) (args .s .now) (args .e) (loop .at) (loop .n) (loop .inv) _ (next-of .ensures) _ _ (r .given .1) _ (text-of .ensures .0) _ (one-notice .ensures) (c .before .enum-told2 .given .1)
 
 pub notices-spec : {M : Type 1} → statement M
 notices-spec =

@@ -65,7 +65,7 @@ returns c =
     let digest-checked = c .before .before .before .before .before .before .before .before .before .before .before .digest-checked in
     let payload = c .before .before .before .before .before .before .before .before .before .payload in
     let deliver = c .before .before .before .before .before .before .deliver in
-    step-full (args .table .now) (args .state) (args .buf .now) (args .slot-mem .now) (args .queue-mem .now) _ (digest-checked .ensures) _ (payload .ensures) _ _ _ (deliver .ensures) (c .enum-told .given .1)
+    step-full (args .table .now) (args .state) (args .buf .now) (args .slot-mem .now) (args .queue-mem .now) _ (digest-checked .ensures) _ (payload .ensures .0) _ _ _ (deliver .ensures) (c .enum-told .given .1)
 
 same-length-4 : tie.Need-same-length-4
 same-length-4 c = search needs
@@ -84,7 +84,7 @@ returns-2 c =
     let deliver = c .before .before .before .before .before .before .before .before .before .before .before .before .before .deliver in
     let next = c .before .before .before .before .before .before .before .next in
     let move-down = c .before .before .move-down in
-    step-is (args .table .now) (args .state) (args .buf .now) (args .slot-mem .now) (args .queue-mem .now) _ (digest-checked .ensures) _ (payload .ensures) _ _ _ (deliver .ensures) _ (next .given .1) _ (move-down .ensures)
+    step-is (args .table .now) (args .state) (args .buf .now) (args .slot-mem .now) (args .queue-mem .now) _ (digest-checked .ensures) _ (payload .ensures .0) _ _ _ (deliver .ensures) _ (next .given .1) _ (move-down .ensures)
 
 pub step-spec : {M : Type 1} → statement M
 step-spec =

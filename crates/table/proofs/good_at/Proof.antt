@@ -23,7 +23,7 @@ returns c =
     let record-at = c .before .before .before .before .before .before .record-at in
     let r = c .before .before .before .before .r in
     let text-of = c .before .before .text-of in
-    good-bad _ _ _ (record-at .ensures) _ (r .given .1) _ (text-of .ensures) _ (c .before .is-text .ensures) (not-true _ (c .if1 .taken))
+    good-bad _ _ _ (record-at .ensures) _ (r .given .1) _ (text-of .ensures .0) _ (c .before .is-text .ensures) (not-true _ (c .if1 .taken))
 
 enum-told : tie.Need-enum-told
 enum-told c = search needs
@@ -36,7 +36,7 @@ returns-2 c =
     let record-at = c .before .before .before .before .before .before .record-at in
     let r = c .before .before .before .before .r in
     let text-of = c .before .before .text-of in
-    good-good _ _ _ (record-at .ensures) _ (r .given .1) _ (text-of .ensures) _ (c .before .is-text .ensures) (not-false _ (c .if1 .left))
+    good-good _ _ _ (record-at .ensures) _ (r .given .1) _ (text-of .ensures .0) _ (c .before .is-text .ensures) (not-false _ (c .if1 .left))
 
 returns-3 : tie.Need-returns-3
 returns-3 c =
