@@ -1,14 +1,15 @@
 -- Laws of `put` and `moved`. Both loops copy a list over another byte by byte, which is the library's `paste`. Assumes nothing.
 use mathlib.Core.Path.{_≡_, refl, sym, ap, _∙_}
+use mathlib.Core.Logic.{_⊎_, ⊎-elim}
 use mathlib.Core.Bool.{Bool, true, false}
 use mathlib.Core.List.{List, _++_}
 use Prim.Native.Nat.{ℕ, _+_, _-_, _≤_, _<_}
 use native.Mathlib.Numerals.{add-one}
 use native.Mathlib.Omega.{arith}
-use lib.ListN.{length, getD, take, drop, set, length-append, length-drop}
-use lib.Seq.{paste, paste-suc, drop-paste, getD-drop, take-length, length-take-le}
+use lib.ListN.{length, getD, take, drop, set, take-append-drop, length-append, length-drop}
+use lib.Seq.{paste, paste-suc, drop-paste, drop-drop, drop-at, drop-append-le, getD-drop, take-length, take-append-le, take-append-seam, length-take-le}
 use lib.Dec.{leb}
-use borrow.Author.Tests.{le-leb, lt-leb, leb-true}
+use borrow.Author.Tests.{le-leb, lt-leb, leb-true, leb-false}
 use Rattle.moves.specs.Moves.{ifFits, put, moved}
 
 module _ (m : List ℕ) (i : ℕ) (p : List ℕ) where
@@ -36,6 +37,49 @@ module _ (m : List ℕ) (i : ℕ) (p : List ℕ) where
           let k : i ≤ length m = omega arith in
           rw (length-append, length-append, length-take-le i m k, length-drop) (omega arith)
       go false e = unfold ifFits in refl
+
+-- bytes of the first of two lists, one after the other
+pub part-first : (x y : List ℕ) (a n : ℕ) → a + n ≤ length x → take n (drop a (x ++ y)) ≡ take n (drop a x)
+part-first x y a n h =
+    let u : a ≤ length x = omega arith in
+    let v : n ≤ length (drop a x) = rw length-drop (omega arith) in
+    rw (drop-append-le a x y u, take-append-le n (drop a x) y v)
+
+module _ (m : List ℕ) (i : ℕ) (p : List ℕ) where
+  -- what is put stands there
+  pub put-there : i + length p ≤ length m → take (length p) (drop i (put m i p)) ≡ p
+  put-there h =
+      let u : length (take i m) ≡ i = length-take-le i m (omega arith) in
+      let v : i ≤ length (take i m ++ p) = rw (length-append, u) (omega arith) in
+      ap (λ (x : List ℕ). take (length p) (drop i x)) (sym (put-is m i p h))
+      ∙ rw (drop-append-le i (take i m ++ p) (drop (i + length p) m) v, drop-at (take i m) p i u) (take-append-seam p (drop (i + length p) m))
+
+  -- and bytes elsewhere are what they were
+  module _ (a n : ℕ) where
+    fits-before : i + length p ≤ length m → a + n ≤ i → take n (drop a (put m i p)) ≡ take n (drop a m)
+    fits-before h g =
+        let u : length (take i m) ≡ i = length-take-le i m (omega arith) in
+        let v : length (take i m ++ p) ≡ i + length p = rw (length-append, u) in
+        ap (λ (x : List ℕ). take n (drop a x)) (sym (put-is m i p h))
+        ∙ part-first (take i m ++ p) (drop (i + length p) m) a n (omega arith)
+        ∙ part-first (take i m) p a n (omega arith)
+        ∙ sym (part-first (take i m) (drop i m) a n (omega arith))
+        ∙ ap (λ (x : List ℕ). take n (drop a x)) (take-append-drop i m)
+
+    fits-behind : i + length p ≤ length m → i + length p ≤ a → take n (drop a (put m i p)) ≡ take n (drop a m)
+    fits-behind h g =
+        let e : i + length p + (a - (i + length p)) ≡ a = omega arith in
+        let f : drop (i + length p) (put m i p) ≡ drop (i + length p) m = ap (drop (i + length p)) (sym (put-all m i p h)) ∙ drop-paste m i p (length p) (omega arith) (omega arith) in
+        ap (λ (x : ℕ). take n (drop x (put m i p))) (sym e)
+        ∙ ap (take n) (sym (drop-drop (a - (i + length p)) (i + length p) (put m i p)) ∙ ap (drop (a - (i + length p))) f ∙ drop-drop (a - (i + length p)) (i + length p) m)
+        ∙ ap (λ (x : ℕ). take n (drop x m)) e
+
+    pub put-elsewhere : (a + n ≤ i) ⊎ (i + length p ≤ a) → take n (drop a (put m i p)) ≡ take n (drop a m)
+    put-elsewhere g = go (leb (i + length p) (length m)) refl
+      where
+        go : (b : Bool) → leb (i + length p) (length m) ≡ b → take n (drop a (put m i p)) ≡ take n (drop a m)
+        go true e = let h = leb-true (i + length p) (length m) e in ⊎-elim (fits-before h) (fits-behind h) g
+        go false e = ap (λ (x : List ℕ). take n (drop a x)) (sym (put-none m i p (leb-false (i + length p) (length m) e)))
 
 module _ (b : List ℕ) (n e : ℕ) where
   pub moved-back : e < n → b ≡ moved b n e

@@ -2,10 +2,10 @@
 use mathlib.Core.Bool.{Bool, true, false, _&&_}
 use mathlib.Core.List.{List, [], _∷_, _++_}
 use Prim.Native.Nat.{ℕ, zero, suc, _+_, _-_, _*_, _/_, min}
-use lib.ListN.{length, getD}
+use lib.ListN.{length, getD, take, drop}
 use lib.Dec.{eqb, leb, ltb}
 use Rattle.text.specs.Bytes.{bytes}
-use Rattle.text.specs.Text.{stands}
+use Rattle.text.specs.Text.{stands, partOf}
 use Rattle.moves.specs.Moves.{put, oneMore}
 use Rattle.table.specs.Outcome.{Outcome, answered, refused}
 use Rattle.queue.specs.declared.Queue.{Queue}
@@ -127,3 +127,34 @@ takeBy true true true g x m = answered (got (shorter (capacityOf g (length m)) x
 unfoldable pub taken : Geometry → Queue → List ℕ → Outcome Got
 unfolding takeBy
 taken g x m = takeBy (inBounds (capacityOf g (length m)) x) (leb 1 (x .count)) (recordGood g m (g .size * x .start)) g x m
+
+-- a notice as the queue holds it: its table number and its payload
+pub record Arrival : Type 0 where
+  pub number : ℕ
+  pub payload : List ℕ
+
+-- the bytes of the record at a place of the ring
+abbrev pub recordBytes : Geometry → List ℕ → ℕ → List ℕ
+recordBytes g m place = take (g .size) (drop (g .size * place) m)
+
+-- what a record's bytes say
+unfoldable pub arrivalOf : Geometry → List ℕ → Arrival
+arrivalOf g r = record { number = getD r 2 0; payload = partOf r (g .head) (getD r 3 0) }
+
+-- n notices from the i-th held on, oldest first
+unfoldable pub heldFrom : Geometry → List ℕ → ℕ → ℕ → ℕ → ℕ → List Arrival
+heldFrom g m cap start i zero = []
+heldFrom g m cap start i (suc n) = let r = heldFrom g m cap start (suc i) n in arrivalOf g (recordBytes g m (ringPlace start i cap)) ∷ r
+
+-- the notices that the queue holds, oldest first
+unfoldable pub waiting : Geometry → Queue → List ℕ → List Arrival
+waiting g x m = heldFrom g m (capacityOf g (length m)) (x .start) 0 (x .count)
+
+unfoldable pub oneIf : Bool → Arrival → List Arrival
+oneIf true a = a ∷ []
+oneIf false a = []
+
+-- what a put adds: a notice with 1 to 128 bytes of payload; another is lost
+unfoldable pub adds : Geometry → ℕ → List ℕ → List Arrival
+unfolding oneIf
+adds g number p = oneIf (leb 1 (length p) && leb (length p) (g .longest)) (record { number = number; payload = p })
