@@ -65,3 +65,56 @@ module _ (g : Geometry) (cap : ℕ) where
   unfolding heldFrom
   held-next m start i zero s h = refl
   held-next m start i (suc n) s h = rw (ring-next start cap i s (omega arith), held-next m start (suc i) n s (omega arith))
+
+-- what the record at a place says, where it lies in the memory with a length up to 128
+arrival-is : (m : List ℕ) (place : ℕ) → 132 * place + 132 ≤ length m → (len : ℕ) → len ≡ getD m (132 * place + 3) 0 → len ≤ 128 → arrivalOf ours (recordBytes ours m place) ≡ record { number = getD m (132 * place + 2) 0; payload = take len (drop (132 * place + 4) m) }
+unfolding arrivalOf
+arrival-is m place h len e l =
+    let r : List ℕ = recordBytes ours m place in
+    let byte : (j : ℕ) → j < 132 → getD r j 0 ≡ getD m (132 * place + j) 0 = λ j q. getD-take 132 (drop (132 * place) m) j 0 q ∙ getD-drop (132 * place) m j 0 in
+    let w : length r ≡ 132 = length-take-le 132 (drop (132 * place) m) (rw length-drop (omega arith)) in
+    let u : getD r 3 0 ≡ len = byte 3 (omega arith) ∙ sym e in
+    let v : partOf r 4 (getD r 3 0) ≡ take len (drop (132 * place + 4) m) =
+        ap (partOf r 4) u
+        ∙ sym (part-is r 4 len (omega arith))
+        ∙ sym (part-first r (drop 132 (drop (132 * place) m)) 4 len (omega arith))
+        ∙ ap (λ (x : List ℕ). take len (drop 4 x)) (take-append-drop 132 (drop (132 * place) m))
+        ∙ ap (take len) (drop-drop 4 (132 * place) m) in
+    λ i. record { number = byte 2 (omega arith) i; payload = v i }
+
+-- the memory that a put wrote: as long, its record there, the others as they were
+module _ (x : Queue) (number : ℕ) (p m : List ℕ) where
+  pub written-length : length (written ours x number p m) ≡ length m
+  unfolding written
+  written-length =
+      let base = 132 * ringPlace (x .start) (x .count) (capacityOf ours (length m)) in
+      put-length (put m base (85 ∷ 82 ∷ number ∷ length p ∷ [])) (base + 4) p ∙ put-length m base (85 ∷ 82 ∷ number ∷ length p ∷ [])
+
+  module _ (s : x .start < capacityOf ours (length m)) (c : x .count < capacityOf ours (length m)) (l : length p ≤ 128) where
+    written-new : arrivalOf ours (recordBytes ours (written ours x number p m) (ringPlace (x .start) (x .count) (capacityOf ours (length m)))) ≡ record { number = number; payload = p }
+    unfolding written
+    written-new =
+        let place = ringPlace (x .start) (x .count) (capacityOf ours (length m)) in
+        let head : List ℕ = 85 ∷ 82 ∷ number ∷ length p ∷ [] in
+        let a : List ℕ = put m (132 * place) head in
+        let k : List ℕ = put a (132 * place + 4) p in
+        let h : 132 * place + 132 ≤ length m = omega (arith, ring-below (x .start) (x .count) (capacityOf ours (length m)) s (omega arith)) in
+        let u : length a ≡ length m = put-length m (132 * place) head in
+        let v : length k ≡ length a = put-length a (132 * place + 4) p in
+        let t : take 4 (drop (132 * place) k) ≡ head = put-elsewhere a (132 * place + 4) p (132 * place) 4 (inl (omega arith)) ∙ put-there m (132 * place) head (omega arith) in
+        let byte : (j : ℕ) → j < 4 → getD k (132 * place + j) 0 ≡ getD head j 0 =
+            λ j q. sym (getD-drop (132 * place) k j 0) ∙ sym (getD-take 4 (drop (132 * place) k) j 0 q) ∙ ap (λ (y : List ℕ). getD y j 0) t in
+        let w : take (length p) (drop (132 * place + 4) k) ≡ p = put-there a (132 * place + 4) p (omega arith) in
+        arrival-is k place (omega arith) (length p) (sym (byte 3 (omega arith))) l ∙ (λ i. record { number = byte 2 (omega arith) i; payload = w i })
+
+    written-old : (j : ℕ) → j < x .count → recordBytes ours (written ours x number p m) (ringPlace (x .start) j (capacityOf ours (length m))) ≡ recordBytes ours m (ringPlace (x .start) j (capacityOf ours (length m)))
+    unfolding written
+    written-old j h =
+        let cap = capacityOf ours (length m) in
+        let place = ringPlace (x .start) (x .count) cap in
+        let old = ringPlace (x .start) j cap in
+        let head : List ℕ = 85 ∷ 82 ∷ number ∷ length p ∷ [] in
+        ⊎-elim
+        (λ (q : old < place). put-elsewhere (put m (132 * place) head) (132 * place + 4) p (132 * old) 132 (inl (omega arith)) ∙ put-elsewhere m (132 * place) head (132 * old) 132 (inl (omega arith)))
+        (λ (q : place < old). put-elsewhere (put m (132 * place) head) (132 * place + 4) p (132 * old) 132 (inr (omega arith)) ∙ put-elsewhere m (132 * place) head (132 * old) 132 (inr (omega arith)))
+        (ring-apart (x .start) cap j (x .count) s h c)
