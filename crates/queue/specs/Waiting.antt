@@ -10,8 +10,8 @@ use native.Mathlib.Omega.{arith}
 use lib.ListN.{length, getD, take, drop, take-append-drop, length-drop}
 use lib.Seq.{length-take-le, getD-take, getD-drop, drop-drop}
 use lib.Dec.{leb, ltb}
-use borrow.Author.Tests.{le-leb, lt-ltb, leb-true, ltb-true}
-use Rattle.text.specs.Logic.{and-both, order}
+use borrow.Author.Tests.{le-leb, lt-ltb, leb-true, ltb-true, ltb-false}
+use Rattle.text.specs.Logic.{false-true, and-both, order}
 use Rattle.text.specs.Text.{partOf}
 use Rattle.text.specs.Laws.{part-is}
 use Rattle.moves.specs.Moves.{put}
@@ -19,7 +19,7 @@ use Rattle.moves.specs.Laws.{put-there, put-elsewhere, put-length, part-first}
 use Rattle.table.specs.Outcome.{Outcome, answered, refused}
 use Rattle.queue.specs.declared.Queue.{Queue}
 use Rattle.queue.specs.declared.Notice.{Notice}
-use Rattle.queue.specs.Queue.{Geometry, ours, capacityOf, inBounds, ringPlace, lostOne, longer, After, after, written, putBy, putInto, Got, got, empty, shorter, recordGood, noticeAt, takeBy, taken, Arrival, recordBytes, arrivalOf, heldFrom, waiting, oneIf, adds}
+use Rattle.queue.specs.Queue.{Geometry, ours, capacityOf, startIn, inBounds, ringPlace, lostOne, longer, After, after, written, putBy, putInto, Got, got, empty, shorter, recordGood, noticeAt, takeBy, taken, Arrival, recordBytes, arrivalOf, heldFrom, waiting, oneIf, adds}
 use Rattle.queue.specs.Laws.{start-some, bounds-room, bounds-count, ring-near, ring-far, ring-below, put-is, record-room}
 
 -- the ring: two of its places are apart, and from the next start each is one nearer
@@ -118,3 +118,98 @@ module _ (x : Queue) (number : ℕ) (p m : List ℕ) where
         (λ (q : old < place). put-elsewhere (put m (132 * place) head) (132 * place + 4) p (132 * old) 132 (inl (omega arith)) ∙ put-elsewhere m (132 * place) head (132 * old) 132 (inl (omega arith)))
         (λ (q : place < old). put-elsewhere (put m (132 * place) head) (132 * place + 4) p (132 * old) 132 (inr (omega arith)) ∙ put-elsewhere m (132 * place) head (132 * old) 132 (inr (omega arith)))
         (ring-apart (x .start) cap j (x .count) s h c)
+
+-- is the payload 1 to 128 bytes long?
+abbrev sized : List ℕ → Bool
+sized p = leb 1 (length p) && leb (length p) 128
+
+sized-both : (p : List ℕ) → sized p ≡ true → (1 ≤ length p) × (length p ≤ 128)
+sized-both p e = let w = and-both (leb 1 (length p)) (leb (length p) 128) e in (leb-true 1 (length p) (w .0), leb-true (length p) 128 (w .1))
+
+module _ (x : Queue) (number : ℕ) (p m : List ℕ) where
+  module _ (y : Queue) (k : List ℕ) where
+    -- an answered put lost the notice, or wrote it
+    abbrev LostIt : Type 0
+    LostIt = (sized p ≡ false) × ((y ≡ lostOne x) × (k ≡ m))
+
+    abbrev WroteIt : Type 0
+    WroteIt = ((sized p ≡ true) × (x .count < capacityOf ours (length m))) × ((y ≡ longer x) × (k ≡ written ours x number p m))
+
+    put-answers : after (answered y) k ≡ putInto ours x number p m → (inBounds (capacityOf ours (length m)) x ≡ true) × (LostIt ⊎ WroteIt)
+    unfolding putInto putBy
+    put-answers e = go (inBounds (capacityOf ours (length m)) x) (sized p) (ltb (x .count) (capacityOf ours (length m))) refl refl refl (ap (λ (w : After). w .said) e) (ap (λ (w : After). w .memory) e)
+      where
+        go : (b c r : Bool) → inBounds (capacityOf ours (length m)) x ≡ b → sized p ≡ c → ltb (x .count) (capacityOf ours (length m)) ≡ r → answered y ≡ putBy b c r ours x number p m .said → k ≡ putBy b c r ours x number p m .memory → (inBounds (capacityOf ours (length m)) x ≡ true) × (LostIt ⊎ WroteIt)
+        go false c r f g h o q = let z : _≡_ {A = ℕ} 0 1 = cc in absurd (omega arith)
+        go true false r f g h o q = (f, inl (g, (cc, q)))
+        go true true false f g h o q = let z : _≡_ {A = ℕ} 0 1 = cc in absurd (omega arith)
+        go true true true f g h o q = (f, inr ((g, ltb-true (x .count) (capacityOf ours (length m)) h), (cc, q)))
+
+    lost-waits : LostIt → waiting ours y k ≡ waiting ours x m ++ adds ours number p
+    unfolding waiting adds oneIf
+    lost-waits w =
+        (λ i. waiting ours (w .1 .0 i) (w .1 .1 i))
+        ∙ sym (append-nil (waiting ours x m))
+        ∙ ap (λ (b : Bool). waiting ours x m ++ oneIf b (record { number = number; payload = p })) (sym (w .0))
+
+    wrote-waits : inBounds (capacityOf ours (length m)) x ≡ true → WroteIt → waiting ours y k ≡ waiting ours x m ++ adds ours number p
+    unfolding waiting adds oneIf
+    wrote-waits b w =
+        let cap = capacityOf ours (length m) in
+        let c : x .count < cap = w .0 .1 in
+        let l : length p ≤ 128 = sized-both p (w .0 .0) .1 in
+        let s : x .start < cap = bounds-room cap x b (omega arith) .0 in
+        let d : List ℕ = written ours x number p m in
+        let old : heldFrom ours d cap (x .start) 0 (x .count) ≡ waiting ours x m = held-same ours cap d m (x .start) 0 (x .count) (λ j h. written-old x number p m s c l j (omega arith)) in
+        let new : arrivalOf ours (recordBytes ours d (ringPlace (x .start) (0 + x .count) cap)) ≡ record { number = number; payload = p } =
+            ap (λ (n : ℕ). arrivalOf ours (recordBytes ours d (ringPlace (x .start) n cap))) (zero-add (x .count)) ∙ written-new x number p m s c l in
+        (λ i. waiting ours (w .1 .0 i) (w .1 .1 i))
+        ∙ (λ i. heldFrom ours d (capacityOf ours (written-length x number p m i)) (x .start) 0 (add-one (x .count) i))
+        ∙ held-back ours cap d (x .start) 0 (x .count)
+        ∙ (λ i. old i ++ (new i ∷ []))
+        ∙ ap (λ (b : Bool). waiting ours x m ++ oneIf b (record { number = number; payload = p })) (sym (w .0 .0))
+
+    -- an answered put adds its notice at the back, or nothing where that is lost, and keeps the memory's length and the bounds
+    module _ (e : after (answered y) k ≡ putInto ours x number p m) where
+      pub put-waits : waiting ours y k ≡ waiting ours x m ++ adds ours number p
+      put-waits = let w = put-answers e in ⊎-elim lost-waits (wrote-waits (w .0)) (w .1)
+
+      pub put-kept : (length k ≡ length m) × (inBounds (capacityOf ours (length k)) y ≡ true)
+      unfolding inBounds
+      put-kept =
+          let cap = capacityOf ours (length m) in
+          let w = put-answers e in
+          ⊎-elim
+          (λ (v : LostIt). (ap length (v .1 .1), (λ i. inBounds (capacityOf ours (length (v .1 .1 i))) (v .1 .0 i)) ∙ w .0))
+          (λ (v : WroteIt).
+          let l : length k ≡ length m = ap length (v .1 .1) ∙ written-length x number p m in
+          let z : startIn cap (x .start) && leb (x .count + 1) cap ≡ true = rw (and-both (startIn cap (x .start)) (leb (x .count) cap) (w .0) .0, le-leb (x .count + 1) cap (omega (arith, v .0 .1))) in
+          (l, (λ i. inBounds (capacityOf ours (l i)) (v .1 .0 i)) ∙ z))
+          (w .1)
+
+  -- a refused put leaves every byte; within bounds it met a full queue with a payload of 1 to 128 bytes
+  module _ (n : ℕ) (v k : List ℕ) where
+    put-refuses : after (refused n v) k ≡ putInto ours x number p m → (k ≡ m) × (inBounds (capacityOf ours (length m)) x ≡ true → (capacityOf ours (length m) ≤ x .count) × ((1 ≤ length p) × (length p ≤ 128)))
+    unfolding putInto putBy
+    put-refuses e = go (inBounds (capacityOf ours (length m)) x) (sized p) (ltb (x .count) (capacityOf ours (length m))) refl refl refl (ap (λ (w : After). w .said) e) (ap (λ (w : After). w .memory) e)
+      where
+        go : (b c r : Bool) → inBounds (capacityOf ours (length m)) x ≡ b → sized p ≡ c → ltb (x .count) (capacityOf ours (length m)) ≡ r → refused n v ≡ putBy b c r ours x number p m .said → k ≡ putBy b c r ours x number p m .memory → (k ≡ m) × (inBounds (capacityOf ours (length m)) x ≡ true → (capacityOf ours (length m) ≤ x .count) × ((1 ≤ length p) × (length p ≤ 128)))
+        go false c r f g h o q = (q, λ t. absurd (false-true t f))
+        go true false r f g h o q = let z : _≡_ {A = ℕ} 0 1 = cc in absurd (omega arith)
+        go true true false f g h o q = (q, λ t. (ltb-false (x .count) (capacityOf ours (length m)) h, sized-both p g))
+        go true true true f g h o q = let z : _≡_ {A = ℕ} 0 1 = cc in absurd (omega arith)
+
+    pub put-stuck : after (refused n v) k ≡ putInto ours x number p m → k ≡ m
+    put-stuck e = put-refuses e .0
+
+    pub put-full-only : inBounds (capacityOf ours (length m)) x ≡ true → after (refused n v) k ≡ putInto ours x number p m → (capacityOf ours (length m) ≤ x .count) × ((1 ≤ length p) × (length p ≤ 128))
+    put-full-only b e = put-refuses e .1 b
+
+  -- with room, a payload of 1 to 128 bytes is written
+  pub put-room : inBounds (capacityOf ours (length m)) x ≡ true → x .count < capacityOf ours (length m) → 1 ≤ length p → length p ≤ 128 → after (answered (longer x)) (written ours x number p m) ≡ putInto ours x number p m
+  unfolding written
+  put-room b c l h =
+      let cap = capacityOf ours (length m) in
+      let place = ringPlace (x .start) (x .count) cap in
+      let a : List ℕ = put m (132 * place) (85 ∷ 82 ∷ number ∷ length p ∷ []) in
+      put-is x number p m cap refl b (λ z. omega arith) h c place refl a (put a (132 * place + 4) p) refl refl
