@@ -12,7 +12,8 @@ use lib.Seq.{length-take-le, getD-take, getD-drop, drop-drop}
 use lib.Dec.{leb, ltb}
 use borrow.Author.Tests.{le-leb, lt-ltb, leb-true, ltb-true, ltb-false}
 use Rattle.text.specs.Logic.{false-true, and-both, order}
-use Rattle.text.specs.Text.{partOf}
+use Rattle.text.specs.Bytes.{bytes}
+use Rattle.text.specs.Text.{stands, partOf}
 use Rattle.text.specs.Laws.{part-is}
 use Rattle.moves.specs.Moves.{put}
 use Rattle.moves.specs.Laws.{put-there, put-elsewhere, put-length, part-first}
@@ -213,3 +214,68 @@ module _ (x : Queue) (number : ℕ) (p m : List ℕ) where
       let place = ringPlace (x .start) (x .count) cap in
       let a : List ℕ = put m (132 * place) (85 ∷ 82 ∷ number ∷ length p ∷ []) in
       put-is x number p m cap refl b (λ z. omega arith) h c place refl a (put a (132 * place + 4) p) refl refl
+
+-- a take that hands out a record
+module _ (x y : Queue) (n : Notice) (m : List ℕ) (e : answered (got y n) ≡ taken ours x m) where
+  take-gets : ((inBounds (capacityOf ours (length m)) x ≡ true) × ((1 ≤ x .count) × (recordGood ours m (132 * x .start) ≡ true))) × ((y ≡ shorter (capacityOf ours (length m)) x) × (n ≡ noticeAt ours m (132 * x .start)))
+  unfolding taken takeBy
+  take-gets = go (inBounds (capacityOf ours (length m)) x) (leb 1 (x .count)) (recordGood ours m (132 * x .start)) refl refl refl e
+    where
+      go : (b c r : Bool) → inBounds (capacityOf ours (length m)) x ≡ b → leb 1 (x .count) ≡ c → recordGood ours m (132 * x .start) ≡ r → answered (got y n) ≡ takeBy b c r ours x m → ((inBounds (capacityOf ours (length m)) x ≡ true) × ((1 ≤ x .count) × (recordGood ours m (132 * x .start) ≡ true))) × ((y ≡ shorter (capacityOf ours (length m)) x) × (n ≡ noticeAt ours m (132 * x .start)))
+      go false c r f g h o = let z : _≡_ {A = ℕ} 0 1 = cc in absurd (omega arith)
+      go true false r f g h o = let z : _≡_ {A = ℕ} 0 1 = cc in absurd (omega arith)
+      go true true false f g h o = let z : _≡_ {A = ℕ} 0 1 = cc in absurd (omega arith)
+      go true true true f g h o = ((f, (leb-true 1 (x .count) g, h)), (cc, cc))
+
+  good-length : recordGood ours m (132 * x .start) ≡ true → getD m (132 * x .start + 3) 0 ≤ 128
+  unfolding recordGood
+  good-length h =
+      let len = getD m (132 * x .start + 3) 0 in
+      leb-true len 128 (and-both (leb 1 len) (leb len 128) (and-both (stands (bytes "UR") m (132 * x .start)) (leb 1 len && leb len 128) h .1) .1)
+
+  -- hands out the oldest notice and leaves the others
+  pub take-waits : waiting ours x m ≡ record { number = n .number; payload = partOf m (n .place) (n .len) } ∷ waiting ours y m
+  unfolding waiting heldFrom shorter
+  take-waits =
+      let w = take-gets in
+      let cap = capacityOf ours (length m) in
+      let h : 1 ≤ x .count = w .0 .1 .0 in
+      let c : x .count ≤ cap = bounds-count cap x (w .0 .0) in
+      let s : x .start < cap = bounds-room cap x (w .0 .0) (omega arith) .0 in
+      let len = getD m (132 * x .start + 3) 0 in
+      let l : len ≤ 128 = good-length (w .0 .1 .1) in
+      let r : 132 * x .start + 132 ≤ length m = omega arith in
+      let z : ringPlace (x .start) 0 cap ≡ x .start = sym (ring-near (x .start) 0 cap (omega arith)) ∙ add-zero (x .start) in
+      let first : arrivalOf ours (recordBytes ours m (ringPlace (x .start) 0 cap)) ≡ record { number = n .number; payload = partOf m (n .place) (n .len) } =
+          ap (λ (j : ℕ). arrivalOf ours (recordBytes ours m j)) z
+          ∙ arrival-is m (x .start) r len refl l
+          ∙ ap (λ (p : List ℕ). record { number = getD m (132 * x .start + 2) 0; payload = p }) (part-is m (132 * x .start + 4) len (omega arith))
+          ∙ ap (λ (k : Notice). record { number = k .number; payload = partOf m (k .place) (k .len) }) (sym (w .1 .1)) in
+      let u : x .count ≡ suc (x .count - 1) = omega arith in
+      ap (heldFrom ours m cap (x .start) 0) u
+      ∙ (λ i. first i ∷ held-next ours cap m (x .start) 0 (x .count - 1) s (omega arith) i)
+      ∙ ap (λ (q : Queue). record { number = n .number; payload = partOf m (n .place) (n .len) } ∷ waiting ours q m) (sym (w .1 .0))
+
+  -- and keeps the bounds, with room for one more
+  pub take-kept : (inBounds (capacityOf ours (length m)) y ≡ true) × (y .count < capacityOf ours (length m))
+  unfolding inBounds shorter
+  take-kept =
+      let w = take-gets in
+      let cap = capacityOf ours (length m) in
+      let h : 1 ≤ x .count = w .0 .1 .0 in
+      let c : x .count ≤ cap = bounds-count cap x (w .0 .0) in
+      let s : x .start < cap = bounds-room cap x (w .0 .0) (omega arith) .0 in
+      let u : startIn cap (ringPlace (x .start) 1 cap) ≡ true = sym (start-some cap (ringPlace (x .start) 1 cap) (λ z. omega arith)) ∙ lt-ltb (ringPlace (x .start) 1 cap) cap (ring-below (x .start) 1 cap s (omega arith)) in
+      let z : startIn cap (ringPlace (x .start) 1 cap) && leb (x .count - 1) cap ≡ true = rw (u, le-leb (x .count - 1) cap (omega arith)) in
+      (ap (inBounds cap) (w .1 .0) ∙ z, omega (arith, ap (λ (q : Queue). q .count) (w .1 .0)))
+
+-- a take that finds nothing leaves the queue
+pub take-empty : (x y : Queue) (m : List ℕ) → answered (empty y) ≡ taken ours x m → y ≡ x
+unfolding taken takeBy
+take-empty x y m e = go (inBounds (capacityOf ours (length m)) x) (leb 1 (x .count)) (recordGood ours m (132 * x .start)) e
+  where
+    go : (b c r : Bool) → answered (empty y) ≡ takeBy b c r ours x m → y ≡ x
+    go false c r o = let z : _≡_ {A = ℕ} 0 1 = cc in absurd (omega arith)
+    go true false r o = cc
+    go true true false o = let z : _≡_ {A = ℕ} 0 1 = cc in absurd (omega arith)
+    go true true true o = let z : _≡_ {A = ℕ} 0 1 = cc in absurd (omega arith)
