@@ -1,10 +1,10 @@
--- What puts and takes do to the notices that wait: an answered put adds its own at the back, a take hands out the oldest, and nothing else changes them. Assumes nothing.
+-- What puts and takes do to the notices that wait: an answered put adds its own at the back or loses it, a refused one changes no byte, a take hands out the oldest. Assumes nothing.
 use mathlib.Core.Path.{_≡_, refl, sym, ap, _∙_}
 use mathlib.Core.Logic.{_⊎_, inl, inr, ⊎-elim}
 use mathlib.Core.Bool.{Bool, true, false, _&&_}
 use mathlib.Core.List.{List, [], _∷_, _++_, append-nil}
 use Prim.Native.Nat.{ℕ, zero, suc, _+_, _-_, _*_, _≤_, _<_}
-use native.Mathlib.Numerals.{add-one, sub-one}
+use native.Mathlib.Numerals.{add-one}
 use native.Mathlib.Nat.{add-zero, zero-add}
 use native.Mathlib.Omega.{arith}
 use lib.ListN.{length, getD, take, drop, take-append-drop, length-drop}
@@ -17,14 +17,14 @@ use Rattle.text.specs.Text.{stands, partOf}
 use Rattle.text.specs.Laws.{part-is}
 use Rattle.moves.specs.Moves.{put}
 use Rattle.moves.specs.Laws.{put-there, put-elsewhere, put-length, part-first}
-use Rattle.table.specs.Outcome.{Outcome, answered, refused}
+use Rattle.table.specs.Outcome.{answered, refused}
 use Rattle.queue.specs.declared.Queue.{Queue}
 use Rattle.queue.specs.declared.Notice.{Notice}
-use Rattle.queue.specs.Queue.{Geometry, ours, capacityOf, startIn, inBounds, ringPlace, lostOne, longer, After, after, written, putBy, putInto, Got, got, empty, shorter, recordGood, noticeAt, takeBy, taken, Arrival, recordBytes, arrivalOf, heldFrom, waiting, oneIf, adds}
-use Rattle.queue.specs.Laws.{start-some, bounds-room, bounds-count, ring-near, ring-far, ring-below, put-is, record-room}
+use Rattle.queue.specs.Queue.{Geometry, ours, capacityOf, startIn, inBounds, ringPlace, lostOne, longer, After, after, written, putBy, putInto, got, empty, shorter, recordGood, noticeAt, takeBy, taken, Arrival, recordBytes, arrivalOf, heldFrom, waiting, oneIf, adds}
+use Rattle.queue.specs.Laws.{start-some, bounds-room, bounds-count, ring-near, ring-far, ring-below, put-is}
 
 -- the ring: two of its places are apart, and from the next start each is one nearer
-pub ring-apart : (start cap i j : ℕ) → start < cap → i < j → j < cap → (ringPlace start i cap < ringPlace start j cap) ⊎ (ringPlace start j cap < ringPlace start i cap)
+ring-apart : (start cap i j : ℕ) → start < cap → i < j → j < cap → (ringPlace start i cap < ringPlace start j cap) ⊎ (ringPlace start j cap < ringPlace start i cap)
 ring-apart start cap i j s h g =
     ⊎-elim
     (λ (p : start + j < cap). inl (omega (arith, ring-near start j cap p, ring-near start i cap (omega arith))))
@@ -68,24 +68,27 @@ module _ (g : Geometry) (cap : ℕ) where
   held-next m start i (suc n) s h = rw (ring-next start cap i s (omega arith), held-next m start (suc i) n s (omega arith))
 
 -- what the record at a place says, where it lies in the memory with a length up to 128
-arrival-is : (m : List ℕ) (place : ℕ) → 132 * place + 132 ≤ length m → (len : ℕ) → len ≡ getD m (132 * place + 3) 0 → len ≤ 128 → arrivalOf ours (recordBytes ours m place) ≡ record { number = getD m (132 * place + 2) 0; payload = take len (drop (132 * place + 4) m) }
-unfolding arrivalOf
-arrival-is m place h len e l =
-    let r : List ℕ = recordBytes ours m place in
-    let byte : (j : ℕ) → j < 132 → getD r j 0 ≡ getD m (132 * place + j) 0 = λ j q. getD-take 132 (drop (132 * place) m) j 0 q ∙ getD-drop (132 * place) m j 0 in
-    let w : length r ≡ 132 = length-take-le 132 (drop (132 * place) m) (rw length-drop (omega arith)) in
-    let u : getD r 3 0 ≡ len = byte 3 (omega arith) ∙ sym e in
-    let v : partOf r 4 (getD r 3 0) ≡ take len (drop (132 * place + 4) m) =
-        ap (partOf r 4) u
-        ∙ sym (part-is r 4 len (omega arith))
-        ∙ sym (part-first r (drop 132 (drop (132 * place) m)) 4 len (omega arith))
-        ∙ ap (λ (x : List ℕ). take len (drop 4 x)) (take-append-drop 132 (drop (132 * place) m))
-        ∙ ap (take len) (drop-drop 4 (132 * place) m) in
-    λ i. record { number = byte 2 (omega arith) i; payload = v i }
+module _ (m : List ℕ) (place : ℕ) (h : 132 * place + 132 ≤ length m) (len : ℕ) (l : len ≤ 128) where
+  payload-is : partOf (recordBytes ours m place) 4 len ≡ take len (drop (132 * place + 4) m)
+  payload-is =
+      let r : List ℕ = recordBytes ours m place in
+      let w : length r ≡ 132 = length-take-le 132 (drop (132 * place) m) (rw length-drop (omega arith)) in
+      sym (part-is r 4 len (omega arith))
+      ∙ sym (part-first r (drop 132 (drop (132 * place) m)) 4 len (omega arith))
+      ∙ ap (λ (x : List ℕ). take len (drop 4 x)) (take-append-drop 132 (drop (132 * place) m))
+      ∙ ap (take len) (drop-drop 4 (132 * place) m)
+
+  arrival-is : len ≡ getD m (132 * place + 3) 0 → arrivalOf ours (recordBytes ours m place) ≡ record { number = getD m (132 * place + 2) 0; payload = take len (drop (132 * place + 4) m) }
+  unfolding arrivalOf
+  arrival-is e =
+      let r : List ℕ = recordBytes ours m place in
+      let byte : (j : ℕ) → j < 132 → getD r j 0 ≡ getD m (132 * place + j) 0 = λ j q. getD-take 132 (drop (132 * place) m) j 0 q ∙ getD-drop (132 * place) m j 0 in
+      let v : partOf r 4 (getD r 3 0) ≡ take len (drop (132 * place + 4) m) = ap (partOf r 4) (byte 3 (omega arith) ∙ sym e) ∙ payload-is in
+      λ i. record { number = byte 2 (omega arith) i; payload = v i }
 
 -- the memory that a put wrote: as long, its record there, the others as they were
 module _ (x : Queue) (number : ℕ) (p m : List ℕ) where
-  pub written-length : length (written ours x number p m) ≡ length m
+  written-length : length (written ours x number p m) ≡ length m
   unfolding written
   written-length =
       let base = 132 * ringPlace (x .start) (x .count) (capacityOf ours (length m)) in
@@ -103,10 +106,9 @@ module _ (x : Queue) (number : ℕ) (p m : List ℕ) where
         let u : length a ≡ length m = put-length m (132 * place) head in
         let v : length k ≡ length a = put-length a (132 * place + 4) p in
         let t : take 4 (drop (132 * place) k) ≡ head = put-elsewhere a (132 * place + 4) p (132 * place) 4 (inl (omega arith)) ∙ put-there m (132 * place) head (omega arith) in
-        let byte : (j : ℕ) → j < 4 → getD k (132 * place + j) 0 ≡ getD head j 0 =
-            λ j q. sym (getD-drop (132 * place) k j 0) ∙ sym (getD-take 4 (drop (132 * place) k) j 0 q) ∙ ap (λ (y : List ℕ). getD y j 0) t in
+        let byte : (j : ℕ) → j < 4 → getD k (132 * place + j) 0 ≡ getD head j 0 = λ j q. sym (getD-drop (132 * place) k j 0) ∙ sym (getD-take 4 (drop (132 * place) k) j 0 q) ∙ ap (λ (y : List ℕ). getD y j 0) t in
         let w : take (length p) (drop (132 * place + 4) k) ≡ p = put-there a (132 * place + 4) p (omega arith) in
-        arrival-is k place (omega arith) (length p) (sym (byte 3 (omega arith))) l ∙ (λ i. record { number = byte 2 (omega arith) i; payload = w i })
+        arrival-is k place (omega arith) (length p) l (sym (byte 3 (omega arith))) ∙ (λ i. record { number = byte 2 (omega arith) i; payload = w i })
 
     written-old : (j : ℕ) → j < x .count → recordBytes ours (written ours x number p m) (ringPlace (x .start) j (capacityOf ours (length m))) ≡ recordBytes ours m (ringPlace (x .start) j (capacityOf ours (length m)))
     unfolding written
@@ -162,8 +164,7 @@ module _ (x : Queue) (number : ℕ) (p m : List ℕ) where
         let s : x .start < cap = bounds-room cap x b (omega arith) .0 in
         let d : List ℕ = written ours x number p m in
         let old : heldFrom ours d cap (x .start) 0 (x .count) ≡ waiting ours x m = held-same ours cap d m (x .start) 0 (x .count) (λ j h. written-old x number p m s c l j (omega arith)) in
-        let new : arrivalOf ours (recordBytes ours d (ringPlace (x .start) (0 + x .count) cap)) ≡ record { number = number; payload = p } =
-            ap (λ (n : ℕ). arrivalOf ours (recordBytes ours d (ringPlace (x .start) n cap))) (zero-add (x .count)) ∙ written-new x number p m s c l in
+        let new : arrivalOf ours (recordBytes ours d (ringPlace (x .start) (0 + x .count) cap)) ≡ record { number = number; payload = p } = ap (λ (n : ℕ). arrivalOf ours (recordBytes ours d (ringPlace (x .start) n cap))) (zero-add (x .count)) ∙ written-new x number p m s c l in
         (λ i. waiting ours (w .1 .0 i) (w .1 .1 i))
         ∙ (λ i. heldFrom ours d (capacityOf ours (written-length x number p m i)) (x .start) 0 (add-one (x .count) i))
         ∙ held-back ours cap d (x .start) 0 (x .count)
@@ -215,45 +216,51 @@ module _ (x : Queue) (number : ℕ) (p m : List ℕ) where
       let a : List ℕ = put m (132 * place) (85 ∷ 82 ∷ number ∷ length p ∷ []) in
       put-is x number p m cap refl b (λ z. omega arith) h c place refl a (put a (132 * place + 4) p) refl refl
 
--- a take that hands out a record
+-- a good record's length
+good-length : (m : List ℕ) (base : ℕ) → recordGood ours m base ≡ true → getD m (base + 3) 0 ≤ 128
+unfolding recordGood
+good-length m base h =
+    let len = getD m (base + 3) 0 in
+    leb-true len 128 (and-both (leb 1 len) (leb len 128) (and-both (stands (bytes "UR") m base) (leb 1 len && leb len 128) h .1) .1)
+
+-- A take that hands out a record: what it found, and what it answers.
 module _ (x y : Queue) (n : Notice) (m : List ℕ) (e : answered (got y n) ≡ taken ours x m) where
-  take-gets : ((inBounds (capacityOf ours (length m)) x ≡ true) × ((1 ≤ x .count) × (recordGood ours m (132 * x .start) ≡ true))) × ((y ≡ shorter (capacityOf ours (length m)) x) × (n ≡ noticeAt ours m (132 * x .start)))
+  abbrev HandedIt : Type 0
+  HandedIt = ((inBounds (capacityOf ours (length m)) x ≡ true) × ((1 ≤ x .count) × (getD m (132 * x .start + 3) 0 ≤ 128))) × ((y ≡ shorter (capacityOf ours (length m)) x) × (n ≡ noticeAt ours m (132 * x .start)))
+
+  take-gets : HandedIt
   unfolding taken takeBy
   take-gets = go (inBounds (capacityOf ours (length m)) x) (leb 1 (x .count)) (recordGood ours m (132 * x .start)) refl refl refl e
     where
-      go : (b c r : Bool) → inBounds (capacityOf ours (length m)) x ≡ b → leb 1 (x .count) ≡ c → recordGood ours m (132 * x .start) ≡ r → answered (got y n) ≡ takeBy b c r ours x m → ((inBounds (capacityOf ours (length m)) x ≡ true) × ((1 ≤ x .count) × (recordGood ours m (132 * x .start) ≡ true))) × ((y ≡ shorter (capacityOf ours (length m)) x) × (n ≡ noticeAt ours m (132 * x .start)))
+      go : (b c r : Bool) → inBounds (capacityOf ours (length m)) x ≡ b → leb 1 (x .count) ≡ c → recordGood ours m (132 * x .start) ≡ r → answered (got y n) ≡ takeBy b c r ours x m → HandedIt
       go false c r f g h o = let z : _≡_ {A = ℕ} 0 1 = cc in absurd (omega arith)
       go true false r f g h o = let z : _≡_ {A = ℕ} 0 1 = cc in absurd (omega arith)
       go true true false f g h o = let z : _≡_ {A = ℕ} 0 1 = cc in absurd (omega arith)
-      go true true true f g h o = ((f, (leb-true 1 (x .count) g, h)), (cc, cc))
+      go true true true f g h o = ((f, (leb-true 1 (x .count) g, good-length m (132 * x .start) h)), (cc, cc))
 
-  good-length : recordGood ours m (132 * x .start) ≡ true → getD m (132 * x .start + 3) 0 ≤ 128
-  unfolding recordGood
-  good-length h =
+  take-first : x .start < capacityOf ours (length m) → arrivalOf ours (recordBytes ours m (ringPlace (x .start) 0 (capacityOf ours (length m)))) ≡ record { number = n .number; payload = partOf m (n .place) (n .len) }
+  take-first s =
+      let w = take-gets in
+      let cap = capacityOf ours (length m) in
       let len = getD m (132 * x .start + 3) 0 in
-      leb-true len 128 (and-both (leb 1 len) (leb len 128) (and-both (stands (bytes "UR") m (132 * x .start)) (leb 1 len && leb len 128) h .1) .1)
+      let r : 132 * x .start + 132 ≤ length m = omega arith in
+      ap (λ (j : ℕ). arrivalOf ours (recordBytes ours m j)) (sym (ring-near (x .start) 0 cap (omega arith)) ∙ add-zero (x .start))
+      ∙ arrival-is m (x .start) r len (w .0 .1 .1) refl
+      ∙ ap (λ (p : List ℕ). record { number = getD m (132 * x .start + 2) 0; payload = p }) (part-is m (132 * x .start + 4) len (omega (arith, w .0 .1 .1)))
+      ∙ ap (λ (k : Notice). record { number = k .number; payload = partOf m (k .place) (k .len) }) (sym (w .1 .1))
+
+  take-start : (x .start < capacityOf ours (length m)) × (x .count ≤ capacityOf ours (length m))
+  take-start = let w = take-gets in bounds-room (capacityOf ours (length m)) x (w .0 .0) (omega (arith, w .0 .1 .0, bounds-count (capacityOf ours (length m)) x (w .0 .0)))
 
   -- hands out the oldest notice and leaves the others
   pub take-waits : waiting ours x m ≡ record { number = n .number; payload = partOf m (n .place) (n .len) } ∷ waiting ours y m
   unfolding waiting heldFrom shorter
   take-waits =
       let w = take-gets in
-      let cap = capacityOf ours (length m) in
-      let h : 1 ≤ x .count = w .0 .1 .0 in
-      let c : x .count ≤ cap = bounds-count cap x (w .0 .0) in
-      let s : x .start < cap = bounds-room cap x (w .0 .0) (omega arith) .0 in
-      let len = getD m (132 * x .start + 3) 0 in
-      let l : len ≤ 128 = good-length (w .0 .1 .1) in
-      let r : 132 * x .start + 132 ≤ length m = omega arith in
-      let z : ringPlace (x .start) 0 cap ≡ x .start = sym (ring-near (x .start) 0 cap (omega arith)) ∙ add-zero (x .start) in
-      let first : arrivalOf ours (recordBytes ours m (ringPlace (x .start) 0 cap)) ≡ record { number = n .number; payload = partOf m (n .place) (n .len) } =
-          ap (λ (j : ℕ). arrivalOf ours (recordBytes ours m j)) z
-          ∙ arrival-is m (x .start) r len refl l
-          ∙ ap (λ (p : List ℕ). record { number = getD m (132 * x .start + 2) 0; payload = p }) (part-is m (132 * x .start + 4) len (omega arith))
-          ∙ ap (λ (k : Notice). record { number = k .number; payload = partOf m (k .place) (k .len) }) (sym (w .1 .1)) in
-      let u : x .count ≡ suc (x .count - 1) = omega arith in
-      ap (heldFrom ours m cap (x .start) 0) u
-      ∙ (λ i. first i ∷ held-next ours cap m (x .start) 0 (x .count - 1) s (omega arith) i)
+      let v = take-start in
+      let u : x .count ≡ suc (x .count - 1) = omega (arith, w .0 .1 .0) in
+      ap (heldFrom ours m (capacityOf ours (length m)) (x .start) 0) u
+      ∙ (λ i. take-first (v .0) i ∷ held-next ours (capacityOf ours (length m)) m (x .start) 0 (x .count - 1) (v .0) (omega (arith, v .1)) i)
       ∙ ap (λ (q : Queue). record { number = n .number; payload = partOf m (n .place) (n .len) } ∷ waiting ours q m) (sym (w .1 .0))
 
   -- and keeps the bounds, with room for one more
@@ -263,8 +270,8 @@ module _ (x y : Queue) (n : Notice) (m : List ℕ) (e : answered (got y n) ≡ t
       let w = take-gets in
       let cap = capacityOf ours (length m) in
       let h : 1 ≤ x .count = w .0 .1 .0 in
-      let c : x .count ≤ cap = bounds-count cap x (w .0 .0) in
-      let s : x .start < cap = bounds-room cap x (w .0 .0) (omega arith) .0 in
+      let s : x .start < cap = take-start .0 in
+      let c : x .count ≤ cap = take-start .1 in
       let u : startIn cap (ringPlace (x .start) 1 cap) ≡ true = sym (start-some cap (ringPlace (x .start) 1 cap) (λ z. omega arith)) ∙ lt-ltb (ringPlace (x .start) 1 cap) cap (ring-below (x .start) 1 cap s (omega arith)) in
       let z : startIn cap (ringPlace (x .start) 1 cap) && leb (x .count - 1) cap ≡ true = rw (u, le-leb (x .count - 1) cap (omega arith)) in
       (ap (inBounds cap) (w .1 .0) ∙ z, omega (arith, ap (λ (q : Queue). q .count) (w .1 .0)))
