@@ -141,7 +141,7 @@ recordBytes g m place = take (g .size) (drop (g .size * place) m)
 unfoldable pub arrivalOf : Geometry → List ℕ → Arrival
 arrivalOf g r = record { number = getD r 2 0; payload = partOf r (g .head) (getD r 3 0) }
 
--- n notices from the i-th held on, oldest first
+-- n notices from the i-th held on, in a ring of cap places whose oldest is at start
 unfoldable pub heldFrom : Geometry → List ℕ → ℕ → ℕ → ℕ → ℕ → List Arrival
 heldFrom g m cap start i zero = []
 heldFrom g m cap start i (suc n) = let r = heldFrom g m cap start (suc i) n in arrivalOf g (recordBytes g m (ringPlace start i cap)) ∷ r
@@ -150,6 +150,7 @@ heldFrom g m cap start i (suc n) = let r = heldFrom g m cap start (suc i) n in a
 unfoldable pub waiting : Geometry → Queue → List ℕ → List Arrival
 waiting g x m = heldFrom g m (capacityOf g (length m)) (x .start) 0 (x .count)
 
+-- that notice, or none
 unfoldable pub oneIf : Bool → Arrival → List Arrival
 oneIf true a = a ∷ []
 oneIf false a = []
