@@ -1,11 +1,11 @@
 -- The ingress in document 01's words.
 use mathlib.Core.Bool.{Bool, true, false, _&&_}
 use mathlib.Core.List.{List, [], _∷_}
-use Prim.Native.Nat.{ℕ, zero, suc, _+_, _-_, _%_}
-use lib.ListN.{length, take}
+use Prim.Native.Nat.{ℕ, zero, suc, _+_, _-_, _%_, min}
+use lib.ListN.{length, take, drop}
 use lib.Dec.{leb}
 use Rattle.text.specs.Text.{partOf}
-use Rattle.moves.specs.Moves.{moved}
+use Rattle.moves.specs.Moves.{put, moved}
 use Rattle.table.specs.Outcome.{Outcome, answered, refused}
 use Rattle.digest.specs.declared.Kind.{Kind}
 use Rattle.digest.specs.declared.Kind.the-variants as kind
@@ -21,6 +21,12 @@ use Rattle.queue.specs.declared.Queue.{Queue}
 use Rattle.ingress.specs.declared.State.{State}
 use Rattle.ingress.specs.declared.Stepped.{Stepped}
 use Rattle.ingress.specs.declared.Stepped.the-variants as steps
+use Rattle.ingress.specs.declared.Checks.{Checks}
+use Rattle.ingress.specs.declared.Checks.the-variants as says
+use Rattle.ingress.specs.declared.Wrote.{Wrote}
+use Rattle.ingress.specs.declared.Wrote.the-variants as writes
+use Rattle.ingress.specs.declared.Written.{Written}
+use Rattle.ingress.specs.declared.Written.the-variants as takes
 use Rattle.ingress.specs.declared.Advanced.{Advanced}
 use Rattle.ingress.specs.declared.Advanced.the-variants as advances
 use Rattle.ingress.specs.declared.Ran.{Ran}
@@ -158,41 +164,157 @@ ran (runs.Full s) b m n = full (world s b m n)
 unfoldable pub isSound : State → ℕ → ℕ → ℕ → Bool
 isSound s b m n = leb (s .end) b && (leb (s .slot .len) m && inBounds (capacityOf ours n) (s .queue))
 
--- what an advance says, and all that it leaves: done, or refused by number with 01's values
-pub data Result : Type 0 where
-  done : World → Result
-  refusedAt : ℕ → List ℕ → World → Result
+-- what a call says, and all that it leaves
+pub record Result (A : Type 0) : Type 0 where
+  pub said : Outcome A
+  pub left : World
 
-unfoldable pub ended : End → Result
-ended (finished w) = done w
+abbrev pub done : {A : Type 0} → A → World → Result A
+done x w = record { said = answered x; left = w }
+
+abbrev pub refusedAt : {A : Type 0} → ℕ → List ℕ → World → Result A
+refusedAt n v w = record { said = refused n v; left = w }
+
+unfoldable pub unless : {A : Type 0} → Bool → ℕ → Outcome A → Outcome A
+unless true n r = r
+unless false n r = refused n []
+
+unfoldable pub underTable : {A : Type 0} → Outcome ℕ → Outcome A → Outcome A
+underTable (answered k) r = r
+underTable (refused n v) r = refused n v
+
+-- Refusals 1, 2 and 3, in this order: the buffer is over 4,096 bytes, the table breaks a rule, the state isn't sound.
+unfoldable pub checks : List ℕ → State → ℕ → ℕ → ℕ → Outcome (Unit {0})
+unfolding unless underTable isSound
+checks t s b m n = unless (leb b 4096) 1 (underTable (ruling t) (unless (isSound s b m n) 3 (answered tt)))
+
+abbrev pub refusal : Checks → Outcome (Unit {0})
+refusal says.Good = answered tt
+refusal says.TooLong = refused 1 []
+refusal (says.BadTable k) = refused 2 (k ∷ [])
+refusal says.BadState = refused 3 []
+
+-- A call that is refused leaves everything.
+unfoldable pub unlessRefused : {A : Type 0} → Outcome (Unit {0}) → World → Result A → Result A
+unlessRefused (answered x) w r = r
+unlessRefused (refused n v) w r = refusedAt n v w
+
+abbrev pub checked : {A : Type 0} → List ℕ → World → Result A → Result A
+checked t w r = unlessRefused (checks t (w .state) (length (w .buf)) (length (w .slotMemory)) (length (w .queueMemory))) w r
+
+-- Refusal 4: the commit is more than the room.
+unfoldable pub ifRoom : {A : Type 0} → Bool → World → Result A → Result A
+ifRoom true w r = r
+ifRoom false w r = refusedAt 4 [] w
+
+unfoldable pub ended : End → Result (Unit {0})
+ended (finished w) = done tt w
 ended (full w) = refusedAt 5 [] w
-
-unfoldable pub unless : Bool → ℕ → World → Result → Result
-unless true n w r = r
-unless false n w r = refusedAt n [] w
-
-unfoldable pub underTable : Outcome ℕ → World → Result → Result
-underTable (answered k) w r = r
-underTable (refused n v) w r = refusedAt n v w
 
 -- the commit is added to what is in the buffer
 abbrev pub committed : World → ℕ → World
 committed w c = world (record { end = w .state .end + c; slot = w .state .slot; queue = w .state .queue }) (w .buf) (w .slotMemory) (w .queueMemory)
 
--- Refusals 1, 2, 3, 4 in this order, leaving everything; then the commit is added and turns are run, of which refusal 5 leaves those finished.
-unfoldable pub advanced : List ℕ → ℕ → World → Result
-unfolding unless underTable ended isSound
-advanced t c w =
-    unless (leb (length (w .buf)) 4096) 1 w
-    (underTable (ruling t) w
-    (unless (isSound (w .state) (length (w .buf)) (length (w .slotMemory)) (length (w .queueMemory))) 3 w
-    (unless (leb c (length (w .buf) - w .state .end)) 4 w
-    (ended (run t (committed w c))))))
+-- Advance adds the commit and runs turns, of which refusal 5 leaves those finished.
+unfoldable pub advanced : List ℕ → ℕ → World → Result (Unit {0})
+unfolding unlessRefused ifRoom ended checks
+advanced t c w = checked t w (ifRoom (leb c (length (w .buf) - w .state .end)) w (ended (run t (committed w c))))
 
-abbrev pub result : State → Advanced → List ℕ → List ℕ → List ℕ → Result
-result s (advances.Is x) b m n = done (world x b m n)
-result s advances.TooLong b m n = refusedAt 1 [] (world s b m n)
-result s (advances.BadTable k) b m n = refusedAt 2 (k ∷ []) (world s b m n)
-result s advances.BadState b m n = refusedAt 3 [] (world s b m n)
-result s advances.NoRoom b m n = refusedAt 4 [] (world s b m n)
-result s (advances.Full x) b m n = refusedAt 5 [] (world x b m n)
+-- document 01's number and values for each case, and the state that is left
+abbrev pub outcome : Advanced → Outcome (Unit {0})
+outcome (advances.Is x) = answered tt
+outcome advances.TooLong = refused 1 []
+outcome (advances.BadTable k) = refused 2 (k ∷ [])
+outcome advances.BadState = refused 3 []
+outcome advances.NoRoom = refused 4 []
+outcome (advances.Full x) = refused 5 []
+
+abbrev pub stateAfter : State → Advanced → State
+stateAfter s (advances.Is x) = x
+stateAfter s advances.TooLong = s
+stateAfter s (advances.BadTable k) = s
+stateAfter s advances.BadState = s
+stateAfter s advances.NoRoom = s
+stateAfter s (advances.Full x) = x
+
+abbrev pub result : State → Advanced → List ℕ → List ℕ → List ℕ → Result (Unit {0})
+result s r b m n = record { said = outcome r; left = world (stateAfter s r) b m n }
+
+-- how a write ends: the bytes taken and all that it leaves; or the same at a notice that meets a full queue
+pub data Writing : Type 0 where
+  wrote : ℕ → World → Writing
+  stopped : ℕ → World → Writing
+
+-- the bytes copied behind those held, and committed
+abbrev pub copied : World → List ℕ → World
+copied w p = committed (world (w .state) (put (w .buf) (w .state .end) p) (w .slotMemory) (w .queueMemory)) (length p)
+
+unfoldable pub afterCopy : End → ℕ → Writing
+afterCopy (finished w) n = wrote n w
+afterCopy (full w) n = stopped n w
+
+unfoldable pub unlessNone : Bool → World → Writing → Writing
+unlessNone true w r = r
+unlessNone false w r = wrote 0 w
+
+-- Copies as much as fits, and advances. Where nothing fits, or nothing is left, nothing is digested.
+unfoldable pub writeOnce : List ℕ → List ℕ → World → Writing
+unfolding unlessNone afterCopy
+writeOnce t p w =
+    let n = min (length p) (length (w .buf) - w .state .end) in
+    unlessNone (leb 1 n) w (afterCopy (run t (copied w (take n p))) n)
+
+unfoldable pub copyOn : Bool → ℕ → World → Writing → Writing
+copyOn true k w r = r
+copyOn false k w r = wrote k w
+
+-- after a copy that took n bytes, where k were taken before it
+unfoldable pub thenWrite : Writing → ℕ → (ℕ → World → Writing) → Writing
+unfolding copyOn
+thenWrite (wrote n w) k f = let r = f (k + n) w in copyOn (leb 1 n) k w r
+thenWrite (stopped n w) k f = stopped (k + n) w
+
+-- with fuel, of which one more than the bytes not yet taken is enough
+unfoldable pub writeBy : ℕ → List ℕ → List ℕ → ℕ → World → Writing
+unfolding thenWrite writeOnce
+writeBy zero t p k w = wrote k w
+writeBy (suc n) t p k w = thenWrite (writeOnce t (drop k p) w) k (writeBy n t p)
+
+-- Goes on until the piece is used up or there is no room, k bytes of it taken already.
+unfoldable pub write : List ℕ → List ℕ → ℕ → World → Writing
+unfolding writeBy
+write t p k w = writeBy (suc (length p - k)) t p k w
+
+abbrev pub writing : Wrote → List ℕ → List ℕ → List ℕ → Writing
+writing (writes.Is s n) b m q = wrote n (world s b m q)
+writing (writes.Full s n) b m q = stopped n (world s b m q)
+
+-- It answers the bytes taken; with refusal 5 it answers that too, the last copy included.
+unfoldable pub answering : Writing → Result ℕ
+answering (wrote n w) = done n w
+answering (stopped n w) = refusedAt 5 (n ∷ []) w
+
+unfoldable pub written : List ℕ → List ℕ → World → Result ℕ
+unfolding unlessRefused checks answering write
+written t p w = checked t w (answering (write t p 0 w))
+
+abbrev pub bytesTaken : Written → Outcome ℕ
+bytesTaken (takes.Is x n) = answered n
+bytesTaken takes.TooLong = refused 1 []
+bytesTaken (takes.BadTable k) = refused 2 (k ∷ [])
+bytesTaken takes.BadState = refused 3 []
+bytesTaken (takes.Full x n) = refused 5 (n ∷ [])
+
+abbrev pub stateTaken : State → Written → State
+stateTaken s (takes.Is x n) = x
+stateTaken s takes.TooLong = s
+stateTaken s (takes.BadTable k) = s
+stateTaken s takes.BadState = s
+stateTaken s (takes.Full x n) = x
+
+abbrev pub taking : State → Written → List ℕ → List ℕ → List ℕ → Result ℕ
+taking s r b m n = record { said = bytesTaken r; left = world (stateTaken s r) b m n }
+
+-- Clear takes the end alone and makes it 0.
+abbrev pub cleared : ℕ → ℕ
+cleared end = 0

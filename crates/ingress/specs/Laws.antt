@@ -2,14 +2,14 @@
 use mathlib.Core.Path.{_≡_, refl, sym, ap, _∙_}
 use mathlib.Core.Bool.{Bool, true, false, _&&_}
 use mathlib.Core.List.{List, [], _∷_}
-use Prim.Native.Nat.{ℕ, zero, suc, _+_, _-_, _%_, _≤_, _<_}
+use Prim.Native.Nat.{ℕ, zero, suc, _+_, _-_, _%_, _≤_, _<_, min}
 use native.Mathlib.Omega.{arith}
-use lib.ListN.{length, getD, take}
+use lib.ListN.{length, getD, take, drop, length-drop}
 use lib.Seq.{length-take-le}
 use lib.Dec.{eqb, leb}
 use borrow.Author.Tests.{le-leb, lt-leb, leb-true}
 use Rattle.text.specs.Text.{partOf}
-use Rattle.moves.specs.Moves.{moved}
+use Rattle.moves.specs.Moves.{put, moved}
 use Rattle.digest.specs.Digest.{digestChecked}
 use Rattle.digest.specs.Theorem.{checked-within}
 use Rattle.digest.specs.declared.Answer.{Answer}
@@ -25,13 +25,17 @@ use Rattle.queue.specs.declared.Put.{Put}
 use Rattle.ingress.specs.declared.State.{State}
 use Rattle.ingress.specs.declared.Stepped.{Stepped}
 use Rattle.ingress.specs.declared.Stepped.the-variants as steps
+use Rattle.ingress.specs.declared.Wrote.{Wrote}
+use Rattle.ingress.specs.declared.Wrote.the-variants as writes
+use Rattle.ingress.specs.declared.Written.{Written}
+use Rattle.ingress.specs.declared.Written.the-variants as takes
 use Rattle.ingress.specs.declared.Advanced.{Advanced}
 use Rattle.ingress.specs.declared.Advanced.the-variants as advances
 use Rattle.ingress.specs.declared.Ran.{Ran}
 use Rattle.ingress.specs.declared.Ran.the-variants as runs
 use Rattle.ingress.specs.declared.Delivered.{Delivered}
 use Rattle.ingress.specs.declared.Delivered.the-variants as delivers
-use Rattle.ingress.specs.Ingress.{isNotice, Delivery, toQueue, toSlot, toEither, deliver, delivery, World, world, Step, went, stuck, onward, answered-by, once, stepped, End, finished, full, goOn, thenRun, unlessEmpty, runBy, run, ran, isSound, Result, done, refusedAt, ended, unless, underTable, committed, advanced, result}
+use Rattle.ingress.specs.Ingress.{isNotice, Delivery, toQueue, toSlot, toEither, deliver, delivery, World, world, Step, went, stuck, onward, answered-by, once, stepped, End, finished, full, goOn, thenRun, unlessEmpty, runBy, run, ran, isSound, Result, done, refusedAt, unless, underTable, checks, unlessRefused, ifRoom, ended, committed, advanced, outcome, stateAfter, result, Writing, wrote, stopped, copied, afterCopy, unlessNone, writeOnce, copyOn, thenWrite, writeBy, write, writing, answering, written, bytesTaken, stateTaken, taking}
 
 -- where a delivery went: x is what the queue or the slot answered, with the memory that it left
 module _ (s : State) (a : Answer) (p m n : List ℕ) where
@@ -198,84 +202,312 @@ module _ (s : State) (b m n : ℕ) where
   unfolding isSound
   sound-inside h = leb-true (s .end) b (and-both (leb (s .end) b) (leb (s .slot .len) m && inBounds (capacityOf ours n) (s .queue)) h .0)
 
+-- `checks`
+module _ (t : List ℕ) (s : State) (b m n : ℕ) where
+  pub checks-long : 4096 < b → refused 1 [] ≡ checks t s b m n
+  unfolding checks unless
+  checks-long h = rw (lt-leb b 4096 h)
+
+  module _ (l : b ≤ 4096) where
+    pub checks-table : (k : ℕ) → refused 2 (k ∷ []) ≡ ruling t → refused 2 (k ∷ []) ≡ checks t s b m n
+    unfolding checks unless underTable
+    checks-table k e = rw (le-leb b 4096 l, sym e)
+
+    pub checks-state : (k : ℕ) → answered k ≡ ruling t → (c : Bool) → isSound s b m n ≡ c → unless c 3 (answered tt) ≡ checks t s b m n
+    unfolding checks unless underTable
+    checks-state k e c h = rw (le-leb b 4096 l, sym e, h)
+
+-- what a call may rely on that isn't refused 1, 2 or 3
+pub record Good (t : List ℕ) (w : World) : Type 0 where
+  pub long : length (w .buf) ≤ 4096
+  pub records : ℕ
+  pub ruled : ruling t ≡ answered records
+  pub sound : isSound (w .state) (length (w .buf)) (length (w .slotMemory)) (length (w .queueMemory)) ≡ true
+
+abbrev Passed : World → List ℕ → Type 0
+Passed w t = answered tt ≡ checks t (w .state) (length (w .buf)) (length (w .slotMemory)) (length (w .queueMemory))
+
+passed-is : (t : List ℕ) (w : World) (a c : Bool) (r : Outcome ℕ) → leb (length (w .buf)) 4096 ≡ a → isSound (w .state) (length (w .buf)) (length (w .slotMemory)) (length (w .queueMemory)) ≡ c → ruling t ≡ r → _≡_ {A = Outcome (Unit {0})} (answered tt) (unless a 1 (underTable r (unless c 3 (answered tt)))) → Good t w
+unfolding unless underTable
+passed-is t w true true (answered k) l s q e = record { long = leb-true (length (w .buf)) 4096 l; records = k; ruled = q; sound = s }
+passed-is t w true false (answered k) l s q e = let z : _≡_ {A = ℕ} 0 1 = cc in absurd (omega arith)
+passed-is t w true c (refused n v) l s q e = let z : _≡_ {A = ℕ} 0 1 = cc in absurd (omega arith)
+passed-is t w false c r l s q e = let z : _≡_ {A = ℕ} 0 1 = cc in absurd (omega arith)
+
+pub passed : (t : List ℕ) (w : World) → Passed w t → Good t w
+unfolding checks
+passed t w e = passed-is t w _ _ _ refl refl refl e
+
+pub good-inside : (t : List ℕ) (w : World) → Good t w → w .state .end ≤ length (w .buf)
+good-inside t w g = sound-inside (w .state) (length (w .buf)) (length (w .slotMemory)) (length (w .queueMemory)) (g .sound)
+
 -- the ways out of `advance`
 module _ (t : List ℕ) (c : ℕ) (w : World) where
-  pub advance-long : 4096 < length (w .buf) → refusedAt 1 [] w ≡ advanced t c w
-  unfolding advanced unless
-  advance-long h = rw (lt-leb (length (w .buf)) 4096 h)
+  pub advance-refused : (n : ℕ) (v : List ℕ) → refused n v ≡ checks t (w .state) (length (w .buf)) (length (w .slotMemory)) (length (w .queueMemory)) → refusedAt n v w ≡ advanced t c w
+  unfolding advanced unlessRefused
+  advance-refused n v e = rw (sym e)
 
-  module _ (l : length (w .buf) ≤ 4096) where
-    pub advance-table : (k : ℕ) → refused 2 (k ∷ []) ≡ ruling t → refusedAt 2 (k ∷ []) w ≡ advanced t c w
-    unfolding advanced unless underTable
-    advance-table k e = rw (le-leb (length (w .buf)) 4096 l, sym e)
+  module _ (g : Passed w t) where
+    pub advance-room : length (w .buf) - w .state .end < c → refusedAt 4 [] w ≡ advanced t c w
+    unfolding advanced unlessRefused ifRoom
+    advance-room h = rw (sym g, lt-leb c (length (w .buf) - w .state .end) h)
 
-    module _ (k : ℕ) (e : answered k ≡ ruling t) where
-      pub advance-state : isSound (w .state) (length (w .buf)) (length (w .slotMemory)) (length (w .queueMemory)) ≡ false → refusedAt 3 [] w ≡ advanced t c w
-      unfolding advanced unless underTable
-      advance-state h = rw (le-leb (length (w .buf)) 4096 l, sym e, h)
+    module _ (h : c ≤ length (w .buf) - w .state .end) where
+      pub at-run : ended (run t (committed w c)) ≡ advanced t c w
+      unfolding advanced unlessRefused ifRoom
+      at-run = rw (sym g, le-leb c (length (w .buf) - w .state .end) h)
 
-      module _ (s : isSound (w .state) (length (w .buf)) (length (w .slotMemory)) (length (w .queueMemory)) ≡ true) where
-        pub advance-room : length (w .buf) - w .state .end < c → refusedAt 4 [] w ≡ advanced t c w
-        unfolding advanced unless underTable
-        advance-room h = rw (le-leb (length (w .buf)) 4096 l, sym e, s, lt-leb c (length (w .buf) - w .state .end) h)
+      module _ (r : Ran) (b m n : List ℕ) (p : ran r b m n ≡ run t (committed w c)) (x : State) where
+        pub advance-done : r ≡ runs.Is x → done tt (world x b m n) ≡ advanced t c w
+        unfolding ended
+        advance-done q = ap (λ (y : Ran). ended (ran y b m n)) (sym q) ∙ ap ended p ∙ at-run
 
-        module _ (h : c ≤ length (w .buf) - w .state .end) where
-          at-run : ended (run t (committed w c)) ≡ advanced t c w
-          unfolding advanced unless underTable
-          at-run = rw (le-leb (length (w .buf)) 4096 l, sym e, s, le-leb c (length (w .buf) - w .state .end) h)
+        pub advance-full : r ≡ runs.Full x → refusedAt 5 [] (world x b m n) ≡ advanced t c w
+        unfolding ended
+        advance-full q = ap (λ (y : Ran). ended (ran y b m n)) (sym q) ∙ ap ended p ∙ at-run
 
-          module _ (r : Ran) (b m n : List ℕ) (p : ran r b m n ≡ run t (committed w c)) (x : State) where
-            pub advance-done : r ≡ runs.Is x → done (world x b m n) ≡ advanced t c w
-            unfolding ended
-            advance-done q = ap (λ (y : Ran). ended (ran y b m n)) (sym q) ∙ ap ended p ∙ at-run
+-- no turn makes more of what is held
+abbrev end-of : End → ℕ
+end-of (finished w) = w .state .end
+end-of (full w) = w .state .end
 
-            pub advance-full : r ≡ runs.Full x → refusedAt 5 [] (world x b m n) ≡ advanced t c w
-            unfolding ended
-            advance-full q = ap (λ (y : Ran). ended (ran y b m n)) (sym q) ∙ ap ended p ∙ at-run
+abbrev step-end : Step → ℕ
+step-end (went w n) = w .state .end
+step-end (stuck w) = w .state .end
 
--- The promise of `advance` determines its answer and every byte of the three memories: each can be read off the result.
-abbrev pickAdvanced : Bool → Advanced → Advanced → Advanced
-pickAdvanced true a b = a
-pickAdvanced false a b = b
+onward-less : (b : Bool) (w : World) (a : Answer) (d : Delivery) → step-end (onward b w a d) ≤ w .state .end
+unfolding onward
+onward-less true w a d = omega arith
+onward-less false w a d = omega arith
 
-abbrev answer-of : Result → Advanced
-answer-of (done w) = advances.Is (w .state)
-answer-of (refusedAt k v w) =
-    pickAdvanced (eqb k 1) advances.TooLong
-    (pickAdvanced (eqb k 2) (advances.BadTable (getD v 0 0))
-    (pickAdvanced (eqb k 3) advances.BadState (pickAdvanced (eqb k 4) advances.NoRoom (advances.Full (w .state)))))
+once-less : (t : List ℕ) (w : World) → step-end (once t w) ≤ w .state .end
+unfolding once answered-by
+once-less t w =
+    let a = digestChecked t (take (w .state .end) (w .buf)) in
+    let d = deliver (w .state) a (partOf (take (w .state .end) (w .buf)) (a .place) (a .len)) (w .slotMemory) (w .queueMemory) in
+    onward-less (d .waits) w a d
 
-abbrev left-by : Result → World
-left-by (done w) = w
-left-by (refusedAt k v w) = w
+go-less : (b : Bool) (w : World) (r : End) → end-of r ≤ w .state .end → end-of (goOn b w r) ≤ w .state .end
+unfolding goOn
+go-less true w r h = h
+go-less false w r h = omega arith
 
-answer-back : (s : State) (r : Advanced) (b m n : List ℕ) → answer-of (result s r b m n) ≡ r
-answer-back s (advances.Is x) b m n = refl
-answer-back s advances.TooLong b m n = refl
-answer-back s (advances.BadTable k) b m n = refl
-answer-back s advances.BadState b m n = refl
-answer-back s advances.NoRoom b m n = refl
-answer-back s (advances.Full x) b m n = refl
+then-less : (s : Step) (f : World → End) → ((v : World) → end-of (f v) ≤ v .state .end) → end-of (thenRun s f) ≤ step-end s
+unfolding thenRun
+then-less (went v n) f h = go-less (leb 1 n) v (f v) (h v)
+then-less (stuck v) f h = omega arith
 
-memory-back : (s : State) (r : Advanced) (b m n : List ℕ) → (left-by (result s r b m n) .buf ≡ b) × ((left-by (result s r b m n) .slotMemory ≡ m) × (left-by (result s r b m n) .queueMemory ≡ n))
-memory-back s (advances.Is x) b m n = (refl, (refl, refl))
-memory-back s advances.TooLong b m n = (refl, (refl, refl))
-memory-back s (advances.BadTable k) b m n = (refl, (refl, refl))
-memory-back s advances.BadState b m n = (refl, (refl, refl))
-memory-back s advances.NoRoom b m n = (refl, (refl, refl))
-memory-back s (advances.Full x) b m n = (refl, (refl, refl))
+empty-less : (b : Bool) (w : World) (r : End) → end-of r ≤ w .state .end → end-of (unlessEmpty b w r) ≤ w .state .end
+unfolding unlessEmpty
+empty-less true w r h = h
+empty-less false w r h = omega arith
 
-pub advance-one : (x : Result) (s : State) (r q : Advanced) (b m n b′ m′ n′ : List ℕ) → result s r b m n ≡ x → result s q b′ m′ n′ ≡ x → (r ≡ q) × ((b ≡ b′) × ((m ≡ m′) × (n ≡ n′)))
+run-by-less : (n : ℕ) (t : List ℕ) (w : World) → end-of (runBy n t w) ≤ w .state .end
+unfolding runBy
+run-by-less zero t w = omega arith
+run-by-less (suc n) t w =
+    empty-less (leb 1 (w .state .end)) w (thenRun (once t w) (runBy n t)) (omega (arith, then-less (once t w) (runBy n t) (run-by-less n t), once-less t w))
+
+pub run-less : (t : List ℕ) (w : World) → end-of (run t w) ≤ w .state .end
+unfolding run
+run-less t w = run-by-less (suc (w .state .end)) t w
+
+-- the ways out of a copy
+module _ (t p : List ℕ) (w : World) where
+  pub copy-none : min (length p) (length (w .buf) - w .state .end) ≡ 0 → wrote 0 w ≡ writeOnce t p w
+  unfolding writeOnce unlessNone
+  copy-none e = rw (lt-leb 1 (min (length p) (length (w .buf) - w .state .end)) (omega arith))
+
+  module _ (n : ℕ) (e : n ≡ min (length p) (length (w .buf) - w .state .end)) (h : n ≡ 0 → ⊥) where
+    at-copy : afterCopy (run t (copied w (take n p))) n ≡ writeOnce t p w
+    unfolding writeOnce unlessNone
+    at-copy = rw e (rw (le-leb 1 (min (length p) (length (w .buf) - w .state .end)) (omega arith)))
+
+    pub copied-is : (b : List ℕ) → b ≡ put (w .buf) (w .state .end) (take n p) → world (record { end = w .state .end + n; slot = w .state .slot; queue = w .state .queue }) b (w .slotMemory) (w .queueMemory) ≡ copied w (take n p)
+    copied-is b v =
+        let l : n ≡ length (take n p) = sym (length-take-le n p (omega arith)) in
+        λ i. world (record { end = w .state .end + l i; slot = w .state .slot; queue = w .state .queue }) (v i) (w .slotMemory) (w .queueMemory)
+
+    module _ (r : Ran) (b m q : List ℕ) (y : World) (c : y ≡ copied w (take n p)) (k : ran r b m q ≡ run t y) (x : State) where
+      pub copy-is : r ≡ runs.Is x → wrote n (world x b m q) ≡ writeOnce t p w
+      unfolding afterCopy
+      copy-is v = ap (λ (z : Ran). afterCopy (ran z b m q) n) (sym v) ∙ ap (λ (z : End). afterCopy z n) (k ∙ ap (run t) c) ∙ at-copy
+
+      pub copy-full : r ≡ runs.Full x → stopped n (world x b m q) ≡ writeOnce t p w
+      unfolding afterCopy
+      copy-full v = ap (λ (z : Ran). afterCopy (ran z b m q) n) (sym v) ∙ ap (λ (z : End). afterCopy z n) (k ∙ ap (run t) c) ∙ at-copy
+
+-- a copy takes no more than there is, and leaves an end in the buffer
+abbrev bytes-of : Writing → ℕ
+bytes-of (wrote n w) = n
+bytes-of (stopped n w) = n
+
+abbrev left-of : Writing → World
+left-of (wrote n w) = w
+left-of (stopped n w) = w
+
+after-copy : (r : End) (n : ℕ) → (bytes-of (afterCopy r n) ≡ n) × (left-of (afterCopy r n) .state .end ≡ end-of r)
+unfolding afterCopy
+after-copy (finished w) n = (refl, refl)
+after-copy (full w) n = (refl, refl)
+
+module _ (t p : List ℕ) (w : World) where
+  none-taken : (b : Bool) (n : ℕ) → n ≤ length p → bytes-of (unlessNone b w (afterCopy (run t (copied w (take n p))) n)) ≤ length p
+  unfolding unlessNone
+  none-taken true n k = omega (arith, after-copy (run t (copied w (take n p))) n .0)
+  none-taken false n k = omega arith
+
+  once-taken : bytes-of (writeOnce t p w) ≤ length p
+  unfolding writeOnce
+  once-taken = none-taken (leb 1 (min (length p) (length (w .buf) - w .state .end))) (min (length p) (length (w .buf) - w .state .end)) (omega arith)
+
+  module _ (h : w .state .end ≤ length (w .buf)) where
+    none-inside : (b : Bool) (n : ℕ) → n ≤ length p → n ≤ length (w .buf) - w .state .end → left-of (unlessNone b w (afterCopy (run t (copied w (take n p))) n)) .state .end ≤ length (w .buf)
+    unfolding unlessNone
+    none-inside true n k g = omega (arith, after-copy (run t (copied w (take n p))) n .1, run-less t (copied w (take n p)), length-take-le n p k)
+    none-inside false n k g = h
+
+    once-inside : left-of (writeOnce t p w) .state .end ≤ length (w .buf)
+    unfolding writeOnce
+    once-inside = none-inside (leb 1 (min (length p) (length (w .buf) - w .state .end))) (min (length p) (length (w .buf) - w .state .end)) (omega arith) (omega arith)
+
+-- a write's fuel does not matter
+copy-same : (b : Bool) (k : ℕ) (w : World) (r q : Writing) → (b ≡ true → r ≡ q) → copyOn b k w r ≡ copyOn b k w q
+unfolding copyOn
+copy-same true k w r q h = h refl
+copy-same false k w r q h = refl
+
+write-same : (s : Writing) (k : ℕ) (f g : ℕ → World → Writing) → ((v : World) (n : ℕ) → n ≡ bytes-of s → 1 ≤ n → f (k + n) v ≡ g (k + n) v) → thenWrite s k f ≡ thenWrite s k g
+unfolding thenWrite
+write-same (wrote n v) k f g h = copy-same (leb 1 n) k v (f (k + n) v) (g (k + n) v) (λ q. h v n refl (leb-true 1 n q))
+write-same (stopped n v) k f g h = refl
+
+same-write : (n m : ℕ) (t p : List ℕ) (k : ℕ) (w : World) → length p - k < n → length p - k < m → writeBy n t p k w ≡ writeBy m t p k w
+unfolding writeBy
+same-write zero m t p k w h g = absurd (omega arith)
+same-write (suc n) zero t p k w h g = absurd (omega arith)
+same-write (suc n) (suc m) t p k w h g =
+    write-same (writeOnce t (drop k p) w) k (writeBy n t p) (writeBy m t p) (λ v j e l.
+    let z : j ≤ length p - k = omega (arith, once-taken t (drop k p) w, length-drop k p) in
+    same-write n m t p (k + j) v (omega arith) (omega arith))
+
+write-step : (t p : List ℕ) (k : ℕ) (w : World) → write t p k w ≡ thenWrite (writeOnce t (drop k p) w) k (write t p)
+unfolding write writeBy
+write-step t p k w =
+    write-same (writeOnce t (drop k p) w) k (writeBy (length p - k) t p) (write t p) (λ v j e l.
+    let z : j ≤ length p - k = omega (arith, once-taken t (drop k p) w, length-drop k p) in
+    same-write (length p - k) (suc (length p - (k + j))) t p (k + j) v (omega arith) (omega arith))
+
+-- the loop of a write: what is to be written from w₀ is what is to be written from w, with k bytes taken
+pub record Writes (t p : List ℕ) (w₀ : World) (k : ℕ) (w : World) : Type 0 where
+  pub same : write t p 0 w₀ ≡ write t p k w
+  pub inside : w .state .end ≤ length (w .buf)
+  pub within : k ≤ length p
+  pub bufLong : length (w .buf) ≡ length (w₀ .buf)
+  pub slotLong : length (w .slotMemory) ≡ length (w₀ .slotMemory)
+  pub queueLong : length (w .queueMemory) ≡ length (w₀ .queueMemory)
+
+-- the ways on and out, from what `write_once` answered for the bytes d not yet taken
+module _ (t p : List ℕ) (w₀ : World) (k : ℕ) (w : World) (g : Writes t p w₀ k w) (d : List ℕ) (f : d ≡ drop k p) (r : Wrote) (b m q : List ℕ) (e : writing r b m q ≡ writeOnce t d w) where
+  copied-on : (x : Wrote) → r ≡ x → writing x b m q ≡ writeOnce t (drop k p) w
+  copied-on x v = ap (λ (y : Wrote). writing y b m q) (sym v) ∙ e ∙ ap (λ (y : List ℕ). writeOnce t y w) f
+
+  at-write : (x : Wrote) → r ≡ x → thenWrite (writing x b m q) k (write t p) ≡ write t p 0 w₀
+  at-write x v = ap (λ (y : Writing). thenWrite y k (write t p)) (copied-on x v) ∙ sym (write-step t p k w) ∙ sym (g .same)
+
+  module _ (x : State) (n : ℕ) where
+    pub on-full : r ≡ writes.Full x n → stopped (k + n) (world x b m q) ≡ write t p 0 w₀
+    unfolding thenWrite
+    on-full v = at-write (writes.Full x n) v
+
+    pub full-room : r ≡ writes.Full x n → k + n ≤ length p
+    full-room v = omega (arith, ap bytes-of (copied-on (writes.Full x n) v), once-taken t (drop k p) w, length-drop k p, g .within)
+
+    module _ (v : r ≡ writes.Is x n) where
+      pub on-still : n ≡ 0 → wrote k (world x b m q) ≡ write t p 0 w₀
+      unfolding thenWrite copyOn
+      on-still z = rw (lt-leb 1 n (omega arith)) at (at-write (writes.Is x n) v)
+
+      pub on-room : k + n ≤ length p
+      on-room = omega (arith, ap bytes-of (copied-on (writes.Is x n) v), once-taken t (drop k p) w, length-drop k p, g .within)
+
+      pub on-again : (n ≡ 0 → ⊥) → length b ≡ length (w .buf) → length m ≡ length (w .slotMemory) → length q ≡ length (w .queueMemory) → Writes t p w₀ (k + n) (world x b m q)
+      unfolding thenWrite copyOn
+      on-again z h i j =
+          record {
+            same = sym (rw (le-leb 1 n (omega arith)) at (at-write (writes.Is x n) v));
+            inside = omega (arith, ap (λ (y : Writing). left-of y .state .end) (copied-on (writes.Is x n) v), once-inside t (drop k p) w (g .inside));
+            within = on-room;
+            bufLong = h ∙ g .bufLong;
+            slotLong = i ∙ g .slotLong;
+            queueLong = j ∙ g .queueLong;
+          }
+
+-- the ways out of `write`
+module _ (t p : List ℕ) (w : World) where
+  pub write-refused : (n : ℕ) (v : List ℕ) → refused n v ≡ checks t (w .state) (length (w .buf)) (length (w .slotMemory)) (length (w .queueMemory)) → refusedAt n v w ≡ written t p w
+  unfolding written unlessRefused
+  write-refused n v e = rw (sym e)
+
+  module _ (g : Passed w t) where
+    pub at-writing : answering (write t p 0 w) ≡ written t p w
+    unfolding written unlessRefused
+    at-writing = rw (sym g)
+
+    module _ (r : Wrote) (b m q : List ℕ) (e : writing r b m q ≡ write t p 0 w) (x : State) (n : ℕ) where
+      pub write-is : r ≡ writes.Is x n → done n (world x b m q) ≡ written t p w
+      unfolding answering
+      write-is v = ap (λ (y : Wrote). answering (writing y b m q)) (sym v) ∙ ap answering e ∙ at-writing
+
+      pub write-full : r ≡ writes.Full x n → refusedAt 5 (n ∷ []) (world x b m q) ≡ written t p w
+      unfolding answering
+      write-full v = ap (λ (y : Wrote). answering (writing y b m q)) (sym v) ∙ ap answering e ∙ at-writing
+
+-- The promises of `advance` and `write` determine the answer and every byte of the three memories: each can be read off the result.
+abbrev pick : {A : Type 0} → Bool → A → A → A
+pick true a b = a
+pick false a b = b
+
+abbrev advanced-of : Outcome (Unit {0}) → State → Advanced
+advanced-of (answered x) s = advances.Is s
+advanced-of (refused k v) s =
+    pick (eqb k 1) advances.TooLong
+    (pick (eqb k 2) (advances.BadTable (getD v 0 0)) (pick (eqb k 3) advances.BadState (pick (eqb k 4) advances.NoRoom (advances.Full s))))
+
+advanced-back : (s : State) (r : Advanced) → advanced-of (outcome r) (stateAfter s r) ≡ r
+advanced-back s (advances.Is x) = refl
+advanced-back s advances.TooLong = refl
+advanced-back s (advances.BadTable k) = refl
+advanced-back s advances.BadState = refl
+advanced-back s advances.NoRoom = refl
+advanced-back s (advances.Full x) = refl
+
+abbrev written-of : Outcome ℕ → State → Written
+written-of (answered n) s = takes.Is s n
+written-of (refused k v) s =
+    pick (eqb k 1) takes.TooLong
+    (pick (eqb k 2) (takes.BadTable (getD v 0 0)) (pick (eqb k 3) takes.BadState (takes.Full s (getD v 0 0))))
+
+written-back : (s : State) (r : Written) → written-of (bytesTaken r) (stateTaken s r) ≡ r
+written-back s (takes.Is x n) = refl
+written-back s takes.TooLong = refl
+written-back s (takes.BadTable k) = refl
+written-back s takes.BadState = refl
+written-back s (takes.Full x n) = refl
+
+-- two results that leave the same memories
+abbrev SameMemories : {A : Type 0} → Result A → Result A → Type 0
+SameMemories x y = (x .left .buf ≡ y .left .buf) × ((x .left .slotMemory ≡ y .left .slotMemory) × (x .left .queueMemory ≡ y .left .queueMemory))
+
+same-memories : {A : Type 0} (x y : Result A) → x ≡ y → SameMemories x y
+same-memories x y e = (ap (λ z. z .left .buf) e, (ap (λ z. z .left .slotMemory) e, ap (λ z. z .left .queueMemory) e))
+
+pub advance-one : (x : Result (Unit {0})) (s : State) (r q : Advanced) (b m n b′ m′ n′ : List ℕ) → result s r b m n ≡ x → result s q b′ m′ n′ ≡ x → (r ≡ q) × SameMemories (result s r b m n) (result s q b′ m′ n′)
 advance-one x s r q b m n b′ m′ n′ e f =
     let g : result s r b m n ≡ result s q b′ m′ n′ = e ∙ sym f in
-    let u = memory-back s r b m n in
-    let v = memory-back s q b′ m′ n′ in (
-      sym (answer-back s r b m n) ∙ ap answer-of g ∙ answer-back s q b′ m′ n′,
-      (
-        sym (u .0) ∙ ap (λ (y : Result). left-by y .buf) g ∙ v .0,
-        (
-          sym (u .1 .0) ∙ ap (λ (y : Result). left-by y .slotMemory) g ∙ v .1 .0,
-          sym (u .1 .1) ∙ ap (λ (y : Result). left-by y .queueMemory) g ∙ v .1 .1,
-        ),
-      ),
-    )
+    (sym (advanced-back s r) ∙ ap (λ (y : Result (Unit {0})). advanced-of (y .said) (y .left .state)) g ∙ advanced-back s q, same-memories _ _ g)
+
+pub write-one : (x : Result ℕ) (s : State) (r q : Written) (b m n b′ m′ n′ : List ℕ) → taking s r b m n ≡ x → taking s q b′ m′ n′ ≡ x → (r ≡ q) × SameMemories (taking s r b m n) (taking s q b′ m′ n′)
+write-one x s r q b m n b′ m′ n′ e f =
+    let g : taking s r b m n ≡ taking s q b′ m′ n′ = e ∙ sym f in
+    (sym (written-back s r) ∙ ap (λ (y : Result ℕ). written-of (y .said) (y .left .state)) g ∙ written-back s q, same-memories _ _ g)

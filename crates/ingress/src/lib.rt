@@ -2,9 +2,9 @@
 // The state is a struct by value beside lent slices; the buffer, the slot's memory and the queue's memory are the caller's.
 // It relies on the promises of digester, slot and queue, and opens none of their definitions.
 ghost use mathlib.Core.Path.{_≡_};
-ghost use Prim.Native.Nat.{_≤_};
+ghost use Prim.Native.Nat.{_≤_, min};
 ghost use lib.ListN.{length};
-ghost use Rattle.ingress.specs.Ingress.{isNotice, deliver, delivery, world, once, stepped, run, ran, isSound, advanced, result};
+ghost use Rattle.ingress.specs.Ingress.{isNotice, deliver, delivery, world, once, stepped, run, ran, isSound, checks, refusal, advanced, result, writeOnce, writing, write, written, taking, cleared};
 use digest::Answer;
 use digest::Kind;
 use queue::Put;
@@ -163,6 +163,30 @@ fn is_sound(state: State, buf: usize, slot_mem: usize, queue_mem: usize) -> bool
     queue.is_bounded(queue::capacity(queue_mem))
 }
 
+// What the refusals 1, 2 and 3 say of the arguments.
+pub enum Checks {
+    Good,
+    TooLong,
+    BadTable(usize),
+    BadState,
+}
+
+// Refusals 1, 2 and 3 in this order, for memories of these lengths.
+fn judge(state: State, table: &[u8], buf: usize, slot_mem: usize, queue_mem: usize) -> Checks
+    ensures { λ r. ⌜ refusal r ≡ checks (now (table .entry)) state buf «slot_mem» «queue_mem» ⌝ }
+{
+    if digest::LONGEST < buf {
+        return Checks::TooLong;
+    }
+    if let Checked::Faulty(k) = table::check(table) {
+        return Checks::BadTable(k);
+    }
+    if !is_sound(state, buf, slot_mem, queue_mem) {
+        return Checks::BadState;
+    }
+    Checks::Good
+}
+
 // The state after an advance, or the refusal: 1 to 4 leave all as it stood, 5 with the state that is left.
 pub enum Advanced {
     Is(State),
@@ -185,28 +209,142 @@ pub fn advance(
     ensures { λ r. ⌜ result state r (now (buf .exit)) (now («slot_mem» .exit)) (now («queue_mem» .exit)) ≡ advanced (now (table .entry)) commit (world state (now (buf .entry)) (now («slot_mem» .entry)) (now («queue_mem» .entry))) ⌝ }
 {
     let room = buf.len();
-    if digest::LONGEST < room {
-        return Advanced::TooLong;
+    match judge(state, table, room, slot_mem.len(), queue_mem.len()) {
+        Checks::TooLong => Advanced::TooLong,
+        Checks::BadTable(k) => Advanced::BadTable(k),
+        Checks::BadState => Advanced::BadState,
+        Checks::Good => {
+            let end = state.end;
+            if room - end < commit {
+                return Advanced::NoRoom;
+            }
+            let slot = state.slot;
+            let queue = state.queue;
+            let committed = State {
+                end: end + commit,
+                slot: slot,
+                queue: queue,
+            };
+            match run(table, committed, buf, slot_mem, queue_mem) {
+                Ran::Is(s) => Advanced::Is(s),
+                Ran::Full(s) => Advanced::Full(s),
+            }
+        }
     }
-    if let Checked::Faulty(k) = table::check(table) {
-        return Advanced::BadTable(k);
+}
+
+// How many of len bytes fit into the room.
+fn fitting(len: usize, room: usize) -> usize
+    ensures { λ r. ⌜ r ≡ min len room ⌝ }
+{
+    if room < len {
+        return room;
     }
-    if !is_sound(state, room, slot_mem.len(), queue_mem.len()) {
-        return Advanced::BadState;
-    }
+    len
+}
+
+// How a copy, or a write, ends: the state that is left and the bytes taken; or with a notice that met a full queue.
+pub enum Wrote {
+    Is(State, usize),
+    Full(State, usize),
+}
+
+// Copies what fits of the bytes behind those held, and runs turns. Where nothing fits, nothing is digested.
+fn write_once(
+    table: &[u8],
+    state: State,
+    bytes: &[u8],
+    buf: &mut [u8],
+    slot_mem: &mut [u8],
+    queue_mem: &mut [u8],
+) -> Wrote
+    requires { ⌜ state .end ≤ length (now buf) ⌝ }
+    ensures { λ r. ⌜ writing r (now (buf .exit)) (now («slot_mem» .exit)) (now («queue_mem» .exit)) ≡ writeOnce (now (table .entry)) (now (bytes .entry)) (world state (now (buf .entry)) (now («slot_mem» .entry)) (now («queue_mem» .entry))) ⌝ }
+{
     let end = state.end;
-    if room - end < commit {
-        return Advanced::NoRoom;
+    let n = fitting(bytes.len(), buf.len() - end);
+    if n == 0 {
+        return Wrote::Is(state, 0);
     }
+    moves::put(buf, end, &bytes[..n]);
     let slot = state.slot;
     let queue = state.queue;
-    let committed = State {
-        end: end + commit,
+    let copied = State {
+        end: end + n,
         slot: slot,
         queue: queue,
     };
-    match run(table, committed, buf, slot_mem, queue_mem) {
-        Ran::Is(s) => Advanced::Is(s),
-        Ran::Full(s) => Advanced::Full(s),
+    match run(table, copied, buf, slot_mem, queue_mem) {
+        Ran::Is(s) => Wrote::Is(s, n),
+        Ran::Full(s) => Wrote::Full(s, n),
     }
+}
+
+// Copies until the piece is used up or there is no room.
+fn write_on(
+    table: &[u8],
+    state: State,
+    piece: &[u8],
+    buf: &mut [u8],
+    slot_mem: &mut [u8],
+    queue_mem: &mut [u8],
+) -> Wrote
+    requires { ⌜ state .end ≤ length (now buf) ⌝ }
+    ensures { λ r. ⌜ writing r (now (buf .exit)) (now («slot_mem» .exit)) (now («queue_mem» .exit)) ≡ write (now (table .entry)) (now (piece .entry)) 0 (world state (now (buf .entry)) (now («slot_mem» .entry)) (now («queue_mem» .entry))) ⌝ }
+{
+    let mut s = state;
+    let mut taken = 0;
+    loop {
+        match write_once(table, s, &piece[taken..], buf, slot_mem, queue_mem) {
+            Wrote::Full(next, n) => {
+                return Wrote::Full(next, taken + n);
+            }
+            Wrote::Is(next, more) => {
+                s = next;
+                if more == 0 {
+                    return Wrote::Is(s, taken);
+                }
+                taken += more;
+            }
+        }
+    }
+}
+
+// The state after a write and the bytes taken, or the refusal: 1 to 3 leave all as it stood, 5 with the state that is left and the bytes taken.
+pub enum Written {
+    Is(State, usize),
+    TooLong,
+    BadTable(usize),
+    BadState,
+    Full(State, usize),
+}
+
+// Copies as much of the piece as fits, advances, and goes on until the piece is used up or there is no room.
+// After refusal 5 the bytes taken are in the buffer or consumed: only the rest of the piece is to be offered again.
+pub fn write(
+    state: State,
+    piece: &[u8],
+    table: &[u8],
+    buf: &mut [u8],
+    slot_mem: &mut [u8],
+    queue_mem: &mut [u8],
+) -> Written
+    ensures { λ r. ⌜ taking state r (now (buf .exit)) (now («slot_mem» .exit)) (now («queue_mem» .exit)) ≡ written (now (table .entry)) (now (piece .entry)) (world state (now (buf .entry)) (now («slot_mem» .entry)) (now («queue_mem» .entry))) ⌝ }
+{
+    match judge(state, table, buf.len(), slot_mem.len(), queue_mem.len()) {
+        Checks::TooLong => Written::TooLong,
+        Checks::BadTable(k) => Written::BadTable(k),
+        Checks::BadState => Written::BadState,
+        Checks::Good => match write_on(table, state, piece, buf, slot_mem, queue_mem) {
+            Wrote::Is(s, n) => Written::Is(s, n),
+            Wrote::Full(s, n) => Written::Full(s, n),
+        },
+    }
+}
+
+// Drops what is in the buffer: the next end.
+pub fn clear(end: usize) -> usize
+    ensures { λ r. ⌜ r ≡ cleared end ⌝ }
+{
+    0
 }
