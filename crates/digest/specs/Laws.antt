@@ -7,7 +7,7 @@ use native.Mathlib.Omega.{arith}
 use lib.ListN.{length, take, drop, length-append}
 use lib.Dec.{ltb}
 use borrow.Author.Tests.{ltb-true}
-use Rattle.text.specs.Logic.{and-both}
+use Rattle.text.specs.Logic.{false-true, and-both}
 use Rattle.text.specs.Text.{isBlank, past, trimmed, stands, findIn}
 use Rattle.text.specs.Laws.{found-at, past-bounds, stands-fits, trimmed-fits, length-part}
 use Rattle.text.specs.declared.Blanks.the-variants as blanks
@@ -37,7 +37,7 @@ use Rattle.digest.specs.declared.Occurs.{Occurs}
 use Rattle.digest.specs.declared.Occurs.the-variants as occurs
 use Rattle.digest.specs.declared.Tried.{Tried}
 use Rattle.digest.specs.declared.Tried.the-variants as tries
-use Rattle.digest.specs.Answer.{numbered, stored, placed, answer, nothing, shift}
+use Rattle.digest.specs.Answer.{numbered, stored, kindFound, placed, answer, nothing, shift}
 use Rattle.digest.specs.Digest.{orElse, foundOr, skipped, trimmedAnswer, heard, notices, occursOr, firstCustom, success, customSuccess, lineSuccess, promptTried, customPrompts, customError, numericTried, lineTried, headTried, numericFrom, lineFrom, retries, after}
 
 -- A chain of rules: u is what the first rule t gave. It answered; or it didn't, and the rest r decides.
@@ -50,6 +50,23 @@ unfolding orElse
 miss t r u p q = ap (λ (x : Tried). orElse x r) (sym q ∙ p)
 
 -- answers
+-- the only kind that isn't found is None
+pub none-only : (k : Kind) → kindFound k ≡ false → k ≡ kind.None
+none-only kind.None e = refl
+none-only kind.Ok e = absurd (false-true refl e)
+none-only kind.Prompt e = absurd (false-true refl e)
+none-only kind.Cme e = absurd (false-true refl e)
+none-only kind.Cms e = absurd (false-true refl e)
+none-only kind.Unknown e = absurd (false-true refl e)
+none-only kind.NotAllowed e = absurd (false-true refl e)
+none-only kind.Error e = absurd (false-true refl e)
+none-only kind.NoCarrier e = absurd (false-true refl e)
+none-only kind.Busy e = absurd (false-true refl e)
+none-only kind.NoAnswer e = absurd (false-true refl e)
+none-only kind.NoDialtone e = absurd (false-true refl e)
+none-only kind.Custom e = absurd (false-true refl e)
+none-only kind.Notice e = absurd (false-true refl e)
+
 pub placed-none : (len p : ℕ) → len ≡ 0 → 0 ≡ placed len p
 unfolding placed
 placed-none len p e = rw e

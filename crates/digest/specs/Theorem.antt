@@ -1115,6 +1115,10 @@ module _ (t s : List ℕ) where
     unfolding digestChecked unlessOver
     checked-is a w = rw (le-leb (length s) 4096 l) w
 
+    -- demand 3, first half, under a good table that isn't checked again
+    pub checked-heard : (n : ℕ) → ruling t ≡ answered n → Heard (tokens t) s (digestChecked t s)
+    checked-heard n h = digest-heard t s n h (digestChecked t s) (sym (checked-is (digest (tokens t) s) refl))
+
   pub checked-long : 4096 < length s → (a : Answer) → a ≡ nothing 0 → a ≡ digestChecked t s
   unfolding digestChecked unlessOver
   checked-long h a w = rw (lt-leb (length s) 4096 h) w

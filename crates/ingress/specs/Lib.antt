@@ -1,2 +1,3 @@
 pub mod Ingress
 pub mod Laws
+pub mod Story
