@@ -7,7 +7,7 @@ use Prim.Native.Nat.{ℕ, _+_, _-_, _≤_, _<_}
 use native.Mathlib.Numerals.{add-one}
 use native.Mathlib.Omega.{arith}
 use lib.ListN.{length, getD, take, drop, set, take-append-drop, length-append, length-drop}
-use lib.Seq.{paste, paste-suc, drop-paste, drop-drop, drop-at, drop-append-le, getD-drop, take-length, take-append-le, take-append-seam, length-take-le}
+use lib.Seq.{paste, paste-suc, take-paste, drop-paste, length-paste, drop-drop, take-at, drop-at, drop-append-le, getD-drop, take-add, take-length, take-append-le, take-append-seam, length-take-le}
 use lib.Dec.{leb}
 use borrow.Author.Tests.{le-leb, lt-leb, leb-true, leb-false}
 use Rattle.moves.specs.Moves.{ifFits, put, moved}
@@ -54,6 +54,10 @@ module _ (m : List ℕ) (i : ℕ) (p : List ℕ) where
       ap (λ (x : List ℕ). take (length p) (drop i x)) (sym (put-is m i p h))
       ∙ rw (drop-append-le i (take i m ++ p) (drop (i + length p) m) v, drop-at (take i m) p i u) (take-append-seam p (drop (i + length p) m))
 
+  -- with the bytes before it as they were
+  pub put-held : i + length p ≤ length m → take (i + length p) (put m i p) ≡ take i m ++ p
+  put-held h = ap (take (i + length p)) (sym (put-all m i p h)) ∙ take-paste m i p (length p) (omega arith) (omega arith) ∙ ap (λ (x : List ℕ). take i m ++ x) (take-length p)
+
   -- and bytes elsewhere are what they were
   module _ (a n : ℕ) where
     fits-before : i + length p ≤ length m → a + n ≤ i → take n (drop a (put m i p)) ≡ take n (drop a m)
@@ -98,6 +102,37 @@ module _ (b : List ℕ) (n e : ℕ) where
 
       pub moved-all : paste b 0 (drop n b) (e - n) ≡ moved b n e
       moved-all = let i : 0 + (e - n) ≡ e - n = omega arith in ap (λ (k : ℕ). take (e - n) (drop n b) ++ drop k b) i ∙ moved-is
+
+      -- the bytes from n up to e are at the front
+      pub moved-held : take (e - n) (moved b n e) ≡ drop n (take e b)
+      moved-held =
+          let d : List ℕ = take (e - n) (drop n b) in
+          let i : n + (e - n) ≡ e = omega arith in
+          let l : length d ≡ e - n = length-take-le (e - n) (drop n b) (rw length-drop (omega arith)) in
+          ap (take (e - n)) (sym moved-is)
+          ∙ take-at d (drop (e - n) b) (e - n) l
+          ∙ sym (drop-at (take n b) d n (length-take-le n b (omega arith)))
+          ∙ ap (drop n) (sym (take-add n (e - n) b) ∙ ap (λ (k : ℕ). take k b) i)
+
+  -- the memory keeps its length
+  pub moved-length : length (moved b n e) ≡ length b
+  moved-length = go (leb n e) (leb e (length b)) refl refl
+    where
+      go : (c d : Bool) → leb n e ≡ c → leb e (length b) ≡ d → length (moved b n e) ≡ length b
+      go false d p q = ap length (sym (moved-back (leb-false n e p)))
+      go true false p q = ap length (sym (moved-past (leb-true n e p) (leb-false e (length b) q)))
+      go true true p q =
+          let h : n ≤ e = leb-true n e p in
+          let g : e ≤ length b = leb-true e (length b) q in
+          ap length (sym (moved-all h g)) ∙ length-paste b 0 (drop n b) (e - n) (omega arith) (rw length-drop (omega arith))
+
+-- bytes that are at the front already stay
+pub moved-still : (b : List ℕ) (e : ℕ) → moved b 0 e ≡ b
+moved-still b e = go (leb e (length b)) refl
+  where
+    go : (d : Bool) → leb e (length b) ≡ d → moved b 0 e ≡ b
+    go true q = sym (moved-is b 0 e (omega arith) (leb-true e (length b) q)) ∙ take-append-drop (e - 0) b
+    go false q = sym (moved-past b 0 e (omega arith) (leb-false e (length b) q))
 
 -- one turn: what is copied so far, with one byte more
 pub paste-more : (d : List ℕ) (at : ℕ) (l : List ℕ) (j x : ℕ) → x ≡ getD l j 0 → at + j < length d → j < length l → set (paste d at l j) (at + j) x ≡ paste d at l (j + 1)

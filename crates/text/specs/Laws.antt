@@ -8,8 +8,8 @@ use Prim.Native.Nat.{ℕ, zero, suc, _+_, _-_, _≤_, _<_}
 use native.Mathlib.Numerals.{add-one, sub-one}
 use native.Mathlib.Nat.{add-zero, zero-add, not-suc-le-zero, le-of-suc-le-suc, eq-or-lt-of-le}
 use native.Mathlib.Omega.{arith}
-use lib.ListN.{length, getD, take, drop, length-drop}
-use lib.Seq.{take-all, drop-cons, length-take-le, drop-drop, drop-append-le, getD-drop}
+use lib.ListN.{length, getD, take, drop, take-append-drop, length-drop}
+use lib.Seq.{take-all, drop-cons, length-take-le, drop-drop, take-append-le, drop-append-le, getD-drop}
 use lib.Dec.{eqb}
 use borrow.Author.Tests.{eq-eqb, ne-eqb, eqb-true, eqb-false, le-leb, lt-leb}
 use Rattle.text.specs.Logic.{false-true, and-both, and-assoc, order}
@@ -321,6 +321,16 @@ part-none s p len h = rw (lt-leb (p + len) (length s) h)
 pub part-is : (s : List ℕ) (p len : ℕ) → p + len ≤ length s → take len (drop p s) ≡ partOf s p len
 unfolding partOf orEmpty
 part-is s p len h = rw (le-leb (p + len) (length s) h)
+
+-- a part of the first n bytes is the part of all
+pub part-take : (s : List ℕ) (n p len : ℕ) → p + len ≤ n → n ≤ length s → partOf (take n s) p len ≡ partOf s p len
+part-take s n p len h g =
+    let l : length (take n s) ≡ n = length-take-le n s g in
+    sym (part-is (take n s) p len (omega arith))
+    ∙ sym (take-append-le len (drop p (take n s)) (drop n s) (rw length-drop (omega arith)))
+    ∙ ap (take len) (sym (drop-append-le p (take n s) (drop n s) (omega arith)))
+    ∙ ap (λ (x : List ℕ). take len (drop p x)) (take-append-drop n s)
+    ∙ part-is s p len (omega arith)
 
 pub part-front : (s : List ℕ) (p len : ℕ) (a : ℕ × ℕ) → length s < p + len → a ≡ further a (partAt s p len)
 unfolding partAt orFront
