@@ -35,6 +35,7 @@ use Rattle.ingress.specs.declared.Ran.{Ran}
 use Rattle.ingress.specs.declared.Ran.the-variants as runs
 use Rattle.ingress.specs.declared.Delivered.{Delivered}
 use Rattle.ingress.specs.declared.Delivered.the-variants as delivers
+use Rattle.ingress.specs.Story.{Passed}
 use Rattle.ingress.specs.Ingress.{isNotice, Delivery, toQueue, toSlot, toEither, deliver, delivery, World, world, Step, went, stuck, onward, answered-by, once, stepped, End, finished, full, goOn, thenRun, unlessEmpty, runBy, run, ran, isSound, Result, done, refusedAt, unless, underTable, checks, unlessRefused, ifRoom, ended, committed, advanced, outcome, stateAfter, result, Writing, wrote, stopped, copied, afterCopy, unlessNone, writeOnce, copyOn, thenWrite, writeBy, write, writing, answering, written, bytesTaken, stateTaken, taking}
 
 -- where a delivery went: x is what the queue or the slot answered, with the memory that it left
@@ -198,9 +199,12 @@ module _ (s : State) (b m n : ℕ) where
     unfolding isSound
     sound-queue g = rw (le-leb (s .end) b h, le-leb (s .slot .len) m g)
 
-  pub sound-inside : isSound s b m n ≡ true → s .end ≤ b
+  pub sound-parts : isSound s b m n ≡ true → (s .end ≤ b) × ((s .slot .len ≤ m) × (inBounds (capacityOf ours n) (s .queue) ≡ true))
   unfolding isSound
-  sound-inside h = leb-true (s .end) b (and-both (leb (s .end) b) (leb (s .slot .len) m && inBounds (capacityOf ours n) (s .queue)) h .0)
+  sound-parts h =
+      let x = and-both (leb (s .end) b) (leb (s .slot .len) m && inBounds (capacityOf ours n) (s .queue)) h in
+      let y = and-both (leb (s .slot .len) m) (inBounds (capacityOf ours n) (s .queue)) (x .1) in
+      (leb-true (s .end) b (x .0), (leb-true (s .slot .len) m (y .0), y .1))
 
 -- `checks`
 module _ (t : List ℕ) (s : State) (b m n : ℕ) where
@@ -224,9 +228,6 @@ pub record Good (t : List ℕ) (w : World) : Type 0 where
   pub ruled : ruling t ≡ answered records
   pub sound : isSound (w .state) (length (w .buf)) (length (w .slotMemory)) (length (w .queueMemory)) ≡ true
 
-abbrev Passed : World → List ℕ → Type 0
-Passed w t = answered tt ≡ checks t (w .state) (length (w .buf)) (length (w .slotMemory)) (length (w .queueMemory))
-
 passed-is : (t : List ℕ) (w : World) (a c : Bool) (r : Outcome ℕ) → leb (length (w .buf)) 4096 ≡ a → isSound (w .state) (length (w .buf)) (length (w .slotMemory)) (length (w .queueMemory)) ≡ c → ruling t ≡ r → _≡_ {A = Outcome (Unit {0})} (answered tt) (unless a 1 (underTable r (unless c 3 (answered tt)))) → Good t w
 unfolding unless underTable
 passed-is t w true true (answered k) l s q e = record { long = leb-true (length (w .buf)) 4096 l; records = k; ruled = q; sound = s }
@@ -239,7 +240,7 @@ unfolding checks
 passed t w e = passed-is t w _ _ _ refl refl refl e
 
 pub good-inside : (t : List ℕ) (w : World) → Good t w → w .state .end ≤ length (w .buf)
-good-inside t w g = sound-inside (w .state) (length (w .buf)) (length (w .slotMemory)) (length (w .queueMemory)) (g .sound)
+good-inside t w g = sound-parts (w .state) (length (w .buf)) (length (w .slotMemory)) (length (w .queueMemory)) (g .sound) .0
 
 -- the ways out of `advance`
 module _ (t : List ℕ) (c : ℕ) (w : World) where

@@ -1,3 +1,4 @@
 pub mod Ingress
 pub mod Laws
 pub mod Story
+pub mod Kept

@@ -16,7 +16,7 @@ use Rattle.text.specs.Logic.{and-both}
 use Rattle.text.specs.Text.{among, blanks, isBlank, stands}
 use Rattle.text.specs.Laws.{part-is}
 use Rattle.text.specs.declared.Blanks.the-variants.{Run}
-use Rattle.table.specs.Outcome.{answered, refused}
+use Rattle.table.specs.Outcome.{Outcome, answered, refused}
 use Rattle.table.specs.declared.Mark.{Mark}
 use Rattle.table.specs.declared.Mark.the-variants.{Notice, Success, Error, Prompt}
 use Rattle.table.specs.declared.Record.{Record}
@@ -231,6 +231,31 @@ good-record-inside t at q r p e = rw (sym p ∙ e) at (good-inside t (recordAt t
 pub text-length : (t : List ℕ) (r : Record) → r .place + r .len ≤ length t → length (textOf t r) ≡ r .len
 unfolding textOf
 text-length t r h = ap length (sym (part-is t (r .place) (r .len) h)) ∙ length-take-le (r .len) (drop (r .place) t) (rw length-drop (omega arith))
+
+-- a table is refused with 2 alone
+abbrev numberOf : Outcome ℕ → ℕ
+numberOf (answered n) = 2
+numberOf (refused n v) = n
+
+more-two : (b : Bool) (n : ℕ) → numberOf (noMore b n) ≡ 2
+unfolding noMore
+more-two true n = refl
+more-two false n = refl
+
+then-two : (q : Read) (n : ℕ) (f : ℕ → Outcome ℕ) → ((p : ℕ) → numberOf (f p) ≡ 2) → numberOf (thenRule q n f) ≡ 2
+unfolding thenRule
+then-two (Is r) n f h = h (endOf r)
+then-two Faulty n f h = refl
+then-two End n f h = refl
+
+ruling-by-two : (k : ℕ) (t : List ℕ) (at n : ℕ) → numberOf (rulingBy k t at n) ≡ 2
+unfolding rulingBy
+ruling-by-two zero t at n = more-two (leb (length t) at) n
+ruling-by-two (suc k) t at n = then-two (goodAt t at) n (λ p. rulingBy k t p (n + 1)) (λ p. ruling-by-two k t p (n + 1))
+
+pub ruling-two : (t : List ℕ) (n : ℕ) (v : List ℕ) → ruling t ≡ refused n v → n ≡ 2
+unfolding ruling
+ruling-two t n v e = sym (ap numberOf e) ∙ ruling-by-two 64 t 0 0
 
 -- the loop of `check`: n records are good, and the ruling is that on the rest
 pub record Counting (t : List ℕ) (at n : ℕ) : Type 0 where
