@@ -1,13 +1,15 @@
--- The ways out of the slot's calls, each with the tests that led there, and that their promises determine them. Assumes nothing.
+-- The ways out of the slot's calls, each with the tests that led there, what they keep, and that their promises determine them. Assumes nothing.
 use mathlib.Core.Path.{_≡_, refl, sym, ap, _∙_}
 use mathlib.Core.Bool.{Bool, true, false}
 use mathlib.Core.List.{List, []}
 use Prim.Native.Nat.{ℕ, _≤_, _<_}
 use native.Mathlib.Omega.{arith}
 use lib.ListN.{length}
-use borrow.Author.Tests.{le-leb, lt-leb}
+use lib.Dec.{leb}
+use borrow.Author.Tests.{le-leb, lt-leb, leb-true, leb-false}
 use Rattle.text.specs.Logic.{false-true}
 use Rattle.moves.specs.Moves.{put, oneMore}
+use Rattle.moves.specs.Laws.{put-length}
 use Rattle.table.specs.Outcome.{Outcome, answered, refused}
 use Rattle.digest.specs.Answer.{numbered, stored}
 use Rattle.digest.specs.declared.Kind.{Kind}
@@ -88,6 +90,35 @@ module _ (x : Slot) (a : Answer) (p m : List ℕ) where
           unfolding signalled turn
           signal-full e y w n v = (λ i. after (answered (w i)) (v i)) ∙ rw (le-leb (x .len) (length m) h, r, t, c, le-leb (length p) (length m) e)
 
+  -- an answered signal keeps the memory's length, and what it leaves fits there
+  pub signal-kept : (y : Slot) (k : List ℕ) → after (answered y) k ≡ signalled x a p m → (length k ≡ length m) × (y .len ≤ length k)
+  unfolding signalled turn
+  signal-kept y k e = go (leb (x .len) (length m)) (isResponse (a .kind)) (x .signalled) (carries (a .kind)) (leb (length p) (length m)) refl refl (ap (λ (w : After). w .said) e) (ap (λ (w : After). w .memory) e)
+    where
+      go : (b r t c f : Bool) → leb (x .len) (length m) ≡ b → leb (length p) (length m) ≡ f → answered y ≡ turn b r t c f x a p m .said → k ≡ turn b r t c f x a p m .memory → (length k ≡ length m) × (y .len ≤ length k)
+      go false r t c f h g o q = let z : _≡_ {A = ℕ} 0 1 = cc in absurd (omega arith)
+      go true false t c f h g o q = let l : y .len ≡ x .len = cc in (ap length q, omega (arith, ap length q, leb-true (x .len) (length m) h))
+      go true true true c f h g o q = let l : y .len ≡ x .len = cc in (ap length q, omega (arith, ap length q, leb-true (x .len) (length m) h))
+      go true true false false f h g o q = let l : y .len ≡ 0 = cc in (ap length q, omega arith)
+      go true true false true false h g o q = let l : y .len ≡ 0 = cc in (ap length q, omega arith)
+      go true true false true true h g o q =
+          let l : y .len ≡ length p = cc in
+          let w : length k ≡ length m = ap length q ∙ put-length m 0 p in
+          (w, omega (arith, leb-true (length p) (length m) g))
+
+  -- a refused signal leaves every byte, and the memory was too short
+  pub signal-stuck : (n : ℕ) (v k : List ℕ) → after (refused n v) k ≡ signalled x a p m → (k ≡ m) × (length m < x .len)
+  unfolding signalled turn
+  signal-stuck n v k e = go (leb (x .len) (length m)) (isResponse (a .kind)) (x .signalled) (carries (a .kind)) (leb (length p) (length m)) refl (ap (λ (w : After). w .said) e) (ap (λ (w : After). w .memory) e)
+    where
+      go : (b r t c f : Bool) → leb (x .len) (length m) ≡ b → refused n v ≡ turn b r t c f x a p m .said → k ≡ turn b r t c f x a p m .memory → (k ≡ m) × (length m < x .len)
+      go false r t c f h o q = (q, leb-false (x .len) (length m) h)
+      go true false t c f h o q = let z : _≡_ {A = ℕ} 0 1 = cc in absurd (omega arith)
+      go true true true c f h o q = let z : _≡_ {A = ℕ} 0 1 = cc in absurd (omega arith)
+      go true true false false f h o q = let z : _≡_ {A = ℕ} 0 1 = cc in absurd (omega arith)
+      go true true false true false h o q = let z : _≡_ {A = ℕ} 0 1 = cc in absurd (omega arith)
+      go true true false true true h o q = let z : _≡_ {A = ℕ} 0 1 = cc in absurd (omega arith)
+
 module _ (x : Slot) (m : List ℕ) where
   pub reset-short : length m < x .len → refused 3 [] ≡ wasReset x m
   unfolding wasReset unlessShort
@@ -96,6 +127,15 @@ module _ (x : Slot) (m : List ℕ) where
   pub reset-is : x .len ≤ length m → answered (freed x) ≡ wasReset x m
   unfolding wasReset unlessShort
   reset-is h = rw (le-leb (x .len) (length m) h)
+
+  -- what an answered reset leaves fits into the memory
+  pub reset-kept : (y : Slot) → answered y ≡ wasReset x m → y .len ≤ length m
+  unfolding wasReset unlessShort
+  reset-kept y e = go (leb (x .len) (length m)) refl e
+    where
+      go : (b : Bool) → leb (x .len) (length m) ≡ b → answered y ≡ unlessShort b (answered (freed x)) → y .len ≤ length m
+      go true h o = let l : y .len ≡ x .len = cc in omega (arith, leb-true (x .len) (length m) h)
+      go false h o = let z : _≡_ {A = ℕ} 0 1 = cc in absurd (omega arith)
 
   pub read-short : length m < x .len → refused 3 [] ≡ wasRead x m
   unfolding wasRead unlessShortRead
