@@ -239,6 +239,10 @@ pub passed : (t : List ℕ) (w : World) → Passed w t → Good t w
 unfolding checks
 passed t w e = passed-is t w _ _ _ refl refl refl e
 
+pub passes : (t : List ℕ) (w : World) → Good t w → Passed w t
+unfolding checks unless underTable
+passes t w g = rw (le-leb (length (w .buf)) 4096 (g .long), g .ruled, g .sound)
+
 pub good-inside : (t : List ℕ) (w : World) → Good t w → w .state .end ≤ length (w .buf)
 good-inside t w g = sound-parts (w .state) (length (w .buf)) (length (w .slotMemory)) (length (w .queueMemory)) (g .sound) .0
 
