@@ -343,7 +343,7 @@ module _ (t p : List ℕ) (w : World) where
       copy-full v = ap (λ (z : Ran). afterCopy (ran z b m q) n) (sym v) ∙ ap (λ (z : End). afterCopy z n) (k ∙ ap (run t) c) ∙ at-copy
 
 -- a copy takes no more than there is, and leaves an end in the buffer
-abbrev bytes-of : Writing → ℕ
+abbrev pub bytes-of : Writing → ℕ
 bytes-of (wrote n w) = n
 bytes-of (stopped n w) = n
 
@@ -362,7 +362,7 @@ module _ (t p : List ℕ) (w : World) where
   none-taken true n k = omega (arith, after-copy (run t (copied w (take n p))) n .0)
   none-taken false n k = omega arith
 
-  once-taken : bytes-of (writeOnce t p w) ≤ length p
+  pub once-taken : bytes-of (writeOnce t p w) ≤ length p
   unfolding writeOnce
   once-taken = none-taken (leb 1 (min (length p) (length (w .buf) - w .state .end))) (min (length p) (length (w .buf) - w .state .end)) (omega arith)
 

@@ -2,3 +2,4 @@ pub mod Ingress
 pub mod Laws
 pub mod Story
 pub mod Kept
+pub mod Conserved

@@ -197,10 +197,6 @@ abbrev pub tookOf : Outcome ℕ → ℕ
 tookOf (answered n) = n
 tookOf (refused k v) = fiveOnly (eqb k 5) v
 
--- the calls of a client under one table
-pub data Call : Type 0 where
-  write : List ℕ → Call
-  advance : ℕ → Call
-  clear : Call
-  take·one : Call
-  reset : Call
+-- For a write that took a byte: one that took none digested nothing.
+abbrev pub NothingAfter : List ℕ → Result ℕ → Type 0
+NothingAfter t r = 1 ≤ tookOf (r .said) → NothingLeft t r

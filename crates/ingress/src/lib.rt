@@ -3,8 +3,9 @@
 // It relies on the promises of digester, slot and queue, and opens none of their definitions.
 ghost use mathlib.Core.Path.{_≡_};
 ghost use Prim.Native.Nat.{_≤_, min};
-ghost use lib.ListN.{length};
-ghost use Rattle.ingress.specs.Ingress.{isNotice, deliver, delivery, world, once, stepped, run, ran, isSound, checks, refusal, advanced, result, writeOnce, writing, write, written, taking, cleared};
+ghost use lib.ListN.{length, take};
+ghost use Rattle.ingress.specs.Ingress.{isNotice, deliver, delivery, world, once, stepped, run, ran, isSound, checks, refusal, advanced, result, writeOnce, writing, write, written, bytesTaken, taking, cleared};
+ghost use Rattle.ingress.specs.Story.{Keeps, committedBytes, NothingLeft, NothingAfter, tookOf};
 use digest::Answer;
 use digest::Kind;
 use queue::Put;
@@ -198,6 +199,7 @@ pub enum Advanced {
 }
 
 // Adds the commit to what is in the buffer, then digests, delivers and moves until nothing more is consumed.
+// No byte is lost (`keeps`), and what it leaves, not refused, holds no finished item (`nothing_left`).
 pub fn advance(
     state: State,
     commit: usize,
@@ -207,6 +209,8 @@ pub fn advance(
     queue_mem: &mut [u8],
 ) -> Advanced
     ensures { λ r. ⌜ result state r (now (buf .exit)) (now («slot_mem» .exit)) (now («queue_mem» .exit)) ≡ advanced (now (table .entry)) commit (world state (now (buf .entry)) (now («slot_mem» .entry)) (now («queue_mem» .entry))) ⌝ }
+    ensures keeps { λ r. ⌜ Keeps (now (table .entry)) (world state (now (buf .entry)) (now («slot_mem» .entry)) (now («queue_mem» .entry))) (committedBytes (world state (now (buf .entry)) (now («slot_mem» .entry)) (now («queue_mem» .entry))) commit) (result state r (now (buf .exit)) (now («slot_mem» .exit)) (now («queue_mem» .exit))) ⌝ }
+    ensures nothing_left { λ r. ⌜ NothingLeft (now (table .entry)) (result state r (now (buf .exit)) (now («slot_mem» .exit)) (now («queue_mem» .exit))) ⌝ }
 {
     let room = buf.len();
     match judge(state, table, room, slot_mem.len(), queue_mem.len()) {
@@ -321,6 +325,7 @@ pub enum Written {
 
 // Copies as much of the piece as fits, advances, and goes on until the piece is used up or there is no room.
 // After refusal 5 the bytes taken are in the buffer or consumed: only the rest of the piece is to be offered again.
+// No byte is lost (`keeps`), and what it leaves, not refused and a byte taken, holds no finished item (`nothing_left`).
 pub fn write(
     state: State,
     piece: &[u8],
@@ -330,6 +335,8 @@ pub fn write(
     queue_mem: &mut [u8],
 ) -> Written
     ensures { λ r. ⌜ taking state r (now (buf .exit)) (now («slot_mem» .exit)) (now («queue_mem» .exit)) ≡ written (now (table .entry)) (now (piece .entry)) (world state (now (buf .entry)) (now («slot_mem» .entry)) (now («queue_mem» .entry))) ⌝ }
+    ensures keeps { λ r. ⌜ Keeps (now (table .entry)) (world state (now (buf .entry)) (now («slot_mem» .entry)) (now («queue_mem» .entry))) (take (tookOf (bytesTaken r)) (now (piece .entry))) (taking state r (now (buf .exit)) (now («slot_mem» .exit)) (now («queue_mem» .exit))) ⌝ }
+    ensures nothing_left { λ r. ⌜ NothingAfter (now (table .entry)) (taking state r (now (buf .exit)) (now («slot_mem» .exit)) (now («queue_mem» .exit))) ⌝ }
 {
     match judge(state, table, buf.len(), slot_mem.len(), queue_mem.len()) {
         Checks::TooLong => Written::TooLong,

@@ -2,6 +2,7 @@
 use mathlib.Core.Path.{sym, ap, _∙_}
 use Prim.Native.Nat.{_-_}
 use Rattle.ingress.specs.Ingress.{world, refusal}
+use Rattle.ingress.specs.Conserved.{advance-whole}
 use Rattle.ingress.specs.Laws.{passed, good-inside, advance-refused, advance-room, advance-done, advance-full}
 use borrow.Author.Needs.{needs}
 use native.Mathlib.Omega.{arith}
@@ -33,7 +34,7 @@ returns : tie.Need-returns
 returns c =
     let args = c .before .before .before .before .before .before .before .before .args in
     let judge = c .before .before .before .judge in
-    advance-room (args .table .now) (args .commit) (world (args .state) (args .buf .now) (args .slot-mem .now) (args .queue-mem .now)) (ap refusal (sym (c .before .enum-told3 .given .1)) ∙ judge .ensures) (c .if1 .taken)
+    advance-whole (args .table .now) (args .commit) (world (args .state) (args .buf .now) (args .slot-mem .now) (args .queue-mem .now)) _ (advance-room (args .table .now) (args .commit) (world (args .state) (args .buf .now) (args .slot-mem .now) (args .queue-mem .now)) (ap refusal (sym (c .before .enum-told3 .given .1)) ∙ judge .ensures) (c .if1 .taken))
 
 add-t19 : tie.Need-add-t19
 add-t19 c = search needs
@@ -55,19 +56,19 @@ returns-2 : tie.Need-returns-2
 returns-2 c =
     let args = c .before .before .before .before .before .before .before .args in
     let judge = c .before .before .judge in
-    advance-refused (args .table .now) (args .commit) (world (args .state) (args .buf .now) (args .slot-mem .now) (args .queue-mem .now)) 1 _ (ap refusal (sym (c .enum-told .given .1)) ∙ judge .ensures)
+    advance-whole (args .table .now) (args .commit) (world (args .state) (args .buf .now) (args .slot-mem .now) (args .queue-mem .now)) _ (advance-refused (args .table .now) (args .commit) (world (args .state) (args .buf .now) (args .slot-mem .now) (args .queue-mem .now)) 1 _ (ap refusal (sym (c .enum-told .given .1)) ∙ judge .ensures))
 
 returns-3 : tie.Need-returns-3
 returns-3 c =
     let args = c .before .before .before .before .before .before .before .before .args in
     let judge = c .before .before .before .judge in
-    advance-refused (args .table .now) (args .commit) (world (args .state) (args .buf .now) (args .slot-mem .now) (args .queue-mem .now)) 2 _ (ap refusal (sym (c .before .k .given .1)) ∙ judge .ensures)
+    advance-whole (args .table .now) (args .commit) (world (args .state) (args .buf .now) (args .slot-mem .now) (args .queue-mem .now)) _ (advance-refused (args .table .now) (args .commit) (world (args .state) (args .buf .now) (args .slot-mem .now) (args .queue-mem .now)) 2 _ (ap refusal (sym (c .before .k .given .1)) ∙ judge .ensures))
 
 returns-4 : tie.Need-returns-4
 returns-4 c =
     let args = c .before .before .before .before .before .before .before .args in
     let judge = c .before .before .judge in
-    advance-refused (args .table .now) (args .commit) (world (args .state) (args .buf .now) (args .slot-mem .now) (args .queue-mem .now)) 3 _ (ap refusal (sym (c .enum-told2 .given .1)) ∙ judge .ensures)
+    advance-whole (args .table .now) (args .commit) (world (args .state) (args .buf .now) (args .slot-mem .now) (args .queue-mem .now)) _ (advance-refused (args .table .now) (args .commit) (world (args .state) (args .buf .now) (args .slot-mem .now) (args .queue-mem .now)) 3 _ (ap refusal (sym (c .enum-told2 .given .1)) ∙ judge .ensures))
 
 same-length : tie.Need-same-length
 same-length c = search needs
@@ -85,7 +86,7 @@ returns-5 c =
     let enum-told3 = c .before .before .before .before .before .before .before .before .before .before .before .before .before .before .before .before .enum-told3 in
     let if1 = c .before .before .before .before .before .before .before .before .before .before .before .before .before .before .before .if1 in
     let run = c .before .before .before .before .before .before .before .before .before .run in
-    advance-done (args .table .now) (args .commit) (world (args .state) (args .buf .now) (args .slot-mem .now) (args .queue-mem .now)) (ap refusal (sym (enum-told3 .given .1)) ∙ judge .ensures) (if1 .left) _ _ _ _ (run .ensures) _ (c .before .s .given .1)
+    advance-whole (args .table .now) (args .commit) (world (args .state) (args .buf .now) (args .slot-mem .now) (args .queue-mem .now)) _ (advance-done (args .table .now) (args .commit) (world (args .state) (args .buf .now) (args .slot-mem .now) (args .queue-mem .now)) (ap refusal (sym (enum-told3 .given .1)) ∙ judge .ensures) (if1 .left) _ _ _ _ (run .ensures) _ (c .before .s .given .1))
 
 same-length-4 : tie.Need-same-length-4
 same-length-4 c = search needs
@@ -103,7 +104,7 @@ returns-6 c =
     let enum-told3 = c .before .before .before .before .before .before .before .before .before .before .before .before .before .before .before .before .enum-told3 in
     let if1 = c .before .before .before .before .before .before .before .before .before .before .before .before .before .before .before .if1 in
     let run = c .before .before .before .before .before .before .before .before .before .run in
-    advance-full (args .table .now) (args .commit) (world (args .state) (args .buf .now) (args .slot-mem .now) (args .queue-mem .now)) (ap refusal (sym (enum-told3 .given .1)) ∙ judge .ensures) (if1 .left) _ _ _ _ (run .ensures) _ (c .before .s2 .given .1)
+    advance-whole (args .table .now) (args .commit) (world (args .state) (args .buf .now) (args .slot-mem .now) (args .queue-mem .now)) _ (advance-full (args .table .now) (args .commit) (world (args .state) (args .buf .now) (args .slot-mem .now) (args .queue-mem .now)) (ap refusal (sym (enum-told3 .given .1)) ∙ judge .ensures) (if1 .left) _ _ _ _ (run .ensures) _ (c .before .s2 .given .1))
 
 pub advance-spec : {M : Type 1} → statement M
 advance-spec =
