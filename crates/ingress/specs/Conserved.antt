@@ -73,7 +73,7 @@ over-none t w = over-by t w w [] [] refl tt refl
 
 -- bytes arrive by a commit, and by a copy
 module _ (t : List ℕ) (w : World) (g : Good t w) where
-  good-at : (b : List ℕ) (e : ℕ) → length b ≡ length (w .buf) → e ≤ length (w .buf) → Good t (world (record { end = e; slot = w .state .slot; queue = w .state .queue }) b (w .slotMemory) (w .queueMemory))
+  pub good-at : (b : List ℕ) (e : ℕ) → length b ≡ length (w .buf) → e ≤ length (w .buf) → Good t (world (record { end = e; slot = w .state .slot; queue = w .state .queue }) b (w .slotMemory) (w .queueMemory))
   good-at b e l h =
       let p = sound-parts (w .state) (length (w .buf)) (length (w .slotMemory)) (length (w .queueMemory)) (g .sound) in
       record {
@@ -144,7 +144,7 @@ module _ (t : List ℕ) (c : ℕ) (w : World) where
   unless-refused (refused n v) q =
       (refused-keeps t w (committedBytes w c) n v (checks-low t (w .state) (length (w .buf)) (length (w .slotMemory)) (length (w .queueMemory)) n v q), λ x. absurd (false-true x refl))
 
-  advance-keeps : AdvanceKeeps t c w (advanced t c w)
+  pub advance-keeps : AdvanceKeeps t c w (advanced t c w)
   unfolding advanced
   advance-keeps = unless-refused (checks t (w .state) (length (w .buf)) (length (w .slotMemory)) (length (w .queueMemory))) refl
 
@@ -257,7 +257,7 @@ module _ (t p : List ℕ) (w : World) where
     λ o x. absurd (false-true x refl),
   )
 
-  write-keeps : WriteKeeps t p w (written t p w)
+  pub write-keeps : WriteKeeps t p w (written t p w)
   unfolding written
   write-keeps = write-unless (checks t (w .state) (length (w .buf)) (length (w .slotMemory)) (length (w .queueMemory))) refl
 

@@ -99,13 +99,13 @@ module _ (s : State) (a : Answer) (p m n : List ℕ) (f : s .slot .len ≤ lengt
 
 -- a turn: what is said of the bytes held, what is delivered, and what it leaves
 module _ (t : List ℕ) (w : World) where
-  abbrev says : Answer
+  abbrev pub says : Answer
   says = digestChecked t (held w)
 
-  abbrev delivering : Delivery
+  abbrev pub delivering : Delivery
   delivering = deliver (w .state) says (payloadOf (held w) says) (w .slotMemory) (w .queueMemory)
 
-  abbrev next : World
+  abbrev pub next : World
   next = world (record { end = w .state .end - says .consumed; slot = delivering .slot; queue = delivering .queue }) (moved (w .buf) (says .consumed) (w .state .end)) (delivering .slotMemory) (delivering .queueMemory)
 
   abbrev waitsAt : World
@@ -145,10 +145,10 @@ module _ (t : List ℕ) (w : World) (g : Good t w) where
   held-long : length (held w) ≡ w .state .end
   held-long = length-take-le (w .state .end) (w .buf) (parts .0)
 
-  says-within : says t w .consumed ≤ w .state .end
+  pub says-within : says t w .consumed ≤ w .state .end
   says-within = omega (arith, checked-within t (held w), held-long)
 
-  heard : Heard (tokens t) (held w) (says t w)
+  pub heard : Heard (tokens t) (held w) (says t w)
   heard = checked-heard t (held w) (omega (arith, held-long, parts .0, g .long)) (g .records) (g .ruled)
 
   -- where nothing is consumed, nothing is finished, and the turn changes nothing
@@ -172,7 +172,7 @@ module _ (t : List ℕ) (w : World) (g : Good t w) where
     kept : Delivers (w .state) (w .slotMemory) (w .queueMemory) (addsIf (isNotice (says t w .kind)) (says t w .number % 256) (payloadOf (held w) (says t w))) (delivering t w)
     kept = delivers (w .state) (says t w) (payloadOf (held w) (says t w)) (w .slotMemory) (w .queueMemory) (parts .1 .0) (parts .1 .1) r
 
-    next-good : Good t (next t w)
+    pub next-good : Good t (next t w)
     next-good =
         let l = moved-length (w .buf) (says t w .consumed) (w .state .end) in
         let s : next t w .state .end ≤ length (next t w .buf) = omega (arith, l, parts .0) in
@@ -198,21 +198,25 @@ module _ (t : List ℕ) (w : World) (g : Good t w) where
     pub waits-so : Waits t w
     waits-so =
         let k = waited (w .state) (says t w) (payloadOf (held w) (says t w)) (w .slotMemory) (w .queueMemory) (parts .1 .0) (parts .1 .1) r in
-        record { notice = k .0; some = k .1 .1 .0; most = k .1 .1 .1; full = k .1 .0 }
+        record { passed = passes t w g; notice = k .0; some = k .1 .1 .0; most = k .1 .1 .1; full = k .1 .0 }
 
-notice-found : (k : Kind) → isNotice k ≡ true → kindFound k ≡ true
+pub notice-found : (k : Kind) → isNotice k ≡ true → kindFound k ≡ true
 notice-found k e = go (kindFound k) refl
   where
     go : (b : Bool) → kindFound k ≡ b → b ≡ true
     go true q = refl
     go false q = absurd (false-true e (ap isNotice (none-only k q)))
 
+pub once-goes : (t : List ℕ) (w : World) → delivering t w .waits ≡ false → went (next t w) (says t w .consumed) ≡ once t w
+unfolding once answered-by onward
+once-goes t w r = rw r
+
 -- a turn of a story, from what `once` says
 module _ (t : List ℕ) (w : World) where
-  abbrev turnOf : Turn
+  abbrev pub turnOf : Turn
   turnOf = record { stretch = take (says t w .consumed) (held w); answer = says t w }
 
-  turns-on : Passed w t → (v : World) (n : ℕ) → went v n ≡ once t w → 1 ≤ n → Turns t w turnOf v
+  pub turns-on : Passed w t → (v : World) (n : ℕ) → went v n ≡ once t w → 1 ≤ n → Turns t w turnOf v
   turns-on p v n e h =
       let k = once-went t w v n e in
       record { passed = p; said = refl; front = refl; some = omega (arith, k .1 .1); goes = ap (went v) (sym (k .1 .1)) ∙ e }
@@ -229,7 +233,7 @@ module _ (t : List ℕ) (w : World) (x : Turn) (v : World) (u : Turns t w x v) w
       next-held t w (passed t w (u .passed)) (k .0) ∙ (λ i. f i ++ held (sym (k .1 .0) i))
 
   -- the payload lies in the stretch
-  turned-payload : isNotice (x .answer .kind) ≡ true → payloadOf (held w) (says t w) ≡ payloadOf (x .stretch) (x .answer)
+  pub turned-payload : isNotice (x .answer .kind) ≡ true → payloadOf (held w) (says t w) ≡ payloadOf (x .stretch) (x .answer)
   turned-payload e =
       let g = passed t w (u .passed) in
       let q = heard t w g .item (notice-found (says t w .kind) (ap (λ (a : Answer). isNotice (a .kind)) (sym (u .said)) ∙ e)) in

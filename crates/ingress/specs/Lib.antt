@@ -3,3 +3,5 @@ pub mod Laws
 pub mod Story
 pub mod Kept
 pub mod Conserved
+pub mod Calls
+pub mod Winter

@@ -158,8 +158,9 @@ pub record Over (t : List ℕ) (w : World) (b : List ℕ) (v : World) : Type 0 w
   pub came : flat cameBy events ≡ b
   pub bytes : held w ++ b ≡ flat wentBy events ++ held v
 
--- Refusal 5: what is in the buffer begins with a notice of 1 to 128 bytes, and the queue is full.
+-- Refusal 5: no lower refusal meets the state, what the digester finds in the buffer is a notice of 1 to 128 bytes, and the queue is full.
 pub record Waits (t : List ℕ) (w : World) : Type 0 where
+  pub passed : Passed w t
   pub notice : isNotice (digestChecked t (held w) .kind) ≡ true
   pub some : 1 ≤ length (payloadOf (held w) (digestChecked t (held w)))
   pub most : length (payloadOf (held w) (digestChecked t (held w))) ≤ 128

@@ -286,3 +286,8 @@ take-empty x y m e = go (inBounds (capacityOf ours (length m)) x) (leb 1 (x .cou
     go true false r o = cc
     go true true false o = let z : _≡_ {A = ℕ} 0 1 = cc in absurd (omega arith)
     go true true true o = let z : _≡_ {A = ℕ} 0 1 = cc in absurd (omega arith)
+
+-- a notice of 1 to 128 bytes is added
+pub adds-one : (number : ℕ) (p : List ℕ) → 1 ≤ length p → length p ≤ 128 → adds ours number p ≡ record { number = number; payload = p } ∷ []
+unfolding adds oneIf
+adds-one number p h g = rw (le-leb 1 (length p) h, le-leb (length p) 128 g)
