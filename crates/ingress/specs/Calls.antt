@@ -3,7 +3,7 @@ use mathlib.Core.Path.{_≡_}
 use mathlib.Core.Bool.{Bool, true, false}
 use mathlib.Core.List.{List, [], _∷_, _++_, map}
 use Prim.Native.Nat.{ℕ, _%_}
-use lib.ListN.{length, take}
+use lib.ListN.{take}
 use Rattle.text.specs.Text.{partOf}
 use Rattle.table.specs.Outcome.{Outcome, answered, refused}
 use Rattle.digest.specs.Digest.{digestChecked}

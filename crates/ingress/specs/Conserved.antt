@@ -8,7 +8,7 @@ use native.Mathlib.Nat.{eq-or-lt-of-le}
 use native.Mathlib.Omega.{arith}
 use lib.ListN.{length, take, drop, length-drop}
 use lib.Seq.{take-add, drop-drop, length-take-le}
-use lib.Dec.{eqb, leb}
+use lib.Dec.{leb}
 use borrow.Author.Tests.{eqb-true, leb-true, leb-false}
 use Rattle.text.specs.Logic.{false-true}
 use Rattle.moves.specs.Moves.{put}
@@ -18,9 +18,9 @@ use Rattle.table.specs.Table.{tokens, ruling}
 use Rattle.table.specs.Laws.{ruling-two}
 use Rattle.digest.specs.Finished.{NothingFinished}
 use Rattle.ingress.specs.declared.State.{State}
-use Rattle.ingress.specs.Ingress.{World, world, held, End, finished, full, run, isSound, Result, done, refusedAt, unless, underTable, checks, unlessRefused, ifRoom, ended, committed, advanced, Writing, wrote, stopped, copied, afterCopy, unlessNone, writeOnce, copyOn, thenWrite, writeBy, write, answering, written}
+use Rattle.ingress.specs.Ingress.{World, world, held, End, finished, full, run, isSound, Result, refusedAt, unless, underTable, checks, unlessRefused, ifRoom, ended, committed, advanced, Writing, wrote, stopped, copied, afterCopy, unlessNone, writeOnce, copyOn, thenWrite, writeBy, write, answering, written}
 use Rattle.ingress.specs.Laws.{Good, passed, sound-parts, sound-queue, good-inside, bytes-of, once-taken}
-use Rattle.ingress.specs.Story.{Turn, Event, arrived, consumed, dropped, handed, freed, cameBy, wentBy, flat, Passed, Arrives, Happens, Via, Story, Fed, Over, Waits, takesBytes, isAnswered, Keeps, committedBytes, NothingLeft, fiveOnly, tookOf, NothingAfter}
+use Rattle.ingress.specs.Story.{Turn, Event, arrived, consumed, dropped, handed, freed, cameBy, flat, Arrives, Story, Fed, Over, Waits, Keeps, committedBytes, NothingLeft, fiveOnly, tookOf, NothingAfter}
 use Rattle.ingress.specs.Kept.{story-bytes, Ended, Ends, run-ends}
 
 -- stories one after the other

@@ -4,12 +4,11 @@ use mathlib.Core.Bool.{Bool, true, false}
 use mathlib.Core.List.{List, [], _∷_, _++_, append-nil, append-assoc, map}
 use Prim.Native.Nat.{ℕ, zero, suc, _+_, _-_, _%_, _≤_, _<_}
 use native.Mathlib.Omega.{arith}
-use lib.ListN.{length, take, drop, take-append-drop}
+use lib.ListN.{length, take, take-append-drop}
 use lib.Seq.{length-take-le}
 use lib.Dec.{leb}
 use borrow.Author.Tests.{leb-true, leb-false}
 use Rattle.text.specs.Logic.{false-true, not-true-false}
-use Rattle.text.specs.Text.{partOf}
 use Rattle.text.specs.Laws.{part-take}
 use Rattle.moves.specs.Moves.{moved}
 use Rattle.moves.specs.Laws.{moved-length, moved-held, moved-still}
@@ -32,9 +31,9 @@ use Rattle.queue.specs.Queue as queues
 use Rattle.queue.specs.Waiting.{put-waits, put-kept, put-stuck, put-full-only, take-waits}
 use Rattle.queue.specs.declared.Queue.{Queue}
 use Rattle.ingress.specs.declared.State.{State}
-use Rattle.ingress.specs.Ingress.{isNotice, Delivery, isRefused, toQueue, toSlot, toEither, deliver, World, world, held, Step, went, stuck, onward, answered-by, once, End, finished, full, goOn, thenRun, unlessEmpty, runBy, run, isSound}
+use Rattle.ingress.specs.Ingress.{isNotice, Delivery, isRefused, toQueue, toSlot, toEither, deliver, World, world, held, Step, went, stuck, onward, answered-by, once, End, finished, full, goOn, thenRun, unlessEmpty, runBy, run}
 use Rattle.ingress.specs.Laws.{Good, passed, passes, sound-parts, sound-queue, once-end}
-use Rattle.ingress.specs.Story.{Turn, Event, arrived, consumed, dropped, handed, freed, payloadOf, noticeIf, noticeOf, cameBy, wentBy, deliveredBy, handedBy, flat, waitingIn, withQueue, Passed, Turns, Via, Story, Waits}
+use Rattle.ingress.specs.Story.{Turn, Event, arrived, consumed, dropped, handed, freed, payloadOf, noticeIf, noticeOf, cameBy, wentBy, deliveredBy, handedBy, flat, waitingIn, withQueue, Passed, Turns, Story, Waits}
 
 -- A delivery that doesn't wait stays within the bounds, and adds the notice that it was given.
 pub record Delivers (s : State) (m n : List ℕ) (adding : List queues.Arrival) (d : Delivery) : Type 0 where
@@ -223,9 +222,6 @@ module _ (t : List ℕ) (w : World) where
 
 -- and what it keeps
 module _ (t : List ℕ) (w : World) (x : Turn) (v : World) (u : Turns t w x v) where
-  turned-good : Good t v
-  turned-good = let k = once-went t w v (x .answer .consumed) (u .goes) in rw (k .1 .0) (next-good t w (passed t w (u .passed)) (k .0))
-
   turned-held : held w ≡ x .stretch ++ held v
   turned-held =
       let k = once-went t w v (x .answer .consumed) (u .goes) in

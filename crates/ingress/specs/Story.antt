@@ -2,7 +2,7 @@
 use mathlib.Core.Path.{_≡_}
 use mathlib.Core.Bool.{Bool, true, false}
 use mathlib.Core.List.{List, [], _∷_, _++_}
-use Prim.Native.Nat.{ℕ, _+_, _%_, _≤_, _<_}
+use Prim.Native.Nat.{ℕ, _+_, _%_, _≤_}
 use lib.ListN.{length, getD, take, drop}
 use lib.Dec.{eqb}
 use Rattle.text.specs.Text.{partOf}
@@ -13,10 +13,10 @@ use Rattle.digest.specs.Digest.{digestChecked}
 use Rattle.digest.specs.Finished.{NothingFinished}
 use Rattle.slot.specs.Slot.{wasReset}
 use Rattle.slot.specs.declared.Slot.{Slot}
-use Rattle.queue.specs.Queue.{ours, capacityOf, taken, Got, got, empty, Arrival, waiting, adds}
+use Rattle.queue.specs.Queue.{ours, capacityOf, taken, got, Arrival, waiting, adds}
 use Rattle.queue.specs.declared.Queue.{Queue}
 use Rattle.queue.specs.declared.Notice.{Notice}
-use Rattle.ingress.specs.Ingress.{isNotice, World, world, held, went, once, cleared, checks, Result, advanced, written}
+use Rattle.ingress.specs.Ingress.{isNotice, World, world, held, went, once, cleared, checks, Result}
 
 -- a turn that consumed something: the stretch of bytes, and what the digester said it was
 pub record Turn : Type 0 where

@@ -1,26 +1,23 @@
 -- The winter's fault is shut out: each call is a story, and so is a sequence of calls. From what advance and write keep. Assumes nothing.
 use mathlib.Core.Path.{_≡_, refl, sym, ap, _∙_}
 use mathlib.Core.Bool.{Bool, true, false}
-use mathlib.Core.List.{List, [], _∷_, _++_, append-nil, map}
-use Prim.Native.Nat.{ℕ, _+_, _-_, _%_, _≤_, _<_}
-use native.Mathlib.Nat.{add-zero}
+use mathlib.Core.List.{List, [], _∷_, _++_}
+use Prim.Native.Nat.{ℕ, _+_, _-_, _%_, _≤_}
 use native.Mathlib.Omega.{arith}
 use lib.ListN.{length, take}
 use lib.Dec.{eqb}
-use Rattle.text.specs.Logic.{false-true}
 use Rattle.table.specs.Outcome.{Outcome, answered, refused}
-use Rattle.digest.specs.Digest.{digestChecked}
 use Rattle.slot.specs.Slot.{wasReset}
 use Rattle.slot.specs.declared.Slot.{Slot}
-use Rattle.queue.specs.Queue.{ours, putInto, capacityOf, inBounds, longer, taken, Got, got, empty, Arrival}
+use Rattle.queue.specs.Queue.{ours, longer, taken, Got, got, empty, Arrival}
 use Rattle.queue.specs.Queue as queues
 use Rattle.queue.specs.Waiting.{put-room, take-kept, take-empty, adds-one}
 use Rattle.queue.specs.declared.Put.the-variants as puts
 use Rattle.queue.specs.declared.Queue.{Queue}
 use Rattle.queue.specs.declared.Notice.{Notice}
-use Rattle.ingress.specs.Ingress.{Delivery, World, world, held, went, once, End, finished, full, run, Result, ended, committed, advanced, written}
+use Rattle.ingress.specs.Ingress.{Delivery, World, world, held, End, finished, full, run, Result, ended, committed, advanced, written}
 use Rattle.ingress.specs.Laws.{Good, passed, passes, sound-parts, sound-queue, run-goes, at-run, to-queue}
-use Rattle.ingress.specs.Story.{Turn, Event, arrived, consumed, dropped, handed, freed, payloadOf, noticeIf, noticeOf, cameBy, wentBy, deliveredBy, handedBy, flat, waitingIn, withQueue, withSlot, emptied, Turns, Story, Fed, Over, Waits, takesBytes, Keeps, committedBytes, fiveOnly, tookOf}
+use Rattle.ingress.specs.Story.{Event, arrived, consumed, dropped, handed, freed, payloadOf, noticeIf, cameBy, handedBy, flat, waitingIn, withQueue, withSlot, emptied, Turns, Story, Fed, Over, Waits, takesBytes, Keeps, committedBytes, fiveOnly, tookOf}
 use Rattle.ingress.specs.Kept.{says, delivering, next, heard, says-within, next-good, notice-found, once-goes, turnOf, turns-on, turned-payload, story-bytes, story-notices, Ended, Ends, run-ends}
 use Rattle.ingress.specs.Conserved.{flat-append, story-append, advance-keeps, write-keeps}
 use Rattle.ingress.specs.Calls.{Call, write, advance, clear, takeOne, reset, afterTake, afterReset, leftBy, bytesIf, tookBy, handsOut, handsBy, left, along, Told, GoesOn}
