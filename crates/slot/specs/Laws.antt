@@ -128,15 +128,6 @@ module _ (x : Slot) (m : List ℕ) where
   unfolding wasReset unlessShort
   reset-is h = rw (le-leb (x .len) (length m) h)
 
-  -- what an answered reset leaves fits into the memory
-  pub reset-kept : (y : Slot) → answered y ≡ wasReset x m → y .len ≤ length m
-  unfolding wasReset unlessShort
-  reset-kept y e = go (leb (x .len) (length m)) refl e
-    where
-      go : (b : Bool) → leb (x .len) (length m) ≡ b → answered y ≡ unlessShort b (answered (freed x)) → y .len ≤ length m
-      go true h o = let l : y .len ≡ x .len = cc in omega (arith, leb-true (x .len) (length m) h)
-      go false h o = let z : _≡_ {A = ℕ} 0 1 = cc in absurd (omega arith)
-
   pub read-short : length m < x .len → refused 3 [] ≡ wasRead x m
   unfolding wasRead unlessShortRead
   read-short h = rw (lt-leb (x .len) (length m) h)
