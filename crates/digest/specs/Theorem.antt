@@ -1123,11 +1123,14 @@ module _ (t s : List ℕ) where
   unfolding digestChecked unlessOver
   checked-long h a w = rw (lt-leb (length s) 4096 h) w
 
-  -- what a digest under a checked table consumes lies in the input
-  pub checked-within : digestChecked t s .consumed ≤ length s
+  -- what a digest under a checked table consumes lies in the input, and the payload in what is consumed
+  pub checked-inside : Within (length s) (digestChecked t s)
   unfolding digestChecked
-  checked-within = go (leb (length s) 4096)
+  checked-inside = go (leb (length s) 4096)
     where
-      go : (b : Bool) → unlessOver b (digest (tokens t) s) .consumed ≤ length s
-      go true = unfold unlessOver in digest-within (tokens t) s .all
-      go false = unfold unlessOver in omega arith
+      go : (b : Bool) → Within (length s) (unlessOver b (digest (tokens t) s))
+      go true = unfold unlessOver in digest-within (tokens t) s
+      go false = unfold unlessOver in record { payload = omega arith; all = omega arith }
+
+  pub checked-within : digestChecked t s .consumed ≤ length s
+  checked-within = checked-inside .all
