@@ -521,7 +521,7 @@ def main():
         sys.exit("usage: tests/model.py drive|compare < lines")
     for raw in sys.stdin.buffer.read().split(b"\n"):
         line = raw.decode("latin-1")
-        if line.strip(" \t\r") == "" or line.startswith("#"):
+        if line.startswith("#") or (len(line) <= LINE and line.strip(" \t\r") == ""):
             continue
         try:
             print(answer(line, sys.argv[1] == "drive"))

@@ -1,4 +1,6 @@
 // A case: a line's fields made into memories, the calls made over them, and what they answered.
+use super::LENGTH;
+use super::Memory;
 use super::op;
 use super::op::Said;
 use super::read;
@@ -12,9 +14,6 @@ use ingress::State;
 use queue::Queue;
 use slot::Held;
 use slot::Slot;
-
-// A memory of the harness, as long as a line can be.
-pub type Memory = [u8; 65536];
 
 // How much of the four memories a case uses.
 pub struct Lengths {
@@ -43,15 +42,15 @@ fn load(
     let Filled::Is(t) = read::data(read::part_of(line, k, b' '), wide, table) else {
         return Loaded::Bad;
     };
-    let second = say::plus(k, 1);
+    let second = read::plus(k, 1);
     let Filled::Is(b) = read::data(read::part_of(line, second, b' '), wide, buf) else {
         return Loaded::Bad;
     };
-    let third = say::plus(k, 2);
+    let third = read::plus(k, 2);
     let Filled::Is(s) = read::data(read::part_of(line, third, b' '), wide, slot_mem) else {
         return Loaded::Bad;
     };
-    let fourth = say::plus(k, 3);
+    let fourth = read::plus(k, 3);
     let Filled::Is(q) = read::data(read::part_of(line, fourth, b' '), wide, queue_mem) else {
         return Loaded::Bad;
     };
@@ -93,7 +92,7 @@ fn are_good(ops: &[u8], wide: bool, piece: &mut Memory) -> bool {
         if !op::is_good(read::between(ops, from, to), wide, piece) {
             return false;
         }
-        from = say::plus(to, 1);
+        from = read::plus(to, 1);
         left -= 1;
     }
     true
@@ -118,7 +117,7 @@ fn do_all(
         let to = read::seek(ops, from, b';');
         let one = read::between(ops, from, to);
         said = op::do_op(one, wide, said, piece, table, buf, slot_mem, queue_mem, out);
-        from = say::plus(to, 1);
+        from = read::plus(to, 1);
         left -= 1;
     }
     said
@@ -248,7 +247,7 @@ fn script_case(
     let Loaded::Is(len) = load(line, k, wide, table, buf, slot_mem, queue_mem) else {
         return bad_line(out, first.at);
     };
-    let ops = read::part_of(line, say::plus(k, 4), b' ');
+    let ops = read::part_of(line, read::plus(k, 4), b' ');
     if !are_good(ops, wide, piece) {
         return bad_line(out, first.at);
     }
@@ -282,16 +281,16 @@ fn start_of(s: &[u8]) -> Start {
     if read::parts(s, b',') != 7 {
         return Start::Bad;
     }
-    let Amount::Is(end) = state_number(s, 0, 4294967295) else {
+    let Amount::Is(end) = state_number(s, 0, read::MOST) else {
         return Start::Bad;
     };
     let Amount::Is(flag) = state_number(s, 1, 1) else {
         return Start::Bad;
     };
-    let Amount::Is(len) = state_number(s, 2, 4294967295) else {
+    let Amount::Is(len) = state_number(s, 2, read::MOST) else {
         return Start::Bad;
     };
-    let Amount::Is(lost) = state_number(s, 3, 4294967295) else {
+    let Amount::Is(lost) = state_number(s, 3, read::MOST) else {
         return Start::Bad;
     };
     let slot = Slot {
@@ -306,13 +305,13 @@ fn start_of(s: &[u8]) -> Start {
 
 // The rest of a written state.
 fn queued_start(s: &[u8], end: usize, slot: Slot) -> Start {
-    let Amount::Is(start) = state_number(s, 4, 4294967295) else {
+    let Amount::Is(start) = state_number(s, 4, read::MOST) else {
         return Start::Bad;
     };
-    let Amount::Is(count) = state_number(s, 5, 4294967295) else {
+    let Amount::Is(count) = state_number(s, 5, read::MOST) else {
         return Start::Bad;
     };
-    let Amount::Is(lost) = state_number(s, 6, 4294967295) else {
+    let Amount::Is(lost) = state_number(s, 6, read::MOST) else {
         return Start::Bad;
     };
     let queue = Queue {
@@ -460,7 +459,7 @@ pub fn answer(
     out: &mut Memory,
     at: usize,
 ) -> usize {
-    if line.len() == 65536 {
+    if line.len() == LENGTH {
         return bad_line(out, at);
     }
     if wide {

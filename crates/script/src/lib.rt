@@ -19,9 +19,13 @@ mod op;
 mod read;
 mod say;
 
-use case::Memory;
 use libc::STDIN_FILENO;
 use text::Blanks;
+
+// How long a memory of the harness is: one more than a line may be.
+pub const LENGTH: usize = 65536;
+
+pub type Memory = [u8; LENGTH];
 
 // Where the reading stands: the bytes of the chunk from `from` up to `to` wait, `len` bytes of a line are gathered, and of the answers `at`.
 pub struct Lines {
@@ -35,7 +39,7 @@ pub struct Lines {
 
 // Gathers one more byte of the line; past the memory it is dropped, and the line, which fills it, is too long.
 fn keep(line: &mut Memory, len: usize, b: u8) -> usize {
-    if len < 65536 {
+    if len < LENGTH {
         line[len] = b;
         return len + 1;
     }
@@ -73,12 +77,15 @@ fn gather(chunk: &[u8], line: &mut Memory, now: Lines) -> Lines {
     }
 }
 
-// Is the line without anything but blanks, or a comment?
+// Is the line a comment, or blank? One that fills the memory is too long, and may go on with anything.
 fn is_idle(line: &[u8]) -> bool {
-    if text::skip(Blanks::Run, line, 0) == line.len() {
+    if read::byte_at(line, 0) == b'#' {
         return true;
     }
-    read::byte_at(line, 0) == b'#'
+    if line.len() == LENGTH {
+        return false;
+    }
+    text::skip(Blanks::Run, line, 0) == line.len()
 }
 
 // Answers the gathered line, unless it is to be skipped.

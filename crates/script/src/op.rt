@@ -1,5 +1,5 @@
 // One op of a script: read, done through the public calls, and its answer said.
-use super::case::Memory;
+use super::Memory;
 use super::read;
 use super::read::Amount;
 use super::read::Filled;
@@ -53,7 +53,7 @@ fn most(letter: u8) -> u32 {
     match letter {
         b'P' => 255,
         b'E' => 65535,
-        _ => 4294967295,
+        _ => read::MOST,
     }
 }
 

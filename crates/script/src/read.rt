@@ -1,6 +1,9 @@
 // What the harness reads: numbers, bytes in hex, and parts of a line that stand apart by a byte.
-use super::case::Memory;
-use super::say::plus;
+use super::LENGTH;
+use super::Memory;
+
+// The largest number that is read.
+pub const MOST: u32 = 4294967295;
 
 // A number, or what isn't one.
 pub enum Amount {
@@ -20,6 +23,14 @@ pub fn byte_at(s: &[u8], i: usize) -> u8 {
         return s[i];
     }
     0
+}
+
+// a + b, at most the largest number.
+pub fn plus(a: usize, b: usize) -> usize {
+    if usize::MAX - a < b {
+        return usize::MAX;
+    }
+    a + b
 }
 
 // a - b, at least 0.
@@ -167,7 +178,7 @@ fn with_nibble(mem: &mut Memory, h: Hex, b: u8) -> Hex {
             is_bad: h.is_bad,
         };
     }
-    if 65536 <= at {
+    if LENGTH <= at {
         return bad_hex();
     }
     mem[at] = high * 16 + low;
@@ -214,7 +225,7 @@ fn repeat(mem: &mut Memory, at: usize, count: u32, b: u8) -> Filled {
     let mut left = count;
     let mut i = at;
     while 0 < left {
-        if 65536 <= i {
+        if LENGTH <= i {
             return Filled::Bad;
         }
         mem[i] = b;

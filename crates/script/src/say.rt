@@ -1,18 +1,12 @@
 // What the harness says: bytes gathered in a memory, and written to standard output when it is full.
 // Each function takes the memory and how much of it is used, and answers how much is used then.
 ghost use Prim.Native.Nat.{_<_};
-use super::case::Memory;
+use super::LENGTH;
+use super::Memory;
+use super::read::plus;
 use digest::Kind;
 use libc::STDOUT_FILENO;
 use slot::Held;
-
-// a + b, at most the largest number.
-pub fn plus(a: usize, b: usize) -> usize {
-    if usize::MAX - a < b {
-        return usize::MAX;
-    }
-    a + b
-}
 
 // Writes what is gathered.
 pub fn flush(out: &Memory, at: usize) {
@@ -21,7 +15,7 @@ pub fn flush(out: &Memory, at: usize) {
 
 // Where n more bytes go: behind those gathered, or at the front once those are written.
 fn room(out: &Memory, at: usize, n: usize) -> usize {
-    if plus(at, n) <= 65536 {
+    if plus(at, n) <= LENGTH {
         return at;
     }
     flush(out, at);
