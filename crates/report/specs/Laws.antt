@@ -4,11 +4,10 @@ use mathlib.Core.Logic.{inr}
 use mathlib.Core.Bool.{Bool, true, false}
 use mathlib.Core.List.{List, [], _∷_, _++_, append-nil, append-assoc}
 use Prim.Native.Nat.{ℕ, zero, suc, _+_, _-_, _*_, _/_, _%_, _≤_, _<_}
-use native.Mathlib.Nat.{add-zero}
 use native.Mathlib.Omega.{arith}
 use lib.ListN.{length, getD, take, drop, set, length-append, length-drop, length-set, take-append-drop, drop-of-length-le}
 use lib.Seq.{take-all, take-suc, drop-cons, drop-drop, drop-set-lt, getD-set-same, length-take-le}
-use lib.Dec.{leb, ltb}
+use lib.Dec.{leb}
 use borrow.Author.Tests.{le-leb, lt-leb, lt-ltb, le-ltb, leb-true, leb-false}
 use Rattle.text.specs.Bytes.{bytes}
 use Rattle.text.specs.Text.{partOf}
@@ -18,7 +17,7 @@ use Rattle.moves.specs.Laws.{put-is, put-length, put-held, put-elsewhere}
 use Rattle.digest.specs.declared.Kind.{Kind}
 use Rattle.digest.specs.declared.Kind.the-variants as kind
 use Rattle.digest.specs.declared.Answer.{Answer}
-use Rattle.digest.specs.Answer.{Number, none, number, numbered, numberOf, isFound}
+use Rattle.digest.specs.Answer.{Number, none, number, numberOf, isFound}
 use Rattle.digest.specs.Digest.{digestChecked}
 use Rattle.digest.specs.Theorem.{checked-inside, checked-within}
 use Rattle.report.specs.declared.Drawn.{Drawn}

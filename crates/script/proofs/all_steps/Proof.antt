@@ -1,0 +1,45 @@
+-- `all_steps` is safe and ends. The measure is the turns that are left. Assumes nothing.
+use borrow.Author.Needs.{needs}
+use Rattle.script.proofs.all_steps.Statement.{statement}
+use Rattle.script.proofs.all_steps.Tie as tie
+
+abbrev Inv-loop : tie.InvT-loop
+Inv-loop wide chunk₀ line₀ piece₀ table₀ buf₀ slot-mem₀ queue-mem₀ out₀ now₀ turns₀ chunk line piece table buf slot-mem queue-mem out now turns = Unit {0}
+
+abbrev μ-loop : tie.MeasureT-loop
+μ-loop wide chunk₀ line₀ piece₀ table₀ buf₀ slot-mem₀ queue-mem₀ out₀ now₀ turns₀ chunk line piece table buf slot-mem queue-mem out now turns = turns
+
+loop-holds : tie.Need-loop-holds Inv-loop μ-loop
+loop-holds c = search needs
+
+step-requires : tie.Need-step-requires Inv-loop μ-loop
+step-requires c κs = search needs
+
+returns : tie.Need-returns Inv-loop μ-loop
+returns c = search needs
+
+sub-turns : tie.Need-sub-turns Inv-loop μ-loop
+sub-turns c = search needs
+
+loop-less : tie.Need-loop-less Inv-loop μ-loop
+loop-less c = search needs
+
+loop-again : tie.Need-loop-again Inv-loop μ-loop
+loop-again c = search needs
+
+returns-2 : tie.Need-returns-2 Inv-loop μ-loop
+returns-2 c = search needs
+
+pub all-steps-spec : {M : Type 1} → statement M
+all-steps-spec =
+    tie.close
+    (tie.spec
+    Inv-loop
+    μ-loop
+    loop-holds
+    step-requires
+    returns
+    sub-turns
+    loop-less
+    loop-again
+    returns-2)

@@ -1,0 +1,533 @@
+#!/usr/bin/env python3
+"""An executable reading of document 01 (the scope), written from its text alone: it shares no line with the Rattle code or its definitions.
+
+It reads the lines that the programs drive and compare read and prints what they must print:
+    tests/model.py drive   < crates/drive/stdin     the origin of crates/drive/stdout
+    tests/model.py compare < cases
+Comments cite 01. The readings that 01 leaves open are those of docs/DECISIONS.md; each is marked `reading`.
+The notation of the lines stands in the head comment of crates/script/src/lib.rt.
+"""
+import sys
+
+CRLF = b"\r\n"
+TRIM = b" \t\n\x0c\r"
+RUN = b" \t\r\n"
+MOST = 4294967295
+LONGEST = 4096
+LINE = 65535
+FIELD = 65536
+
+
+# ---- the token table ----
+
+def read_table(table):
+    """The records as (mark, prompt, text), or the number of the first faulty one."""
+    records, at = [], 0
+    while at < len(table):
+        if len(records) == 64:
+            return 64  # "64 for a 65th"; reading: whatever it holds
+        mark = table[at:at + 2]
+        at += 2
+        if mark not in (b"UR", b"CS", b"CE", b"CP"):
+            return len(records)
+        prompt = None
+        if mark == b"CP":
+            if at >= len(table):
+                return len(records)
+            prompt = table[at]
+            at += 1
+        if at >= len(table):
+            return len(records)
+        length = table[at]
+        text = table[at + 1:at + 1 + length]
+        at += 1 + length
+        if len(text) < length or not is_text(text):
+            return len(records)
+        records.append((mark, prompt, text))
+    return records
+
+
+def is_text(text):
+    """"A text has 1 to 32 bytes, each 0x20 to 0x7E, the first and last not a space.\""""
+    if not 1 <= len(text) <= 32:
+        return False
+    if any(b < 0x20 or b > 0x7E for b in text):
+        return False
+    return text[0] != 0x20 and text[-1] != 0x20
+
+
+# ---- the rules of one digest ----
+
+class Answer:
+    """Kind, number (None where it has none), payload's place and length in the input, bytes consumed."""
+
+    def __init__(self, kind, number, place, length, consumed):
+        self.kind, self.number, self.length, self.consumed = kind, number, length, consumed
+        self.place = place if length else 0  # "A payload of length 0, or none, has place 0"
+
+
+def trimmed(s, start, end):
+    """Place and length of s[start:end] without trim blanks at its two ends."""
+    part = s[start:end]
+    left = part.lstrip(TRIM)
+    return start + len(part) - len(left), len(left.rstrip(TRIM))
+
+
+def digest(records, s):
+    """Rules 1 to 7 on the whole input s."""
+    e = len(s) - len(s.lstrip(b" "))  # rule 1
+    if len(s) - e >= 2 and CRLF in s[e:]:
+        e = s.index(CRLF, e)
+    buf = s[e:]
+    for rule in (notices, successes, prompts, errors):
+        a = rule(records, buf)
+        if a is not None:
+            return moved(a, e)
+    if buf.startswith(CRLF) and len(buf) > 4:  # rule 6
+        a = digest(records, buf[2:])
+        if a.kind != "none":
+            return moved(a, e + 2)
+    return Answer("none", None, 0, 0, e)  # rule 7
+
+
+def moved(a, d):
+    """An answer about the bytes from d on, as one about the whole."""
+    return Answer(a.kind, a.number, a.place + d, a.length, a.consumed + d)
+
+
+def notices(records, buf):
+    """Rule 2, in table order."""
+    for number, (mark, _, text) in enumerate(records):
+        if mark != b"UR":
+            continue
+        a = notice(number, text, buf)
+        if a is not None:
+            return a
+    return None
+
+
+def notice(number, text, buf):
+    """Rule 2 for one record: an answer, which may be None at once, or no match."""
+    lead = 2 if buf.startswith(CRLF) else 1 if buf.startswith(b"\n") else None
+    if lead is None:
+        return None  # an input that is empty or a lone CR gives None, e by rule 7 as well
+    rest = buf[lead:]
+    if len(rest) <= len(text) + 1 and (text + b"\r").startswith(rest):
+        return Answer("none", None, 0, 0, 0)  # ends before or inside the text, right after it, or after it and one CR
+    if not rest.startswith(text):
+        return None
+    after = rest[len(text):]
+    if after.startswith(CRLF):
+        end = lead + len(text) + 2
+    elif after.startswith(b":") and CRLF in after:
+        end = lead + len(text) + after.index(CRLF) + 2
+    else:
+        return None
+    place, length = trimmed(buf, 0, end)
+    return Answer("notice", number, place, length, end)
+
+
+def line_in(text, buf):
+    """The first occurrence of CRLF text CRLF: its place and its end, or None."""
+    line = CRLF + text + CRLF
+    at = buf.find(line)
+    return None if at < 0 else (at, at + len(line))
+
+
+def successes(records, buf):
+    """Rule 3: CS records in table order, then OK, else CONNECT."""
+    texts = [text for mark, _, text in records if mark == b"CS"] + [b"OK", b"CONNECT"]
+    for text in texts:
+        found = line_in(text, buf)
+        if found:
+            place, length = trimmed(buf, 0, found[0])
+            return Answer("ok", None, place, length, found[1])
+    return None
+
+
+def prompts(records, buf):
+    """Rule 4: CP records in table order, then `>`, then `@`."""
+    for mark, prompt, text in records:
+        if mark == b"CP" and buf.rstrip(RUN).endswith(text):
+            return Answer("prompt", prompt, 0, 0, len(buf))
+    for sign in (b">", b"@"):
+        at = buf.find(sign)
+        if at >= 0 and not buf[at + 1:].strip(RUN):
+            return Answer("prompt", sign[0], 0, 0, len(buf))
+    return None
+
+
+FIXED = ((b"ERROR", "error"), (b"COMMAND NOT SUPPORT", "error"), (b"NO CARRIER", "nocarrier"), (b"BUSY", "busy"),
+         (b"NO ANSWER", "noanswer"), (b"NO DIALTONE", "nodialtone"))
+
+
+def errors(records, buf):
+    """Rule 5 in its order. Reading: COMMAND NOT SUPPORT is an error like ERROR."""
+    for number, (mark, _, text) in enumerate(records):
+        if mark == b"CE":
+            found = line_in(text, buf)
+            if found:
+                return Answer("custom", number, found[0] + 2, len(text), found[1])
+    for head, kind in ((b"+CME ERROR:", "cme"), (b"+CMS ERROR:", "cms"), (b"MODEM ERROR:", "unknown")):
+        a = numeric(buf, head, kind)
+        if a is not None:
+            return a
+    for text, kind in FIXED:
+        found = line_in(text, buf)
+        if found:
+            return Answer(kind, None, 0, 0, found[1])
+    if buf.startswith(CRLF + b"NA" + CRLF):
+        return Answer("notallowed", None, 0, 0, 6)
+    return None
+
+
+def numeric(buf, head, kind):
+    """A numeric error of rule 5: CRLF and the head at its first occurrence, run blanks, digits, LF or CRLF."""
+    at = buf.find(CRLF + head)
+    if at < 0:
+        return None
+    at += 2 + len(head)
+    while at < len(buf) and buf[at] in RUN:
+        at += 1
+    start = at
+    while at < len(buf) and 48 <= buf[at] <= 57:
+        at += 1
+    if at == start or int(buf[start:at]) > 65535:
+        return None
+    number = None if kind == "unknown" else int(buf[start:at])
+    if buf[at:at + 1] == b"\n":
+        return Answer(kind, number, 0, 0, at + 1)
+    if buf[at:at + 2] == CRLF:
+        return Answer(kind, number, 0, 0, at + 2)
+    return None
+
+
+# ---- slot, queue, ingress ----
+
+class Refused(Exception):
+    """A number of refusal, with the record at 2 and the bytes taken at a write's 5."""
+
+    def __init__(self, number, record=None, taken=None):
+        super().__init__(number)
+        self.number, self.record, self.taken = number, record, taken
+
+
+class World:
+    """The end, slot and queue by value, and the three memories."""
+
+    def __init__(self, table, buf, slot_mem, queue_mem):
+        self.table, self.buf, self.slot_mem, self.queue_mem = table, bytearray(buf), bytearray(slot_mem), bytearray(queue_mem)
+        self.end = 0
+        self.signalled, self.kind, self.number, self.length, self.slot_lost = False, "ok", None, 0, 0
+        self.start, self.count, self.queue_lost = 0, 0, 0
+
+    # -- the slot --
+
+    def slot_fits(self):
+        """Refusal 3 of the slot. Reading: it comes before "changes nothing", at a reset too."""
+        if self.length > len(self.slot_mem):
+            raise Refused(3)
+
+    def signal(self, kind, number, payload):
+        """A signal: stored on a free slot, counted as lost on a signalled one."""
+        self.slot_fits()
+        if kind in ("none", "notice"):
+            return
+        if self.signalled:
+            self.slot_lost = min(self.slot_lost + 1, MOST)
+            return
+        self.signalled = True
+        self.kind, self.number, self.length = kind, number, 0
+        if kind not in ("ok", "custom"):
+            return
+        if len(payload) > len(self.slot_mem):
+            self.kind, self.number = "capacity", None  # reading: a custom error that becomes CapacityError stores no number
+            return
+        self.slot_mem[:len(payload)] = payload
+        self.length = len(payload)
+
+    def reset(self):
+        """"Reading doesn't free; reset does, and changes nothing else.\""""
+        self.slot_fits()
+        self.signalled = False
+
+    def lookup(self):
+        """What a signalled slot holds, or None for a free one."""
+        self.slot_fits()
+        if not self.signalled:
+            return None
+        return self.kind, self.number, bytes(self.slot_mem[:self.length])
+
+    # -- the queue --
+
+    def capacity(self):
+        """"the memory's length divided by 132, rounded down, at most 16\""""
+        return min(len(self.queue_mem) // 132, 16)
+
+    def queue_fits(self):
+        """Refusal 3 for start or count outside its bounds."""
+        cap = self.capacity()
+        if self.count > cap or (self.start >= cap if cap else self.start != 0):
+            raise Refused(3)
+
+    def put(self, number, payload):
+        """A delivered notice: lost, refusal 5, or the record next after those held. Reading: lost comes before full."""
+        if not 1 <= len(payload) <= 128:
+            self.queue_lost = min(self.queue_lost + 1, MOST)
+            return
+        if self.count == self.capacity():
+            raise Refused(5)
+        at = 132 * ((self.start + self.count) % self.capacity())
+        record = b"UR" + bytes([number, len(payload)]) + payload
+        self.queue_mem[at:at + len(record)] = record
+        self.count += 1
+
+    def take(self):
+        """The oldest record's number and payload, or None from an empty queue (reading: which looks at no record)."""
+        self.queue_fits()
+        if self.count == 0:
+            return None
+        at = 132 * self.start
+        length = self.queue_mem[at + 3]
+        if self.queue_mem[at:at + 2] != b"UR" or not 1 <= length <= 128:
+            raise Refused(3)
+        number, payload = self.queue_mem[at + 2], bytes(self.queue_mem[at + 4:at + 4 + length])
+        self.start = (self.start + 1) % self.capacity()
+        self.count -= 1
+        return number, payload
+
+    # -- the ingress --
+
+    def checked(self):
+        """Refusals 1, 2 and 3 in this order; the table's records."""
+        if len(self.buf) > LONGEST:
+            raise Refused(1)
+        records = read_table(self.table)
+        if isinstance(records, int):
+            raise Refused(2, record=records)
+        if self.end > len(self.buf):
+            raise Refused(3)
+        self.slot_fits()
+        self.queue_fits()
+        return records
+
+    def run(self, records):
+        """"digest what is in the buffer, deliver, move the rest to the front, until the digest consumes 0 or nothing is left\""""
+        while self.end > 0:
+            held = bytes(self.buf[:self.end])
+            a = digest(records, held)
+            payload = held[a.place:a.place + a.length]
+            if a.kind == "notice":
+                self.put(a.number, payload)
+            else:
+                self.signal(a.kind, a.number, payload)
+            rest = held[a.consumed:]
+            self.buf[:len(rest)] = rest
+            self.end = len(rest)
+            if a.consumed == 0:
+                return
+
+    def advance(self, commit):
+        """Refusal 4 after 1 to 3; then the commit is added."""
+        records = self.checked()
+        if commit > len(self.buf) - self.end:
+            raise Refused(4)
+        self.end += commit
+        self.run(records)
+
+    def write(self, piece):
+        """Copies and advances until the piece is used up or there is no room (reading: tested before the first copy too); the bytes taken."""
+        records = self.checked()
+        taken = 0
+        while taken < len(piece) and self.end < len(self.buf):
+            n = min(len(piece) - taken, len(self.buf) - self.end)
+            self.buf[self.end:self.end + n] = piece[taken:taken + n]
+            self.end += n
+            taken += n
+            try:
+                self.run(records)
+            except Refused as r:
+                raise Refused(r.number, taken=taken)
+        return taken
+
+
+# ---- the notation of a line ----
+
+class BadLine(Exception):
+    """A line, an op or a number that doesn't read."""
+
+
+def shown(data):
+    """Bytes in upper-case hex, `-` for none."""
+    return data.hex().upper() or "-"
+
+
+def plain(text):
+    """Hex digits in either case, two a byte, at least one byte."""
+    if not text or len(text) % 2 or any(c not in "0123456789abcdefABCDEF" for c in text):
+        raise BadLine
+    return bytes.fromhex(text)
+
+
+def data_of(text, wide):
+    """A field of bytes: `-`, hex, or (wide only) parts joined by `+`, a part being hex or COUNT*HH."""
+    if text == "-":
+        return b""
+    if not wide:
+        return plain(text)
+    parts = []
+    for part in text.split("+"):
+        if "*" in part:
+            count, byte = part.split("*", 1)
+            if len(byte) != 2:
+                raise BadLine
+            parts.append(plain(byte) * number_of(count, FIELD))
+        else:
+            parts.append(plain(part))
+    data = b"".join(parts)
+    if len(data) > FIELD:
+        raise BadLine
+    return data
+
+
+def number_of(text, most):
+    """A decimal number of at least one digit, at most `most`."""
+    if not text or any(c not in "0123456789" for c in text) or int(text) > most:
+        raise BadLine
+    return int(text)
+
+
+def op_of(text, wide):
+    """One op as (letter, argument)."""
+    letter, rest = text[:1], text[1:]
+    if letter in ("W", "A", "O"):
+        return letter, data_of(rest, wide)
+    limits = {"M": MOST, "P": 255, "E": 65535}
+    if letter in limits:
+        return letter, number_of(rest, limits[letter])
+    if letter in ("C", "R", "T", "B") or (wide and letter == "L"):
+        if rest:
+            raise BadLine
+        return letter, None
+    raise BadLine
+
+
+def perform(w, letter, x):
+    """Does one op and says what it answered."""
+    if letter == "W":
+        return "took %d" % w.write(x)
+    if letter == "A":
+        if len(x) <= len(w.buf) - w.end:  # else nothing is put, and advance refuses
+            w.buf[w.end:w.end + len(x)] = x
+        return advanced(w, len(x))
+    if letter == "M":
+        return advanced(w, x)
+    if letter == "T":
+        got = w.take()
+        return "nothing" if got is None else "notice %d %s" % (got[0], shown(got[1]))
+    if letter == "L":
+        got = w.lookup()
+        return "nothing" if got is None else "held %s %s %s" % (got[0], dashed(got[1]), shown(got[2]))
+    if letter == "C":
+        w.end = 0  # "Clear takes the end alone, makes it 0 and has no refusal"
+    elif letter == "R":
+        w.reset()
+    else:
+        w.signal({"O": "ok", "P": "prompt", "E": "cme", "B": "busy"}[letter], x if letter in "PE" else None, x if letter == "O" else b"")
+    return "done"
+
+
+def advanced(w, n):
+    """Advance by n."""
+    w.advance(n)
+    return "advanced"
+
+
+def dashed(number):
+    """A number, `-` for none."""
+    return "-" if number is None else str(number)
+
+
+def refusal(r):
+    """A refusal as it is printed."""
+    said = "refused %d" % r.number
+    if r.record is not None:
+        said += " %d" % r.record
+    if r.taken is not None:
+        said += " took %d" % r.taken
+    return said
+
+
+def state(w):
+    """The last state."""
+    return "end %d buffer %s slot %s %s %s %d %d memory %s queue %d %d %d memory %s" % (
+        w.end, shown(w.buf), "signalled" if w.signalled else "free", w.kind, dashed(w.number), w.length, w.slot_lost,
+        shown(w.slot_mem), w.start, w.count, w.queue_lost, shown(w.queue_mem))
+
+
+def scripted(w, ops, wide):
+    """All ops of a line, one part each, and the last state."""
+    said = ""
+    for letter, x in [] if ops == "-" else [op_of(op, wide) for op in ops.split(";")]:
+        try:
+            said += perform(w, letter, x) + ";"
+        except Refused as r:
+            said += refusal(r) + ";"
+    return said + " " + state(w)
+
+
+def digest_case(table, data):
+    """A digest case: refusal 1, refusal 2, or the answer."""
+    if len(data) > LONGEST:
+        return "refused 1"
+    records = read_table(table)
+    if isinstance(records, int):
+        return "refused 2 %d" % records
+    a = digest(records, data)
+    return "%s %s %d %d %d" % (a.kind, dashed(a.number), a.place, a.length, a.consumed)
+
+
+def started(w, text):
+    """END,SIGNALLED,LEN,SLOT-LOST,START,COUNT,QUEUE-LOST."""
+    numbers = text.split(",")
+    if len(numbers) != 7:
+        raise BadLine
+    w.end, flag, w.length, w.slot_lost, w.start, w.count, w.queue_lost = [number_of(n, MOST) for n in numbers]
+    if flag > 1:
+        raise BadLine
+    w.signalled = flag == 1
+
+
+def answer(line, wide):
+    """The answer to a line."""
+    if len(line) > LINE:
+        raise BadLine
+    fields = line.split(" ")
+    if wide and len(fields) == 6:
+        w = World(*[data_of(f, True) for f in fields[1:5]])
+        started(w, fields[0])
+        return scripted(w, fields[5], True)
+    if not wide and len(fields) == 5:
+        return scripted(World(*[data_of(f, False) for f in fields[:4]]), fields[4], False)
+    if not wide and len(fields) == 2:
+        return digest_case(data_of(fields[0], False), data_of(fields[1], False))
+    raise BadLine
+
+
+def main():
+    """Each line of standard input; blank ones and those that begin with `#` are skipped."""
+    sys.setrecursionlimit(10000)
+    if sys.argv[1:] not in (["drive"], ["compare"]):
+        sys.exit("usage: tests/model.py drive|compare < lines")
+    for raw in sys.stdin.buffer.read().split(b"\n"):
+        line = raw.decode("latin-1")
+        if line.startswith("#") or (len(line) <= LINE and line.strip(" \t\r") == ""):
+            continue
+        try:
+            print(answer(line, sys.argv[1] == "drive"))
+        except BadLine:
+            print("bad line")
+
+
+if __name__ == "__main__":
+    main()
