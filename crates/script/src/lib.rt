@@ -23,12 +23,12 @@ use libc::STDIN_FILENO;
 use text::Blanks;
 
 // How long a memory of the harness is: one more than a line may be.
-pub const LENGTH: usize = 65536;
+const LENGTH: usize = 65536;
 
-pub type Memory = [u8; LENGTH];
+type Memory = [u8; LENGTH];
 
 // Where the reading stands: the bytes of the chunk from `from` up to `to` wait, `len` bytes of a line are gathered, and of the answers `at`.
-pub struct Lines {
+struct Lines {
     from: usize,
     to: usize,
     len: usize,
