@@ -23,12 +23,12 @@ use libc::STDIN_FILENO;
 use text::Blanks;
 
 // How long a memory of the harness is: one more than a line may be.
-pub const LENGTH: usize = 65536;
+const LENGTH: usize = 65536;
 
-pub type Memory = [u8; LENGTH];
+type Memory = [u8; LENGTH];
 
 // Where the reading stands: the bytes of the chunk from `from` up to `to` wait, `len` bytes of a line are gathered, and of the answers `at`.
-pub struct Lines {
+struct Lines {
     from: usize,
     to: usize,
     len: usize,
@@ -117,7 +117,25 @@ fn finish(
     )
 }
 
-// Gathers to the next line's end and answers that line, or reads the next chunk; where none is left the last line counts as ended.
+// Where the chunk is used up before the line's end, reads the next one; where none is left the line counts as whole, and the input is over.
+fn refill(chunk: &mut Memory, now: Lines) -> Lines {
+    let is_whole = now.is_whole;
+    if is_whole {
+        return now;
+    }
+    let n = io::count(libc::read(STDIN_FILENO, chunk), chunk);
+    let is_over = n == 0;
+    Lines {
+        from: 0,
+        to: n,
+        len: now.len,
+        at: now.at,
+        is_whole: is_over,
+        is_over: is_over,
+    }
+}
+
+// Gathers to the next line's end and answers that line, or comes as far as the next chunk.
 fn step(
     now: Lines,
     wide: bool,
@@ -130,54 +148,40 @@ fn step(
     queue_mem: &mut Memory,
     out: &mut Memory,
 ) -> Lines {
-    let next = gather(chunk, line, now);
+    let gathered = gather(chunk, line, now);
+    let next = refill(chunk, gathered);
     let is_whole = next.is_whole;
-    if is_whole {
-        return Lines {
-            from: next.from,
-            to: next.to,
-            len: 0,
-            at: finish(
-                next,
-                wide,
-                line,
-                piece,
-                table,
-                buf,
-                slot_mem,
-                queue_mem,
-                out,
-            ),
-            is_whole: false,
-            is_over: false,
-        };
+    if !is_whole {
+        return next;
     }
-    let n = io::count(libc::read(STDIN_FILENO, chunk), chunk);
-    if n == 0 {
-        return Lines {
-            from: 0,
-            to: 0,
-            len: 0,
-            at: finish(
-                next,
-                wide,
-                line,
-                piece,
-                table,
-                buf,
-                slot_mem,
-                queue_mem,
-                out,
-            ),
-            is_whole: false,
-            is_over: true,
-        };
+    let at = finish(
+        next,
+        wide,
+        line,
+        piece,
+        table,
+        buf,
+        slot_mem,
+        queue_mem,
+        out,
+    );
+    Lines {
+        from: next.from,
+        to: next.to,
+        len: 0,
+        at: at,
+        is_whole: false,
+        is_over: next.is_over,
     }
+}
+
+// Nothing read, nothing answered.
+fn fresh() -> Lines {
     Lines {
         from: 0,
-        to: n,
-        len: next.len,
-        at: next.at,
+        to: 0,
+        len: 0,
+        at: 0,
         is_whole: false,
         is_over: false,
     }
@@ -195,14 +199,7 @@ fn all_steps(
     queue_mem: &mut Memory,
     out: &mut Memory,
 ) -> usize {
-    let mut now = Lines {
-        from: 0,
-        to: 0,
-        len: 0,
-        at: 0,
-        is_whole: false,
-        is_over: false,
-    };
+    let mut now = fresh();
     let mut turns = u64::MAX;
     while 0 < turns {
         now = step(

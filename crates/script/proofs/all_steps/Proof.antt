@@ -9,6 +9,9 @@ Inv-loop wide chunk₀ line₀ piece₀ table₀ buf₀ slot-mem₀ queue-mem₀
 abbrev μ-loop : tie.MeasureT-loop
 μ-loop wide chunk₀ line₀ piece₀ table₀ buf₀ slot-mem₀ queue-mem₀ out₀ now₀ turns₀ chunk line piece table buf slot-mem queue-mem out now turns = turns
 
+fresh-requires : tie.Need-fresh-requires Inv-loop μ-loop
+fresh-requires c κs = search needs
+
 loop-holds : tie.Need-loop-holds Inv-loop μ-loop
 loop-holds c = search needs
 
@@ -36,6 +39,7 @@ all-steps-spec =
     (tie.spec
     Inv-loop
     μ-loop
+    fresh-requires
     loop-holds
     step-requires
     returns
