@@ -84,8 +84,8 @@ impl Said<'_> {
 /// A kind and number of ours turned into the crate's type.
 pub fn in_its_type(kind: &str, number: &str) -> Option<(&'static str, u16)> {
     match kind {
-        "unknown" => Some(("cme", CmeError::Unknown.into())),
-        "notallowed" => Some(("cme", CmeError::NotAllowed.into())),
+        "unknown" if number == "-" => Some(("cme", CmeError::Unknown.into())),
+        "notallowed" if number == "-" => Some(("cme", CmeError::NotAllowed.into())),
         "cme" => Some(("cme", CmeError::from(number.parse::<u16>().ok()?).into())),
         "cms" => Some(("cms", CmsError::from(number.parse::<u16>().ok()?).into())),
         _ => None,

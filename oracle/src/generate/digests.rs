@@ -1,6 +1,7 @@
 //! Random digest inputs: what modems say, whole, cut and damaged; bytes of small alphabets; long ones; and the limits.
 
 use super::chance::Chance;
+use super::limits;
 use super::tables::{self, Table};
 use crate::notation::Case;
 
@@ -74,7 +75,24 @@ fn numeric(chance: &mut Chance) -> Vec<u8> {
 fn of_table(chance: &mut Chance, table: &Table) -> Vec<u8> {
     let text = &table.texts[chance.up_to(table.texts.len() - 1)];
     let front: &[u8] = chance.pick(&[b"\r\n", b"\r\n", b"\r\n", b"\r\n", b"\n", b"\r", b""]);
-    let behind: &[u8] = chance.pick(&[b"\r\n", b"\r\n", b": 0,4\r\n", b": 0,4\r\n", b":\r\n", b":", b"", b"\r", b"\n", b" \r\n", b": >", b": 1\n", b"x\r\n"]);
+    let behind: &[u8] = chance.pick(&[
+        b"\r\n",
+        b"\r\n",
+        b"\r\n",
+        b"\r\n",
+        b": 0,4\r\n",
+        b": 0,4\r\n",
+        b": 0,4\r\n",
+        b":\r\n",
+        b":",
+        b"",
+        b"\r",
+        b"\n",
+        b" \r\n",
+        b": >",
+        b": 1\n",
+        b"x\r\n",
+    ]);
     let kept = if chance.once_in(6) { chance.up_to(text.len()) } else { text.len() };
     [front, &text[..kept], behind].concat()
 }
@@ -173,6 +191,9 @@ fn behind_echo(chance: &mut Chance, table: &Table) -> Vec<u8> {
 }
 
 pub fn input(chance: &mut Chance) -> Case {
+    if chance.once_in(12) {
+        return limits::drawn(chance.below(u64::MAX), true);
+    }
     let table = if chance.once_in(200) { tables::faulty(chance) } else { tables::good(chance) };
     let input = match chance.below(100) {
         0..35 => pieces(chance, &table),
@@ -182,7 +203,7 @@ pub fn input(chance: &mut Chance) -> Case {
             input
         }
         70..80 => soup(chance),
-        80..98 => behind_echo(chance, &table),
+        80..97 => behind_echo(chance, &table),
         _ => long(chance, &table),
     };
     Case::Digest { table: table.bytes, input }

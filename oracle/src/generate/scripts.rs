@@ -3,14 +3,18 @@
 
 use super::chance::Chance;
 use super::digests;
+use super::limits;
 use super::tables::{self, Table};
 use crate::notation::{Case, Op};
 
-const BUFFERS: [usize; 24] = [0, 1, 2, 5, 6, 7, 8, 10, 12, 16, 20, 24, 32, 32, 40, 48, 64, 64, 100, 128, 140, 200, 256, 300];
+const BUFFERS: [usize; 24] = [0, 1, 2, 5, 6, 8, 12, 16, 20, 24, 32, 40, 48, 48, 64, 64, 64, 100, 128, 128, 140, 200, 256, 300];
 const SLOTS: [usize; 18] = [0, 1, 2, 2, 3, 4, 4, 5, 5, 8, 8, 16, 16, 32, 32, 64, 64, 128];
 const QUEUES: [usize; 20] = [0, 0, 131, 132, 132, 132, 132, 132, 133, 264, 264, 264, 264, 264, 300, 396, 396, 528, 660, 2112];
 
 pub fn script(chance: &mut Chance) -> Case {
+    if chance.once_in(8) {
+        return limits::drawn(chance.below(u64::MAX), false);
+    }
     let mut table = match chance.below(150) {
         0 => tables::faulty(chance),
         1..30 => tables::good(chance),
@@ -19,9 +23,10 @@ pub fn script(chance: &mut Chance) -> Case {
     let slot = sized(chance, &SLOTS, &[256, 1024, 4096]);
     let buffer = sized(chance, &BUFFERS, &[512, 1024, 4095, 4096, 4097]);
     let queue = sized(chance, &QUEUES, &[2111, 2113, 2244]);
-    // A custom error longer than the slot's memory makes the crate panic, a listed difference: few scripts, so that the others go on.
-    if !chance.once_in(40) {
-        without_long_errors(&mut table, slot);
+    // A custom error longer than the slot's memory makes the crate panic, a listed difference: few scripts have one, so that the others go on.
+    without_long_errors(&mut table, slot);
+    if chance.once_in(80) && slot < 32 {
+        tables::record(&mut table, b"CE", 0, &vec![b'E'; slot + 1]);
     }
     let filler = chance.one_of(b"\0.\xFF\r");
     let mut before = vec![filler; buffer];
@@ -101,7 +106,7 @@ fn ops(chance: &mut Chance, table: &Table, buffer: usize, slot: usize) -> Vec<Op
         let is_write = chance.below(8) < 6 || len > buffer.min(16);
         ops.push(if is_write { Op::Write(piece.to_vec()) } else { Op::Put(piece.to_vec()) });
         rest = behind;
-        if is_patient {
+        if is_patient && chance.once_in(2) {
             ops.push(Op::Take);
             ops.push(Op::Over(0));
         }
