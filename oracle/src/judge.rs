@@ -13,7 +13,7 @@ use std::path::{Path, PathBuf};
 use std::process::{Command, Stdio};
 
 /// The cases of one run of our program: it is started anew for each such batch.
-const BATCH: u64 = 20_000;
+const BATCH: usize = 20_000;
 /// Kinds of difference that are shrunk and printed.
 const MOST_SHOWN: usize = 20;
 const MOST_ROUNDS: usize = 60;
@@ -168,6 +168,13 @@ struct Tally {
 }
 
 impl Tally {
+    fn add_all(&mut self, cases: &[Case], ours: &Ours) -> io::Result<()> {
+        for (case, (us, them, origin)) in cases.iter().zip(ours.both(cases)?) {
+            self.add(case, &us, &them, origin);
+        }
+        Ok(())
+    }
+
     fn add(&mut self, case: &Case, ours: &str, theirs: &str, origin: Origin) {
         let is_digest = matches!(case, Case::Digest { .. });
         self.origins.entry(origin.letter()).or_default()[usize::from(!is_digest)] += 1;
@@ -240,20 +247,19 @@ pub fn listed(document: &Path) -> io::Result<Vec<String>> {
     Ok(names.collect())
 }
 
-/// Runs cases 0 to n of the seed through both, and prints the counts and the differences. Answers whether all differences are listed.
+/// Runs the limits and cases 0 to n of the seed through both, and prints the counts and the differences. Answers whether all differences are
+/// listed.
 pub fn run(n: u64, seed: u64, listed: &[String], ours: &Ours) -> io::Result<bool> {
     fs::create_dir_all(&ours.work)?;
     let (cme, cms) = lines::folded();
     println!("of 65536 codes the Rust's types fold {cme} CME and {cms} CMS");
+    let limits = generate::limits();
+    println!("{} cases at the limits, then {n} of seed {seed}", limits.len());
     let mut tally = Tally::default();
-    let mut from = 0;
-    while from < n {
-        let to = n.min(from + BATCH);
-        let cases: Vec<Case> = (from..to).map(|i| generate::case(seed, i)).collect();
-        for (case, (us, them, origin)) in cases.iter().zip(ours.both(&cases)?) {
-            tally.add(case, &us, &them, origin);
-        }
-        from = to;
+    tally.add_all(&limits, ours)?;
+    for from in (0..n).step_by(BATCH) {
+        let cases: Vec<Case> = (from..n.min(from + BATCH as u64)).map(|i| generate::case(seed, i)).collect();
+        tally.add_all(&cases, ours)?;
     }
     let is_good = tally.close(listed);
     for (what, found) in tally.others.iter().take(MOST_SHOWN) {

@@ -6,7 +6,7 @@ use std::process::ExitCode;
 use std::{env, io, thread};
 
 const USAGE: &str = "usage: judge N SEED NAMES WORK COMMAND...
-Compares our answers to N cases of the seed with the Rust's. NAMES is the document that lists the intended differences by name, WORK a folder for
+Compares our answers to the limits and to N cases of the seed with the Rust's. NAMES is the document that lists the intended differences by name, WORK a folder for
 files, COMMAND our program, which reads cases on standard input. Ends with 0 where every difference is listed, 1 where one isn't, 2 on wrong usage.";
 
 /// The retry of the crate's digest is deep; this has room for it in any build.

@@ -1,7 +1,6 @@
 //! Random digest inputs: what modems say, whole, cut and damaged; bytes of small alphabets; long ones; and the limits.
 
 use super::chance::Chance;
-use super::limits;
 use super::tables::{self, Table};
 use crate::notation::Case;
 
@@ -191,9 +190,6 @@ fn behind_echo(chance: &mut Chance, table: &Table) -> Vec<u8> {
 }
 
 pub fn input(chance: &mut Chance) -> Case {
-    if chance.once_in(12) {
-        return limits::drawn(chance.below(u64::MAX), true);
-    }
     let table = if chance.once_in(200) { tables::faulty(chance) } else { tables::good(chance) };
     let input = match chance.below(100) {
         0..35 => pieces(chance, &table),

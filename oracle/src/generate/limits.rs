@@ -1,13 +1,9 @@
 //! The limits, one by one: every kind, every byte where a byte decides, every length at which an answer turns. They are the front of the
-//! fixed list, and random cases draw on the short ones.
+//! fixed list, and every run beside the crate begins with them.
 
 use super::tables::{self, Table};
 use crate::notation::{Case, Op};
 use crate::script::SLOT_SIZES;
-use std::sync::OnceLock;
-
-/// Cases longer than this as a line are in the list, but aren't drawn on.
-const SHORT: usize = 1_500;
 
 const HEADS: [&[u8]; 3] = [b"\r\n+CME ERROR:", b"\r\n+CMS ERROR:", b"\r\nMODEM ERROR:"];
 const LINES: [&[u8]; 12] =
@@ -51,18 +47,6 @@ pub fn limits() -> Vec<Case> {
     all.rooms();
     all.going_on();
     all.0
-}
-
-/// The k-th of those that are drawn on, counted round.
-pub fn drawn(k: u64, is_digest: bool) -> Case {
-    static DRAWN: OnceLock<[Vec<Case>; 2]> = OnceLock::new();
-    let [scripts, digests] = DRAWN.get_or_init(|| {
-        let all = limits().into_iter().filter(|case| case.to_string().len() <= SHORT);
-        let (digests, scripts) = all.partition(|case| matches!(case, Case::Digest { .. }));
-        [scripts, digests]
-    });
-    let of = if is_digest { digests } else { scripts };
-    of[(k % of.len() as u64) as usize].clone()
 }
 
 fn line(text: &[u8]) -> Vec<u8> {

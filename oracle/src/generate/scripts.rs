@@ -3,7 +3,6 @@
 
 use super::chance::Chance;
 use super::digests;
-use super::limits;
 use super::tables::{self, Table};
 use crate::notation::{Case, Op};
 
@@ -12,9 +11,6 @@ const SLOTS: [usize; 18] = [0, 1, 2, 2, 3, 4, 4, 5, 5, 8, 8, 16, 16, 32, 32, 64,
 const QUEUES: [usize; 20] = [0, 0, 131, 132, 132, 132, 132, 132, 133, 264, 264, 264, 264, 264, 300, 396, 396, 528, 660, 2112];
 
 pub fn script(chance: &mut Chance) -> Case {
-    if chance.once_in(8) {
-        return limits::drawn(chance.below(u64::MAX), false);
-    }
     let mut table = match chance.below(150) {
         0 => tables::faulty(chance),
         1..30 => tables::good(chance),
@@ -78,7 +74,7 @@ fn stream(chance: &mut Chance, table: &Table, buffer: usize, slot: usize) -> Vec
             }
             1 if !table.texts.is_empty() && buffer >= 128 => {
                 let text = &table.texts[chance.up_to(table.texts.len() - 1)];
-                let len = chance.within(126, 130).saturating_sub(text.len() + 1);
+                let len = chance.within(127, 129) - text.len() - 1;
                 said.extend([b"\r\n", &text[..], b":", &vec![b'n'; len], b"\r\n"].concat());
             }
             2 => said.extend_from_slice(b"\r\nOK\r\n"),
