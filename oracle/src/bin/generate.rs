@@ -9,7 +9,7 @@ const USAGE: &str = "usage: generate N SEED
        generate limits
 Prints N cases, always the same ones for a seed. Of each ten, four are the next of the exhaustive lists (every sequence of small alphabets up to a
 length, in an order that the seed chooses; random ones once these are used up), five are random or damaged digest inputs, and one is an ingress script
-(every fourth of them from an exhaustive list of calls). `limits` prints the cases at the limits, which every comparison begins with.";
+(every second of them from an exhaustive list of calls). `limits` prints the cases at the limits, which every comparison begins with.";
 
 fn main() -> ExitCode {
     let arguments: Vec<String> = env::args().skip(1).collect();

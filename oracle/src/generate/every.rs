@@ -6,11 +6,12 @@ use crate::notation::{Case, Op};
 /// Records, tokens, and the most tokens in a row.
 type List = (&'static [(&'static [u8], &'static [u8])], &'static [&'static [u8]], u32);
 
-const INPUTS: [List; 13] = [
+const INPUTS: [List; 14] = [
     (&[], &[b"\r", b"\n", b" ", b">", b"x"], 7),
     (&[], &[b"\r\n", b"OK", b"ERROR", b" ", b"x", b"\r", b"\n"], 5),
     (&[], &[b"\r\n", b"+CME ERROR:", b"+CMS ERROR:", b"MODEM ERROR:", b"7", b" ", b"\n", b"\t"], 5),
-    (&[], &[b"\r\n", b"NA", b">", b"@", b" ", b"OK\r\n"], 6),
+    (&[], &[b"\r", b"\n", b"O", b"K"], 7),
+    (&[], &[b"\r\n", b"NA", b">", b"@", b" ", b"OK\r\n"], 5),
     (&[], &[b"\r\n", b"NO CARRIER", b"BUSY", b"NO ANSWER", b"NO DIALTONE", b"COMMAND NOT SUPPORT", b"CONNECT", b"ERROR"], 4),
     (&[], &[b"\r\n+CME ERROR:", b"0", b"6553", b"5", b"6", b"\r\n", b"\n"], 5),
     (&[(b"UR", b"A")], &[b"\r", b"\n", b"A", b":", b">"], 7),
@@ -23,7 +24,7 @@ const INPUTS: [List; 13] = [
 ];
 
 const SCRIPT_TABLE: &[(&[u8], &[u8])] = &[(b"UR", b"A")];
-const SCRIPT_OPS: [&[u8]; 8] = [b"W\r\nA\r\n", b"Wx", b"A\r\nOK\r\n", b"T", b"M", b"R", b"C", b"W\r\nyy\r\nOK\r\n\r\nA:z\r\n> "];
+const SCRIPT_OPS: [&[u8]; 7] = [b"W\r\nA\r\n", b"Wx", b"A\r\nOK\r\n", b"T", b"M", b"R", b"W\r\nyy\r\nOK\r\n\r\nA:z\r\n> "];
 const MOST_OPS: u32 = 5;
 /// Small enough that room, slot and queue all run out: lengths of buffer, slot memory and queue memory.
 const MEMORIES: [[usize; 3]; 2] = [[7, 1, 132], [24, 2, 264]];
@@ -88,7 +89,6 @@ fn op(said: &[u8]) -> Op {
         b'A' => Op::Put(said[1..].to_vec()),
         b'T' => Op::Take,
         b'R' => Op::Reset,
-        b'C' => Op::Clear,
         _ => Op::Over(0),
     }
 }

@@ -1,5 +1,6 @@
 //! Cases from a seed. Case number i of a seed is always the same, however many are made: of each ten, four are the next of the exhaustive
-//! lists (random ones once those are used up), five are random or damaged digest inputs, and one is an ingress script.
+//! lists (random ones once those are used up), five are random or damaged digest inputs, and one is an ingress script, every second of them
+//! from an exhaustive list too. A million cases have all that the lists have.
 
 mod chance;
 mod digests;
@@ -23,7 +24,7 @@ pub fn case(seed: u64, i: u64) -> Case {
     let mut chance = Chance::new(seed, i);
     let (ten, one) = (i / 10, i % 10);
     match one {
-        9 if ten % 4 == 0 && ten / 4 < every::scripts() => every::script(shuffled(seed, ten / 4, every::scripts())),
+        9 if ten % 2 == 0 && ten / 2 < every::scripts() => every::script(shuffled(seed, ten / 2, every::scripts())),
         9 => scripts::script(&mut chance),
         0..4 if 4 * ten + one < every::inputs() => every::input(shuffled(seed, 4 * ten + one, every::inputs())),
         _ => digests::input(&mut chance),

@@ -77,6 +77,8 @@ fn stream(chance: &mut Chance, table: &Table, buffer: usize, slot: usize) -> Vec
                 let len = chance.within(127, 129) - text.len() - 1;
                 said.extend([b"\r\n", &text[..], b":", &vec![b'n'; len], b"\r\n"].concat());
             }
+            // A large buffer is filled, or nearly.
+            2 if buffer >= 512 => said.extend(vec![b'x'; buffer - chance.up_to(30)]),
             2 => said.extend_from_slice(b"\r\nOK\r\n"),
             3..7 if !table.texts.is_empty() => {
                 let text = &table.texts[chance.up_to(table.texts.len() - 1)];
@@ -103,8 +105,7 @@ fn ops(chance: &mut Chance, table: &Table, buffer: usize, slot: usize) -> Vec<Op
         ops.push(if is_write { Op::Write(piece.to_vec()) } else { Op::Put(piece.to_vec()) });
         rest = behind;
         if is_patient && chance.once_in(2) {
-            ops.push(Op::Take);
-            ops.push(Op::Over(0));
+            ops.extend([Op::Take, Op::Over(0), Op::Reset]);
         }
         while chance.once_in(3) {
             ops.push(other(chance, slot));
