@@ -35,7 +35,8 @@ impl Ours {
             writeln!(out, "{case}")?;
         }
         out.flush()?;
-        let mut child = Command::new(&self.command[0]).args(&self.command[1..]).stdin(File::open(&asked)?).stdout(File::create(&said)?).stderr(Stdio::inherit()).spawn()?;
+        let mut child =
+            Command::new(&self.command[0]).args(&self.command[1..]).stdin(File::open(&asked)?).stdout(File::create(&said)?).stderr(Stdio::inherit()).spawn()?;
         let theirs: Vec<(String, Origin)> = cases.iter().map(oracle::answer_case).collect();
         let status = child.wait()?;
         let ours = String::from_utf8_lossy(&fs::read(&said)?).into_owned();
@@ -59,11 +60,7 @@ enum Verdict {
 
 /// Our line with its kind and number turned into the crate's type, and the name of the difference that was turned, if one was.
 fn turned(ours: &str, is_digest: bool) -> (String, Option<&'static str>) {
-    let at = if is_digest {
-        Some(0)
-    } else {
-        ours.rfind(" slot ").map(|at| at + 6).and_then(|at| ours[at..].find(' ').map(|n| at + n + 1))
-    };
+    let at = if is_digest { Some(0) } else { ours.rfind(" slot ").map(|at| at + 6).and_then(|at| ours[at..].find(' ').map(|n| at + n + 1)) };
     let Some(at) = at else { return (ours.to_owned(), None) };
     let mut words = ours[at..].splitn(3, ' ');
     let (Some(kind), Some(number), Some(rest)) = (words.next(), words.next(), words.next()) else {
@@ -128,7 +125,27 @@ fn in_calls(ours: &str, theirs: &str, ops: &[Op]) -> String {
             (a, b) => return format!("ingress: {letter} answers {} here, {} in the Rust", in_short(a), in_short(b)),
         }
     }
-    let names = ["", "", "end", "", "buffer", "", "slot", "slot's kind", "slot's number", "slot's length", "answers lost", "", "slot's memory", "", "queue's start", "queue's count", "notices lost", "", "queue's memory"];
+    let names = [
+        "",
+        "",
+        "end",
+        "",
+        "buffer",
+        "",
+        "slot",
+        "slot's kind",
+        "slot's number",
+        "slot's length",
+        "answers lost",
+        "",
+        "slot's memory",
+        "",
+        "queue's start",
+        "queue's count",
+        "notices lost",
+        "",
+        "queue's memory",
+    ];
     let differs = us.next().unwrap_or("").split(' ').zip(them.next().unwrap_or("").split(' ')).position(|(a, b)| a != b);
     match differs {
         Some(at) => format!("ingress: the {}", names.get(at).unwrap_or(&"line's length")),
@@ -197,12 +214,7 @@ impl Tally {
             Verdict::Same => {}
             Verdict::Named(name) => *self.named.entry(name).or_default() += 1,
             Verdict::Other(what) => {
-                let found = self.others.entry(what).or_insert_with(|| Found {
-                    count: 0,
-                    case: case.clone(),
-                    ours: ours.to_owned(),
-                    theirs: theirs.to_owned(),
-                });
+                let found = self.others.entry(what).or_insert_with(|| Found { count: 0, case: case.clone(), ours: ours.to_owned(), theirs: theirs.to_owned() });
                 found.count += 1;
                 if size(case) < size(&found.case) {
                     (found.case, found.ours, found.theirs) = (case.clone(), ours.to_owned(), theirs.to_owned());

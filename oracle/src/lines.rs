@@ -30,11 +30,7 @@ fn error(e: InternalError<'_>) -> Said<'_> {
         InternalError::ConnectionError(ConnectionError::NoDialtone) => plain("nodialtone"),
         InternalError::Error => plain("error"),
         InternalError::Capacity => plain("capacity"),
-        InternalError::Custom(text) => Said {
-            kind: "custom",
-            number: tokens::custom_number(text),
-            payload: text,
-        },
+        InternalError::Custom(text) => Said { kind: "custom", number: tokens::custom_number(text), payload: text },
         // Neither the digester nor the slot makes the others; a line that has this word differs from ours.
         _ => plain("other"),
     }
@@ -45,11 +41,7 @@ pub fn of_digest(answer: DigestResult<'_>) -> Said<'_> {
     match answer {
         DigestResult::None => plain("none"),
         DigestResult::Prompt(prompt) => numbered("prompt", Some(prompt.into())),
-        DigestResult::Urc(line) => Said {
-            kind: "notice",
-            number: Some(tokens::matched()),
-            payload: line,
-        },
+        DigestResult::Urc(line) => Said { kind: "notice", number: Some(tokens::matched()), payload: line },
         DigestResult::Response(Ok(payload)) => Said { kind: "ok", number: None, payload },
         DigestResult::Response(Err(e)) => error(e),
     }

@@ -7,17 +7,8 @@ pub const LONGEST_LINE: usize = 65_535;
 
 #[derive(Clone, Debug, PartialEq, Eq)]
 pub enum Case {
-    Digest {
-        table: Vec<u8>,
-        input: Vec<u8>,
-    },
-    Ingress {
-        table: Vec<u8>,
-        buffer: Vec<u8>,
-        slot: Vec<u8>,
-        queue: Vec<u8>,
-        ops: Vec<Op>,
-    },
+    Digest { table: Vec<u8>, input: Vec<u8> },
+    Ingress { table: Vec<u8>, buffer: Vec<u8>, slot: Vec<u8>, queue: Vec<u8>, ops: Vec<Op> },
 }
 
 #[derive(Clone, Debug, PartialEq, Eq)]
@@ -46,17 +37,10 @@ pub fn read(line: &[u8]) -> Option<Case> {
     }
     let fields: Vec<&[u8]> = line.split(|&b| b == b' ').collect();
     match fields[..] {
-        [table, input] => Some(Case::Digest {
-            table: bytes(table)?,
-            input: bytes(input)?,
-        }),
-        [table, buffer, slot, queue, ops] => Some(Case::Ingress {
-            table: bytes(table)?,
-            buffer: bytes(buffer)?,
-            slot: bytes(slot)?,
-            queue: bytes(queue)?,
-            ops: read_ops(ops)?,
-        }),
+        [table, input] => Some(Case::Digest { table: bytes(table)?, input: bytes(input)? }),
+        [table, buffer, slot, queue, ops] => {
+            Some(Case::Ingress { table: bytes(table)?, buffer: bytes(buffer)?, slot: bytes(slot)?, queue: bytes(queue)?, ops: read_ops(ops)? })
+        }
         _ => None,
     }
 }

@@ -145,9 +145,6 @@ pub struct Notice {
 
 impl AtatUrc for Notice {
     fn parse(line: &[u8]) -> Option<Self> {
-        (1..=128).contains(&line.len()).then(|| Notice {
-            number: matched(),
-            line: line.to_vec(),
-        })
+        (1..=128).contains(&line.len()).then(|| Notice { number: matched(), line: line.to_vec() })
     }
 }

@@ -16,10 +16,7 @@ pub struct UrcPublisher<'a, Urc, const CAPACITY: usize, const SUBSCRIBERS: usize
 
 impl<Urc: Clone, const CAPACITY: usize, const SUBSCRIBERS: usize> UrcChannel<Urc, CAPACITY, SUBSCRIBERS> {
     pub fn holding(capacity: usize) -> Self {
-        Self(Waiting {
-            held: RefCell::new(VecDeque::new()),
-            capacity,
-        })
+        Self(Waiting { held: RefCell::new(VecDeque::new()), capacity })
     }
 
     /// The subscriber's next message.

@@ -19,13 +19,7 @@ fn main() -> ExitCode {
     if command.is_empty() {
         return usage("no command");
     }
-    let (names, ours) = (
-        names.clone(),
-        Ours {
-            command: command.to_vec(),
-            work: PathBuf::from(work),
-        },
-    );
+    let (names, ours) = (names.clone(), Ours { command: command.to_vec(), work: PathBuf::from(work) });
     let judged = thread::Builder::new().stack_size(STACK).spawn(move || -> io::Result<bool> { judge::run(n, seed, &judge::listed(Path::new(&names))?, &ours) });
     match judged.expect("a thread can be started").join() {
         Ok(Ok(true)) => ExitCode::SUCCESS,

@@ -74,13 +74,7 @@ pub fn scripts() -> u64 {
 pub fn script(k: u64) -> Case {
     let [buffer, slot, queue] = MEMORIES[(k % MEMORIES.len() as u64) as usize];
     let ops = sequence(SCRIPT_OPS.len() as u64, k / MEMORIES.len() as u64).iter().map(|&o| op(SCRIPT_OPS[o])).collect();
-    Case::Ingress {
-        table: tables::of(SCRIPT_TABLE).bytes,
-        buffer: vec![b'.'; buffer],
-        slot: vec![b'.'; slot],
-        queue: vec![b'.'; queue],
-        ops,
-    }
+    Case::Ingress { table: tables::of(SCRIPT_TABLE).bytes, buffer: vec![b'.'; buffer], slot: vec![b'.'; slot], queue: vec![b'.'; queue], ops }
 }
 
 fn op(said: &[u8]) -> Op {

@@ -6,8 +6,20 @@ use crate::notation::{Case, Op};
 use crate::script::SLOT_SIZES;
 
 const HEADS: [&[u8]; 3] = [b"\r\n+CME ERROR:", b"\r\n+CMS ERROR:", b"\r\nMODEM ERROR:"];
-const LINES: [&[u8]; 12] =
-    [b"OK", b"CONNECT", b"ERROR", b"COMMAND NOT SUPPORT", b"NO CARRIER", b"BUSY", b"NO ANSWER", b"NO DIALTONE", b"NA", b"+CME ERROR: 3", b"+CMS ERROR: 500", b"MODEM ERROR: 7"];
+const LINES: [&[u8]; 12] = [
+    b"OK",
+    b"CONNECT",
+    b"ERROR",
+    b"COMMAND NOT SUPPORT",
+    b"NO CARRIER",
+    b"BUSY",
+    b"NO ANSWER",
+    b"NO DIALTONE",
+    b"NA",
+    b"+CME ERROR: 3",
+    b"+CMS ERROR: 500",
+    b"MODEM ERROR: 7",
+];
 const CODES: [&[u8]; 18] = [
     b"",
     b"0",
@@ -61,10 +73,7 @@ struct List(Vec<Case>);
 
 impl List {
     fn digest(&mut self, table: &Table, input: &[u8]) {
-        self.0.push(Case::Digest {
-            table: table.bytes.clone(),
-            input: input.to_vec(),
-        });
+        self.0.push(Case::Digest { table: table.bytes.clone(), input: input.to_vec() });
     }
 
     /// A script over memories of these lengths.
@@ -251,7 +260,16 @@ impl List {
         let mut table = tables::of(&[(b"UR", b"+U"), (b"CS", b"SENT"), (b"CE", b"FAIL"), (b"CE", b"EIGHTLONG")]);
         tables::record(&mut table, b"CP", 255, b"=>");
         let mut items: Vec<Vec<u8>> = LINES.iter().map(|text| line(text)).collect();
-        items.extend([line(b"+U: 1"), line(b"SENT"), line(b"FAIL"), b"=> ".to_vec(), b"> ".to_vec(), b"@".to_vec(), line(b"EIGHTLONG"), b"\r\npay\r\nOK\r\n".to_vec()]);
+        items.extend([
+            line(b"+U: 1"),
+            line(b"SENT"),
+            line(b"FAIL"),
+            b"=> ".to_vec(),
+            b"> ".to_vec(),
+            b"@".to_vec(),
+            line(b"EIGHTLONG"),
+            b"\r\npay\r\nOK\r\n".to_vec(),
+        ]);
         for (i, item) in items.iter().enumerate() {
             let next = &items[(i + 1) % items.len()];
             self.script(&table, 40, 16, 132, &[write(item)]);

@@ -32,13 +32,7 @@ pub fn script(chance: &mut Chance) -> Case {
         before[..len].copy_from_slice(&said[..len]);
     }
     let ops = ops(chance, &table, buffer, slot);
-    Case::Ingress {
-        table: table.bytes,
-        buffer: before,
-        slot: vec![chance.one_of(b"\0.\xFF"); slot],
-        queue: vec![chance.one_of(b"\0.\xFF"); queue],
-        ops,
-    }
+    Case::Ingress { table: table.bytes, buffer: before, slot: vec![chance.one_of(b"\0.\xFF"); slot], queue: vec![chance.one_of(b"\0.\xFF"); queue], ops }
 }
 
 /// A usual size, or, once in fifty, a rare one.
