@@ -71,7 +71,6 @@ fn run_in<const N: usize>(table: &[u8], buffer: &[u8], slot: &[u8], queue: &[u8]
                 }
                 Op::Reset => {
                     response.reset();
-                    beside.was_signalled = false;
                     Ok("done".to_owned())
                 }
                 Op::Okay(bytes) => Ok(beside.signal(reach::signal_response(&response, Ok(bytes)).is_err())),
@@ -102,7 +101,7 @@ fn run_in<const N: usize>(table: &[u8], buffer: &[u8], slot: &[u8], queue: &[u8]
 /// What the harness keeps beside the crate.
 struct Beside {
     slot_memory: Vec<u8>,
-    was_signalled: bool,
+    is_signalled: bool,
     held: String,
     answers_lost: u32,
     queue_memory: Vec<u8>,
@@ -115,7 +114,7 @@ impl Beside {
     fn new(slot: &[u8], queue: &[u8]) -> Self {
         Self {
             slot_memory: slot.to_vec(),
-            was_signalled: false,
+            is_signalled: false,
             held: held(&Response::<0>::default()),
             answers_lost: 0,
             queue_memory: queue.to_vec(),
@@ -141,13 +140,14 @@ impl Beside {
         }
     }
 
-    /// After a call: reads a slot that has become signalled, and writes down the notices that have come.
+    /// After a call: reads the slot where it is signalled, as what a free one holds can't be read, and writes down the notices that have come.
     fn look<const N: usize>(&mut self, response: &ResponseSlot<N>, channel: &Channel) {
         let (answers, notices) = atat::fmt::losses();
         self.answers_lost += answers;
         self.notices_lost += notices;
-        if let (false, Some(now)) = (self.was_signalled, response.try_get()) {
-            self.was_signalled = true;
+        let now = response.try_get();
+        self.is_signalled = now.is_some();
+        if let Some(now) = now {
             self.held = held(&now);
             let payload = lines::of_response(&now).payload;
             self.slot_memory[..payload.len()].copy_from_slice(payload);
@@ -164,7 +164,7 @@ impl Beside {
     fn state(&self) -> String {
         format!(
             "slot {} {} {} memory {} queue {} {} {} memory {}",
-            if self.was_signalled { "signalled" } else { "free" },
+            if self.is_signalled { "signalled" } else { "free" },
             self.held,
             self.answers_lost,
             Hex(&self.slot_memory),
