@@ -1,0 +1,10 @@
+//! Runs atat 0.25.0 on the cases that the Rattle program `compare` reads, and compares the two programs' answers.
+
+pub mod generate;
+pub mod judge;
+pub mod lines;
+pub mod notation;
+pub mod oracle;
+pub mod script;
+pub mod table;
+pub mod tokens;

@@ -1,0 +1,64 @@
+//! Case in, answer line out.
+
+use crate::notation::{self, Case};
+use crate::{lines, script, table, tokens};
+use atat::Digester;
+
+/// The longest digest input and ingress buffer; the crate has no such limit, so refusal 1 is the harness's.
+pub const LONGEST: usize = 4096;
+
+/// Who decided a line.
+#[derive(Clone, Copy, Debug, PartialEq, Eq)]
+pub enum Origin {
+    /// The crate.
+    Crate,
+    /// The crate, but that a CS, CE or CP function, ours on both sides, was what matched somewhere.
+    Ours,
+    /// The harness: refusals 1 and 2, a line that doesn't read, a slot memory of a size that isn't supported.
+    Harness,
+    /// The crate panicked where ours answers.
+    Panic,
+}
+
+impl Origin {
+    pub fn letter(self) -> char {
+        match self {
+            Origin::Crate => 'c',
+            Origin::Ours => 'o',
+            Origin::Harness => 'h',
+            Origin::Panic => 'p',
+        }
+    }
+}
+
+/// The answer to a line that isn't skipped.
+pub fn answer(line: &[u8]) -> (String, Origin) {
+    match notation::read(line) {
+        None => ("bad line".to_owned(), Origin::Harness),
+        Some(case) => answer_case(&case),
+    }
+}
+
+pub fn answer_case(case: &Case) -> (String, Origin) {
+    match case {
+        Case::Digest { table, input } => digest(table, input),
+        Case::Ingress { table, buffer, slot, queue, ops } => script::run(table, buffer, slot, queue, ops),
+    }
+}
+
+fn digest(table: &[u8], input: &[u8]) -> (String, Origin) {
+    if input.len() > LONGEST {
+        return ("refused 1".to_owned(), Origin::Harness);
+    }
+    match table::read(table) {
+        Err(record) => return (format!("refused 2 {record}"), Origin::Harness),
+        Ok(records) => tokens::lay(records),
+    }
+    let (answer, consumed) = match script::caught(|| tokens::Tokens::new().digest(input)) {
+        Ok(said) => said,
+        Err(place) => return (format!("panic {place}"), Origin::Panic),
+    };
+    let said = lines::of_digest(answer);
+    let line = format!("{} {} {} {} {consumed}", said.kind, said.number(), said.place(input), said.payload.len());
+    (line, if tokens::asked_us() { Origin::Ours } else { Origin::Crate })
+}
