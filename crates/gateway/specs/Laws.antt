@@ -5,10 +5,10 @@ use mathlib.Core.List.{List, [], _∷_}
 use Prim.Native.Nat.{ℕ, _+_, _-_, _≤_, _<_}
 use native.Mathlib.Omega.{arith}
 use lib.ListN.{length, getD, List·getD-eq-default}
-use lib.Dec.{leb}
+use lib.Dec.{leb, ltb}
 use borrow.Author.Tests.{le-leb, lt-leb, lt-ltb, le-ltb}
 use Rattle.text.specs.Text.{partOf, partAt, orFront}
-use Rattle.table.specs.Outcome.{Outcome, answered, refused}
+use Rattle.table.specs.Outcome.{Outcome}
 use Rattle.digest.specs.declared.Kind.{Kind}
 use Rattle.digest.specs.declared.Kind.the-variants as kind
 use Rattle.slot.specs.declared.Held.{Held}
@@ -26,7 +26,7 @@ use Rattle.ingress.specs.Ingress.{Result, world, advanced, result, written, tak
 use Rattle.ingress.specs.declared.State.{State}
 use Rattle.ingress.specs.declared.Advanced.{Advanced}
 use Rattle.ingress.specs.declared.Written.{Written}
-use Rattle.gateway.specs.Gateway.{numberOf, valuesOf, laid, Call, call, said, partValues, fittedAt, kinds, kindOf, word, answerOf, heldNumber, heldBy, heldOf, flagNumber, slotOf, queueOf, stateOf, slotNumbers, stateNumbers, withSlot, withQueue, numbersBy, resetSaid, Turn, turn, signalSaid, putSaid, readBy, gotValues, withGot, Take, took, takeSaid, Whole, whole, numbersLeft, wholeSaid, countValues, noValues}
+use Rattle.gateway.specs.Gateway.{numberOf, valuesOf, laid, Call, call, said, partValues, fittedAt, kinds, kindOf, word, answerOf, heldNumber, heldBy, heldOf, flagNumber, slotOf, queueOf, stateOf, stateNumbers, withSlot, withQueue, numbersBy, resetSaid, Turn, turn, signalSaid, putSaid, readBy, gotValues, withGot, Take, took, takeSaid, Whole, whole, numbersLeft, wholeSaid, countValues, noValues}
 
 -- an export returns its call's number, with the values at the front of the array
 pub says : {A : Type 0} (f : A → List ℕ) (o : List ℕ) (x y : Outcome A) → x ≡ y → (q : List ℕ) → q ≡ laid (valuesOf f x) o → call (numberOf x) q ≡ said f y o
@@ -135,3 +135,61 @@ module _ (v o : List ℕ) (s : State) (es : s ≡ stateOf v) (t b m n b′ m′ 
       (λ i. whole (numberOf (taking s x b′ m′ n′ .said)) (f i) (g i) b′ m′ n′)
       ∙ ap (λ (y : Written). wholeSaid countValues (taking s y b′ m′ n′) v o) (sym q)
       ∙ ap (λ (z : Result ℕ). wholeSaid countValues z v o) (e ∙ ap (λ (y : State). written t p (world y b m n)) es)
+
+-- A state that is written as its nine numbers is read back as it was: `slot-round`, `queue-round` and together `state-round`. Its numbers of 32 bits are at most 4,294,967,295.
+flag-round : (b : Bool) → ltb 0 (flagNumber b) ≡ b
+flag-round true = refl
+flag-round false = refl
+
+held-round : (h : Held) → heldOf (heldNumber h) ≡ h
+held-round (Heard kind.None) = refl
+held-round (Heard kind.Ok) = refl
+held-round (Heard kind.Prompt) = refl
+held-round (Heard kind.Cme) = refl
+held-round (Heard kind.Cms) = refl
+held-round (Heard kind.Unknown) = refl
+held-round (Heard kind.NotAllowed) = refl
+held-round (Heard kind.Error) = refl
+held-round (Heard kind.NoCarrier) = refl
+held-round (Heard kind.Busy) = refl
+held-round (Heard kind.NoAnswer) = refl
+held-round (Heard kind.NoDialtone) = refl
+held-round (Heard kind.Custom) = refl
+held-round (Heard kind.Notice) = refl
+held-round Capacity = refl
+
+word-round : (n : ℕ) → n ≤ 4294967295 → word n ≡ n
+word-round n h = omega arith
+
+pub slot-round : (v : List ℕ) (x : Slot) → x .number ≤ 4294967295 → x .lost ≤ 4294967295 → slotOf (withSlot v x) ≡ x
+slot-round v x h g = λ i. record { signalled = flag-round (x .signalled) i; held = held-round (x .held) i; number = word-round (x .number) h i; len = x .len; lost = word-round (x .lost) g i }
+
+pub queue-round : (v : List ℕ) (x : Queue) → x .lost ≤ 4294967295 → queueOf (withQueue v x) ≡ x
+queue-round v x h = λ i. record { start = x .start; count = x .count; lost = word-round (x .lost) h i }
+
+pub state-round : (s : State) → s .slot .number ≤ 4294967295 → s .slot .lost ≤ 4294967295 → s .queue .lost ≤ 4294967295 → stateOf (stateNumbers s) ≡ s
+state-round s h g f = λ i. record { end = s .end; slot = slot-round [] (s .slot) h g i; queue = queue-round [] (s .queue) f i }
+
+-- Each export's promise determines the number that it returns and all that it leaves.
+pub call-one : (w : Call) (r q : ℕ) (o p : List ℕ) → call r o ≡ w → call q p ≡ w → (r ≡ q) × (o ≡ p)
+call-one w r q o p e f = let g : call r o ≡ call q p = e ∙ sym f in (ap (λ (x : Call). x .number) g, ap (λ (x : Call). x .out) g)
+
+pub turn-one : (w : Turn) (r q : ℕ) (v u m n : List ℕ) → turn r v m ≡ w → turn q u n ≡ w → (r ≡ q) × ((v ≡ u) × (m ≡ n))
+turn-one w r q v u m n e f =
+    let g : turn r v m ≡ turn q u n = e ∙ sym f in
+    (ap (λ (x : Turn). x .number) g, (ap (λ (x : Turn). x .state) g, ap (λ (x : Turn). x .memory) g))
+
+pub took-one : (w : Take) (r q : ℕ) (v u o p : List ℕ) → took r v o ≡ w → took q u p ≡ w → (r ≡ q) × ((v ≡ u) × (o ≡ p))
+took-one w r q v u o p e f =
+    let g : took r v o ≡ took q u p = e ∙ sym f in
+    (ap (λ (x : Take). x .number) g, (ap (λ (x : Take). x .state) g, ap (λ (x : Take). x .out) g))
+
+pub whole-one : (w : Whole) (r q : ℕ) (v u o p b c m l n k : List ℕ) → whole r v o b m n ≡ w → whole q u p c l k ≡ w → (r ≡ q) × ((v ≡ u) × ((o ≡ p) × ((b ≡ c) × ((m ≡ l) × (n ≡ k)))))
+whole-one w r q v u o p b c m l n k e f =
+    let g : whole r v o b m n ≡ whole q u p c l k = e ∙ sym f in (
+      ap (λ (x : Whole). x .number) g,
+      (
+        ap (λ (x : Whole). x .state) g,
+        (ap (λ (x : Whole). x .out) g, (ap (λ (x : Whole). x .buf) g, (ap (λ (x : Whole). x .slotMemory) g, ap (λ (x : Whole). x .queueMemory) g))),
+      ),
+    )

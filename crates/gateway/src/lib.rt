@@ -3,9 +3,7 @@
 // Each export promises that it equals the call behind it; none has a condition on its arguments.
 ghost use mathlib.Core.Path.{_≡_};
 ghost use mathlib.Core.List.{[], _∷_};
-ghost use Prim.Native.Nat.{min};
 ghost use lib.ListN.{getD};
-ghost use lib.Dec.{ltb};
 ghost use Rattle.table.specs.Table.{ruling};
 ghost use Rattle.digest.specs.Digest.{digested};
 ghost use Rattle.slot.specs.Slot.{newSlot, signalled, wasReset, wasRead};
@@ -27,8 +25,10 @@ use slot::Slot;
 use slot::Turned;
 use table::Checked;
 
-// How many numbers a call may answer.
+// How many numbers a call may answer, and how many a state has.
 pub const OUT: usize = 5;
+
+pub const NUMBERS: usize = 9;
 
 // The number of each kind.
 fn kind_number(kind: Kind) -> u64
@@ -53,28 +53,28 @@ fn kind_number(kind: Kind) -> u64
 }
 
 // One number at the front of what a call answers.
-fn lay_one(out: &mut [u64; 5], a: u64)
+fn lay_one(out: &mut [u64; OUT], a: u64)
     ensures { λ _. ⌜ now (out .exit) ≡ laid (a ∷ []) (now (out .entry)) ⌝ }
 {
     *out = [a, out[1], out[2], out[3], out[4]];
 }
 
 // Two numbers.
-fn lay_two(out: &mut [u64; 5], a: u64, b: u64)
+fn lay_two(out: &mut [u64; OUT], a: u64, b: u64)
     ensures { λ _. ⌜ now (out .exit) ≡ laid (a ∷ b ∷ []) (now (out .entry)) ⌝ }
 {
     *out = [a, b, out[2], out[3], out[4]];
 }
 
 // Four numbers.
-fn lay_four(out: &mut [u64; 5], a: u64, b: u64, c: u64, d: u64)
+fn lay_four(out: &mut [u64; OUT], a: u64, b: u64, c: u64, d: u64)
     ensures { λ _. ⌜ now (out .exit) ≡ laid (a ∷ b ∷ c ∷ d ∷ []) (now (out .entry)) ⌝ }
 {
     *out = [a, b, c, d, out[4]];
 }
 
 // An answer of the digester: kind, number, place, length, bytes consumed.
-fn lay_answer(out: &mut [u64; 5], a: Answer)
+fn lay_answer(out: &mut [u64; OUT], a: Answer)
     ensures { λ _. ⌜ now (out .exit) ≡ laid (answerValues a) (now (out .entry)) ⌝ }
 {
     let kind = a.kind;
@@ -89,7 +89,7 @@ fn lay_answer(out: &mut [u64; 5], a: Answer)
 
 // Is the table good? Answers the number of its records; refusal 2 answers the first faulty record's number.
 #[no_mangle]
-pub extern "C" fn wx_table_check(table: &[u8], out: &mut [u64; 5]) -> u32
+pub extern "C" fn wx_table_check(table: &[u8], out: &mut [u64; OUT]) -> u32
     ensures { λ r. ⌜ call r (now (out .exit)) ≡ said countValues (ruling (now (table .entry))) (now (out .entry)) ⌝ }
 {
     match table::check(table) {
@@ -106,7 +106,7 @@ pub extern "C" fn wx_table_check(table: &[u8], out: &mut [u64; 5]) -> u32
 
 // Digests an input under a table. Answers kind, number, payload's place and length, bytes consumed; refusal 2 the faulty record's number.
 #[no_mangle]
-pub extern "C" fn wx_digest(table: &[u8], input: &[u8], out: &mut [u64; 5]) -> u32
+pub extern "C" fn wx_digest(table: &[u8], input: &[u8], out: &mut [u64; OUT]) -> u32
     ensures { λ r. ⌜ call r (now (out .exit)) ≡ said answerValues (digested (now (table .entry)) (now (input .entry))) (now (out .entry)) ⌝ }
 {
     match digest::digest(table, input) {
@@ -137,7 +137,7 @@ fn fitted(size: usize, place: usize, len: usize) -> usize
 
 // The payload of an answer, fitted: its place in the input and its length; both 0 where it doesn't fit.
 #[no_mangle]
-pub extern "C" fn wx_payload(input: &[u8], place: usize, len: usize, out: &mut [u64; 5])
+pub extern "C" fn wx_payload(input: &[u8], place: usize, len: usize, out: &mut [u64; OUT])
     ensures { λ _. ⌜ now (out .exit) ≡ laid (partValues (now (input .entry)) place len) (now (out .entry)) ⌝ }
 {
     let n = digest::payload(input, place, len).len();
@@ -230,7 +230,7 @@ fn flag_number(b: bool) -> u64
 }
 
 // An answer from the five numbers that `wx_digest` leaves.
-fn answer_of(answer: &[u64; 5]) -> Answer
+fn answer_of(answer: &[u64; OUT]) -> Answer
     ensures { λ r. ⌜ r ≡ answerOf (now (answer .entry)) ⌝ }
 {
     Answer {
@@ -243,7 +243,7 @@ fn answer_of(answer: &[u64; 5]) -> Answer
 }
 
 // The slot of a state's nine numbers.
-fn slot_of(state: &[u64; 9]) -> Slot
+fn slot_of(state: &[u64; NUMBERS]) -> Slot
     ensures { λ r. ⌜ r ≡ slotOf (now (state .entry)) ⌝ }
 {
     Slot {
@@ -256,7 +256,7 @@ fn slot_of(state: &[u64; 9]) -> Slot
 }
 
 // The queue of a state's nine numbers.
-fn queue_of(state: &[u64; 9]) -> Queue
+fn queue_of(state: &[u64; NUMBERS]) -> Queue
     ensures { λ r. ⌜ r ≡ queueOf (now (state .entry)) ⌝ }
 {
     Queue {
@@ -267,7 +267,7 @@ fn queue_of(state: &[u64; 9]) -> Queue
 }
 
 // The state of nine numbers.
-fn state_of(state: &[u64; 9]) -> State
+fn state_of(state: &[u64; NUMBERS]) -> State
     ensures { λ r. ⌜ r ≡ stateOf (now (state .entry)) ⌝ }
 {
     State {
@@ -278,7 +278,7 @@ fn state_of(state: &[u64; 9]) -> State
 }
 
 // Another slot, the other numbers as they stood.
-fn put_slot(state: &mut [u64; 9], x: Slot)
+fn put_slot(state: &mut [u64; NUMBERS], x: Slot)
     ensures { λ _. ⌜ now (state .exit) ≡ withSlot (now (state .entry)) x ⌝ }
 {
     let held = x.held;
@@ -296,7 +296,7 @@ fn put_slot(state: &mut [u64; 9], x: Slot)
 }
 
 // Another queue, the other numbers as they stood.
-fn put_queue(state: &mut [u64; 9], x: Queue)
+fn put_queue(state: &mut [u64; NUMBERS], x: Queue)
     ensures { λ _. ⌜ now (state .exit) ≡ withQueue (now (state .entry)) x ⌝ }
 {
     *state = [
@@ -313,7 +313,7 @@ fn put_queue(state: &mut [u64; 9], x: Queue)
 }
 
 // A state as its nine numbers.
-fn put_state(state: &mut [u64; 9], s: State)
+fn put_state(state: &mut [u64; NUMBERS], s: State)
     ensures { λ _. ⌜ now (state .exit) ≡ stateNumbers s ⌝ }
 {
     let slot = s.slot;
@@ -334,7 +334,7 @@ fn put_state(state: &mut [u64; 9], s: State)
 
 // Makes the slot a new one: free, an empty Ok held, nothing lost.
 #[no_mangle]
-pub extern "C" fn wx_slot_new(state: &mut [u64; 9])
+pub extern "C" fn wx_slot_new(state: &mut [u64; NUMBERS])
     ensures { λ _. ⌜ now (state .exit) ≡ withSlot (now (state .entry)) newSlot ⌝ }
 {
     put_slot(state, Slot::new());
@@ -343,8 +343,8 @@ pub extern "C" fn wx_slot_new(state: &mut [u64; 9])
 // Signals an answer (five numbers as `wx_digest` leaves them) with its payload's bytes to the slot.
 #[no_mangle]
 pub extern "C" fn wx_slot_signal(
-    state: &mut [u64; 9],
-    answer: &[u64; 5],
+    state: &mut [u64; NUMBERS],
+    answer: &[u64; OUT],
     payload: &[u8],
     mem: &mut [u8],
 ) -> u32
@@ -362,7 +362,7 @@ pub extern "C" fn wx_slot_signal(
 
 // Looks at the slot. Answers 1, what is held, its number and its payload's length; of a free slot 0 and no more.
 #[no_mangle]
-pub extern "C" fn wx_slot_lookup(state: &[u64; 9], mem: &[u8], out: &mut [u64; 5]) -> u32
+pub extern "C" fn wx_slot_lookup(state: &[u64; NUMBERS], mem: &[u8], out: &mut [u64; OUT]) -> u32
     ensures { λ r. ⌜ call r (now (out .exit)) ≡ said readValues (wasRead (slotOf (now (state .entry))) (now (mem .entry))) (now (out .entry)) ⌝ }
 {
     match slot_of(state).lookup(mem) {
@@ -381,7 +381,7 @@ pub extern "C" fn wx_slot_lookup(state: &[u64; 9], mem: &[u8], out: &mut [u64; 5
 
 // Frees the slot and changes nothing else.
 #[no_mangle]
-pub extern "C" fn wx_slot_reset(state: &mut [u64; 9], mem: &[u8]) -> u32
+pub extern "C" fn wx_slot_reset(state: &mut [u64; NUMBERS], mem: &[u8]) -> u32
     ensures { λ r. ⌜ call r (now (state .exit)) ≡ resetSaid (wasReset (slotOf (now (state .entry))) (now (mem .entry))) (now (state .entry)) ⌝ }
 {
     match slot_of(state).reset(mem) {
@@ -395,7 +395,7 @@ pub extern "C" fn wx_slot_reset(state: &mut [u64; 9], mem: &[u8]) -> u32
 
 // The stored payload, fitted: its place in the slot's memory and its length; both 0 where it doesn't fit.
 #[no_mangle]
-pub extern "C" fn wx_slot_payload(state: &[u64; 9], mem: &[u8], out: &mut [u64; 5])
+pub extern "C" fn wx_slot_payload(state: &[u64; NUMBERS], mem: &[u8], out: &mut [u64; OUT])
     ensures { λ _. ⌜ now (out .exit) ≡ laid (partValues (now (mem .entry)) 0 (slotOf (now (state .entry)) .len)) (now (out .entry)) ⌝ }
 {
     let slot = slot_of(state);
@@ -405,7 +405,7 @@ pub extern "C" fn wx_slot_payload(state: &[u64; 9], mem: &[u8], out: &mut [u64; 
 
 // Makes the queue an empty one with nothing lost.
 #[no_mangle]
-pub extern "C" fn wx_queue_new(state: &mut [u64; 9])
+pub extern "C" fn wx_queue_new(state: &mut [u64; NUMBERS])
     ensures { λ _. ⌜ now (state .exit) ≡ withQueue (now (state .entry)) newQueue ⌝ }
 {
     put_queue(state, Queue::new());
@@ -422,7 +422,7 @@ pub extern "C" fn wx_queue_capacity(len: usize) -> usize
 // Puts a notice into the queue.
 #[no_mangle]
 pub extern "C" fn wx_queue_put(
-    state: &mut [u64; 9],
+    state: &mut [u64; NUMBERS],
     mem: &mut [u8],
     number: u8,
     payload: &[u8],
@@ -441,7 +441,7 @@ pub extern "C" fn wx_queue_put(
 
 // Takes the oldest notice. Answers 1, its table number, its payload's place and length in the memory; from an empty queue 0 and no more.
 #[no_mangle]
-pub extern "C" fn wx_queue_take(state: &mut [u64; 9], mem: &[u8], out: &mut [u64; 5]) -> u32
+pub extern "C" fn wx_queue_take(state: &mut [u64; NUMBERS], mem: &[u8], out: &mut [u64; OUT]) -> u32
     ensures { λ r. ⌜ took r (now (state .exit)) (now (out .exit)) ≡ takeSaid (taken ours (queueOf (now (state .entry))) (now (mem .entry))) (now (state .entry)) (now (out .entry)) ⌝ }
 {
     match queue_of(state).take(mem) {
@@ -467,13 +467,13 @@ pub extern "C" fn wx_queue_take(state: &mut [u64; 9], mem: &[u8], out: &mut [u64
 // Adds the commit to what is in the buffer, then digests, delivers and moves. Refusal 2 answers the faulty record's number.
 #[no_mangle]
 pub extern "C" fn wx_ingress_advance(
-    state: &mut [u64; 9],
+    state: &mut [u64; NUMBERS],
     commit: usize,
     table: &[u8],
     buf: &mut [u8],
     slot_mem: &mut [u8],
     queue_mem: &mut [u8],
-    out: &mut [u64; 5],
+    out: &mut [u64; OUT],
 ) -> u32
     ensures { λ r. ⌜ whole r (now (state .exit)) (now (out .exit)) (now (buf .exit)) (now («slot_mem» .exit)) (now («queue_mem» .exit)) ≡ wholeSaid noValues (advanced (now (table .entry)) commit (world (stateOf (now (state .entry))) (now (buf .entry)) (now («slot_mem» .entry)) (now («queue_mem» .entry)))) (now (state .entry)) (now (out .entry)) ⌝ }
 {
@@ -499,13 +499,13 @@ pub extern "C" fn wx_ingress_advance(
 // Copies as much of the piece as fits, advances, and goes on. Answers the bytes taken, at refusal 5 too; refusal 2 the faulty record's number.
 #[no_mangle]
 pub extern "C" fn wx_ingress_write(
-    state: &mut [u64; 9],
+    state: &mut [u64; NUMBERS],
     piece: &[u8],
     table: &[u8],
     buf: &mut [u8],
     slot_mem: &mut [u8],
     queue_mem: &mut [u8],
-    out: &mut [u64; 5],
+    out: &mut [u64; OUT],
 ) -> u32
     ensures { λ r. ⌜ whole r (now (state .exit)) (now (out .exit)) (now (buf .exit)) (now («slot_mem» .exit)) (now («queue_mem» .exit)) ≡ wholeSaid countValues (written (now (table .entry)) (now (piece .entry)) (world (stateOf (now (state .entry))) (now (buf .entry)) (now («slot_mem» .entry)) (now («queue_mem» .entry)))) (now (state .entry)) (now (out .entry)) ⌝ }
 {
@@ -531,7 +531,7 @@ pub extern "C" fn wx_ingress_write(
 
 // Drops what is in the buffer: the end becomes 0, the other numbers stay.
 #[no_mangle]
-pub extern "C" fn wx_ingress_clear(state: &mut [u64; 9])
+pub extern "C" fn wx_ingress_clear(state: &mut [u64; NUMBERS])
     ensures { λ _. ⌜ now (state .exit) ≡ withEnd (now (state .entry)) (cleared (getD (now (state .entry)) 0 0)) ⌝ }
 {
     let end = ingress::clear(state[END] as usize);
