@@ -41,8 +41,9 @@ extern "C" {
 
 /* A state: nine numbers. Every array is a state.
  * END, LEN, START and COUNT are taken whole; NUMBER, SLOT_LOST and QUEUE_LOST over 4,294,967,295 read as that.
- * A call that isn't refused (or refused with WX_FULL) writes the numbers of its part back in their plain form: 0 or 1 for
- * SIGNALLED, at most 14 for HELD, at most 4,294,967,295 for the three named last.
+ * A call that isn't refused, and an advance or write refused with WX_FULL, writes numbers back in their plain form (0 or 1 for
+ * SIGNALLED, at most 14 for HELD, at most 4,294,967,295 for the three named last): a slot call those of the slot, a queue call
+ * those of the queue, an advance or write all nine. A look, a payload and a take from an empty queue write none.
  * A first state: wx_slot_new, wx_queue_new and wx_ingress_clear on any array. */
 #define WX_NUMBERS 9
 enum {

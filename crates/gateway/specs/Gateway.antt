@@ -1,10 +1,10 @@
 -- The calls of document 01 as numbers: what each number of a lent array means, and what an export returns and leaves.
 use mathlib.Core.Bool.{Bool, true, false}
 use mathlib.Core.List.{List, [], _∷_, _++_}
-use Prim.Native.Nat.{ℕ, _+_, min}
+use Prim.Native.Nat.{ℕ, min}
 use lib.ListN.{length, getD}
-use lib.Dec.{eqb, leb, ltb}
-use Rattle.text.specs.Text.{partOf, partAt, orFront}
+use lib.Dec.{eqb, ltb}
+use Rattle.text.specs.Text.{partOf, partAt}
 use Rattle.table.specs.Outcome.{Outcome, answered, refused}
 use Rattle.digest.specs.declared.Kind.{Kind}
 use Rattle.digest.specs.declared.Kind.the-variants as kind
@@ -74,11 +74,6 @@ answerValues a = kindNumber (a .kind) ∷ a .number ∷ a .place ∷ a .len ∷ 
 -- a part of the caller's memory: its place there and its length
 abbrev pub partValues : List ℕ → ℕ → ℕ → List ℕ
 partValues s place len = partAt s place len ∷ length (partOf s place len) ∷ []
-
--- where a part of len bytes at a place begins in so many bytes: there, or at the front where it doesn't fit
-unfoldable pub fittedAt : ℕ → ℕ → ℕ → ℕ
-unfolding orFront
-fittedAt size place len = orFront (leb (place + len) size) place
 
 -- the kinds in the order of their numbers
 abbrev pub kinds : List Kind

@@ -2,7 +2,7 @@
 use mathlib.Core.Path.{_≡_, refl, sym, ap, _∙_}
 use mathlib.Core.Bool.{Bool, true, false}
 use mathlib.Core.List.{List, [], _∷_}
-use Prim.Native.Nat.{ℕ, _+_, _-_, _≤_, _<_}
+use Prim.Native.Nat.{ℕ, zero, suc, _+_, _≤_, _<_}
 use native.Mathlib.Omega.{arith}
 use lib.ListN.{length, getD, List·getD-eq-default}
 use lib.Dec.{leb, ltb}
@@ -26,26 +26,25 @@ use Rattle.ingress.specs.Ingress.{Result, world, advanced, result, written, tak
 use Rattle.ingress.specs.declared.State.{State}
 use Rattle.ingress.specs.declared.Advanced.{Advanced}
 use Rattle.ingress.specs.declared.Written.{Written}
-use Rattle.gateway.specs.Gateway.{numberOf, valuesOf, laid, Call, call, said, partValues, fittedAt, kinds, kindOf, word, answerOf, heldNumber, heldBy, heldOf, flagNumber, slotOf, queueOf, stateOf, stateNumbers, withSlot, withQueue, numbersBy, resetSaid, Turn, turn, signalSaid, putSaid, readBy, gotValues, withGot, Take, took, takeSaid, Whole, whole, numbersLeft, wholeSaid, countValues, noValues}
+use Rattle.gateway.specs.Gateway.{numberOf, valuesOf, laid, Call, call, said, partValues, kinds, kindOf, word, answerOf, heldNumber, heldBy, heldOf, flagNumber, slotOf, queueOf, stateOf, stateNumbers, withSlot, withQueue, numbersBy, resetSaid, Turn, turn, signalSaid, putSaid, readBy, gotValues, withGot, Take, took, takeSaid, Whole, whole, numbersLeft, wholeSaid, countValues, noValues}
 
 -- an export returns its call's number, with the values at the front of the array
 pub says : {A : Type 0} (f : A → List ℕ) (o : List ℕ) (x y : Outcome A) → x ≡ y → (q : List ℕ) → q ≡ laid (valuesOf f x) o → call (numberOf x) q ≡ said f y o
 says f o x y e q h = ap (call (numberOf x)) h ∙ ap (λ (z : Outcome _). said f z o) e
 
--- where a part begins
-module _ (size place len : ℕ) where
-  pub fits-not : size < place + len → 0 ≡ fittedAt size place len
-  unfolding fittedAt
-  fits-not h = rw (lt-leb (place + len) size h)
+-- where a part of the memory s begins
+module _ (s : List ℕ) (place len : ℕ) where
+  pub fits-not : length s < place + len → 0 ≡ partAt s place len
+  unfolding partAt
+  fits-not h = rw (lt-leb (place + len) (length s) h)
 
-  pub fits-there : place + len ≤ size → place ≡ fittedAt size place len
-  unfolding fittedAt
-  fits-there h = rw (le-leb (place + len) size h)
+  pub fits-there : place + len ≤ length s → place ≡ partAt s place len
+  unfolding partAt
+  fits-there h = rw (le-leb (place + len) (length s) h)
 
--- a part of the memory s as two numbers
-pub part-is : (s o : List ℕ) (place len : ℕ) (p : List ℕ) → p ≡ partOf s place len → (a : ℕ) → a ≡ fittedAt (length s) place len → (q : List ℕ) → q ≡ laid (a ∷ length p ∷ []) o → q ≡ laid (partValues s place len) o
-unfolding fittedAt partAt
-part-is s o place len p e a g q h = h ∙ ap (λ (n : ℕ). laid (n ∷ length p ∷ []) o) g ∙ ap (λ (t : List ℕ). laid (partAt s place len ∷ length t ∷ []) o) e
+-- and that part as two numbers
+pub part-is : (s o : List ℕ) (place len : ℕ) (p : List ℕ) → p ≡ partOf s place len → (a : ℕ) → a ≡ partAt s place len → (q : List ℕ) → q ≡ laid (a ∷ length p ∷ []) o → q ≡ laid (partValues s place len) o
+part-is s o place len p e a g q h = h ∙ (λ i. laid (g i ∷ length (e i) ∷ []) o)
 
 -- what a slot holds
 pub held-capacity : (n : ℕ) → 13 < n → Capacity ≡ heldOf n
@@ -54,15 +53,21 @@ held-capacity n h = ap (λ (b : Bool). heldBy b n) (sym (lt-ltb 13 n h))
 pub held-heard : (n : ℕ) → n ≤ 13 → (k : Kind) → k ≡ kindOf n → Heard k ≡ heldOf n
 held-heard n h k e = ap Heard e ∙ ap (λ (b : Bool). heldBy b n) (sym (le-ltb 13 n h))
 
-up : (k n : ℕ) → k ≤ n → (n ≡ k → ⊥) → k + 1 ≤ n
+-- n is none of the numbers below k, and so k or more
+abbrev pub NoneBelow : ℕ → ℕ → Type 0
+NoneBelow zero n = Unit {0}
+NoneBelow (suc k) n = NoneBelow k n × (n ≡ k → ⊥)
+
+up : (k n : ℕ) → k ≤ n → (n ≡ k → ⊥) → suc k ≤ n
 up k n h e = omega arith
 
--- a number over 13 is no kind's
-over-none : (n : ℕ) → 14 ≤ n → kind.None ≡ kindOf n
-over-none n h = sym (List·getD-eq-default kinds kind.None {n = n} h)
+none-below : (k n : ℕ) → NoneBelow k n → k ≤ n
+none-below zero n h = omega arith
+none-below (suc k) n h = up k n (none-below k n (h .0)) (h .1)
 
-pub kind-none : (n : ℕ) → (n ≡ 0 → ⊥) → (n ≡ 1 → ⊥) → (n ≡ 2 → ⊥) → (n ≡ 3 → ⊥) → (n ≡ 4 → ⊥) → (n ≡ 5 → ⊥) → (n ≡ 6 → ⊥) → (n ≡ 7 → ⊥) → (n ≡ 8 → ⊥) → (n ≡ 9 → ⊥) → (n ≡ 10 → ⊥) → (n ≡ 11 → ⊥) → (n ≡ 12 → ⊥) → (n ≡ 13 → ⊥) → kind.None ≡ kindOf n
-kind-none n h0 h1 h2 h3 h4 h5 h6 h7 h8 h9 h10 h11 h12 h13 = over-none n (up 13 n (up 12 n (up 11 n (up 10 n (up 9 n (up 8 n (up 7 n (up 6 n (up 5 n (up 4 n (up 3 n (up 2 n (up 1 n (up 0 n (omega arith) h0) h1) h2) h3) h4) h5) h6) h7) h8) h9) h10) h11) h12) h13)
+-- a number over 13 is no kind's
+pub kind-none : (n : ℕ) → NoneBelow 14 n → kind.None ≡ kindOf n
+kind-none n h = sym (List·getD-eq-default kinds kind.None {n = n} (none-below 14 n h))
 
 -- structs, field by field
 pub answer-is : (v : List ℕ) (k : Kind) → k ≡ kindOf (getD v 0 0) → (n : ℕ) → n ≡ word (getD v 1 0) → _≡_ {A = Answer} (record { kind = k; number = n; place = getD v 2 0; len = getD v 3 0; consumed = getD v 4 0 }) (answerOf v)

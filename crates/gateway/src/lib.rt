@@ -6,10 +6,11 @@ ghost use mathlib.Core.List.{[], _∷_};
 ghost use lib.ListN.{getD};
 ghost use Rattle.table.specs.Table.{ruling};
 ghost use Rattle.digest.specs.Digest.{digested};
+ghost use Rattle.text.specs.Text.{partAt};
 ghost use Rattle.slot.specs.Slot.{newSlot, signalled, wasReset, wasRead};
 ghost use Rattle.queue.specs.Queue.{ours, newQueue, capacityOf, putInto, taken};
 ghost use Rattle.ingress.specs.Ingress.{world, advanced, written, cleared};
-ghost use Rattle.gateway.specs.Gateway.{kindNumber, laid, call, said, countValues, answerValues, partValues, fittedAt, kindOf, word, answerOf, heldNumber, heldOf, flagNumber, slotOf, queueOf, stateOf, stateNumbers, withEnd, withSlot, withQueue, resetSaid, turn, signalSaid, putSaid, readValues, took, takeSaid, whole, wholeSaid, noValues};
+ghost use Rattle.gateway.specs.Gateway.{kindNumber, laid, call, said, countValues, answerValues, partValues, kindOf, word, answerOf, heldNumber, heldOf, flagNumber, slotOf, queueOf, stateOf, stateNumbers, withEnd, withSlot, withQueue, resetSaid, turn, signalSaid, putSaid, readValues, took, takeSaid, whole, wholeSaid, noValues};
 use digest::Answer;
 use digest::Digested;
 use digest::Kind;
@@ -122,10 +123,11 @@ pub extern "C" fn wx_digest(table: &[u8], input: &[u8], out: &mut [u64; OUT]) ->
     }
 }
 
-// Where a part of so many bytes begins: at its place, or at the front where it doesn't fit.
-fn fitted(size: usize, place: usize, len: usize) -> usize
-    ensures { λ r. ⌜ r ≡ fittedAt size place len ⌝ }
+// Where a part of a memory begins: at its place, or at the front where it doesn't fit.
+fn fitted(s: &[u8], place: usize, len: usize) -> usize
+    ensures { λ r. ⌜ r ≡ partAt (now (s .entry)) place len ⌝ }
 {
+    let size = s.len();
     if size < len {
         return 0;
     }
@@ -141,7 +143,7 @@ pub extern "C" fn wx_payload(input: &[u8], place: usize, len: usize, out: &mut [
     ensures { λ _. ⌜ now (out .exit) ≡ laid (partValues (now (input .entry)) place len) (now (out .entry)) ⌝ }
 {
     let n = digest::payload(input, place, len).len();
-    lay_two(out, fitted(input.len(), place, len) as u64, n as u64);
+    lay_two(out, fitted(input, place, len) as u64, n as u64);
 }
 
 // The nine numbers of a state: where the bytes in the buffer end;

@@ -1,5 +1,4 @@
 -- `answer_of` meets its contract. Assumes nothing.
-use Prim.Native.Nat.{_-_}
 use Rattle.gateway.specs.Laws.{answer-is}
 use borrow.Author.Needs.{needs}
 use Rattle.gateway.proofs.answer_of.Statement.{statement}

@@ -1,5 +1,4 @@
 -- `held_of` meets its contract. Assumes nothing.
-use Prim.Native.Nat.{_-_}
 use Rattle.gateway.specs.Laws.{held-capacity, held-heard}
 use borrow.Author.Needs.{needs}
 use native.Mathlib.Omega.{arith}

@@ -1,5 +1,4 @@
 -- `kind_of` meets its contract: fourteen numbers one by one, and the rest. Assumes nothing.
-use Prim.Native.Nat.{_-_}
 use Rattle.gateway.specs.Laws.{kind-none}
 use borrow.Author.Needs.{needs}
 use Rattle.gateway.proofs.kind_of.Statement.{statement}
@@ -48,7 +47,7 @@ returns-14 : tie.Need-returns-14
 returns-14 c = search needs
 
 returns-15 : tie.Need-returns-15
-returns-15 c = kind-none (c .before .args .n) (c .match .rest .0 .0 .0 .0 .0 .0 .0 .0 .0 .0 .0 .0 .0 .1) (c .match .rest .0 .0 .0 .0 .0 .0 .0 .0 .0 .0 .0 .0 .1) (c .match .rest .0 .0 .0 .0 .0 .0 .0 .0 .0 .0 .0 .1) (c .match .rest .0 .0 .0 .0 .0 .0 .0 .0 .0 .0 .1) (c .match .rest .0 .0 .0 .0 .0 .0 .0 .0 .0 .1) (c .match .rest .0 .0 .0 .0 .0 .0 .0 .0 .1) (c .match .rest .0 .0 .0 .0 .0 .0 .0 .1) (c .match .rest .0 .0 .0 .0 .0 .0 .1) (c .match .rest .0 .0 .0 .0 .0 .1) (c .match .rest .0 .0 .0 .0 .1) (c .match .rest .0 .0 .0 .1) (c .match .rest .0 .0 .1) (c .match .rest .0 .1) (c .match .rest .1)
+returns-15 c = kind-none (c .before .args .n) (c .match .rest)
 
 pub kind-of-spec : {M : Type 1} → statement M
 kind-of-spec =

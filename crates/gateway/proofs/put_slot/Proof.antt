@@ -1,5 +1,4 @@
 -- `put_slot` meets its contract. Assumes nothing.
-use Prim.Native.Nat.{_-_}
 use Rattle.gateway.specs.Laws.{with-slot}
 use borrow.Author.Needs.{needs}
 use Rattle.gateway.proofs.put_slot.Statement.{statement}

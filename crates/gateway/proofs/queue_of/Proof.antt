@@ -1,5 +1,4 @@
 -- `queue_of` meets its contract. Assumes nothing.
-use Prim.Native.Nat.{_-_}
 use Rattle.gateway.specs.Laws.{queue-is}
 use borrow.Author.Needs.{needs}
 use Rattle.gateway.proofs.queue_of.Statement.{statement}

@@ -1,5 +1,4 @@
 -- `slot_of` meets its contract. Assumes nothing.
-use Prim.Native.Nat.{_-_}
 use Rattle.gateway.specs.Laws.{slot-is}
 use borrow.Author.Needs.{needs}
 use Rattle.gateway.proofs.slot_of.Statement.{statement}

@@ -1,5 +1,4 @@
 -- `state_of` meets its contract. Assumes nothing.
-use Prim.Native.Nat.{_-_}
 use Rattle.gateway.specs.Laws.{state-is}
 use borrow.Author.Needs.{needs}
 use Rattle.gateway.proofs.state_of.Statement.{statement}

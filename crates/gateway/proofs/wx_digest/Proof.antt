@@ -1,6 +1,5 @@
 -- `wx_digest` meets its contract: it equals `digest::digest`. Assumes nothing.
 use mathlib.Core.Path.{refl, sym, ap, _∙_}
-use Prim.Native.Nat.{_-_}
 use Rattle.table.specs.Table.{outcome}
 use Rattle.gateway.specs.Gateway.{answerValues}
 use Rattle.gateway.specs.Laws.{says}

@@ -1,6 +1,5 @@
 -- `wx_ingress_advance` meets its contract: it equals `ingress::advance`. Assumes nothing.
 use mathlib.Core.Path.{refl}
-use Prim.Native.Nat.{_-_}
 use Rattle.gateway.specs.Laws.{advance-is}
 use borrow.Author.Needs.{needs}
 use Rattle.gateway.proofs.wx_ingress_advance.Statement.{statement}

@@ -1,6 +1,5 @@
 -- `wx_ingress_clear` meets its contract: it equals `ingress::clear`. Assumes nothing.
 use mathlib.Core.Path.{ap}
-use Prim.Native.Nat.{_-_}
 use Rattle.gateway.specs.Gateway.{withEnd}
 use borrow.Author.Needs.{needs}
 use Rattle.gateway.proofs.wx_ingress_clear.Statement.{statement}

@@ -1,6 +1,5 @@
 -- `wx_ingress_write` meets its contract: it equals `ingress::write`. Assumes nothing.
 use mathlib.Core.Path.{refl}
-use Prim.Native.Nat.{_-_}
 use Rattle.gateway.specs.Laws.{write-is}
 use borrow.Author.Needs.{needs}
 use Rattle.gateway.proofs.wx_ingress_write.Statement.{statement}

@@ -1,6 +1,5 @@
 -- `wx_queue_put` meets its contract: it equals `Queue::put`. Assumes nothing.
 use mathlib.Core.Path.{refl}
-use Prim.Native.Nat.{_-_}
 use Rattle.gateway.specs.Laws.{put-is}
 use borrow.Author.Needs.{needs}
 use Rattle.gateway.proofs.wx_queue_put.Statement.{statement}

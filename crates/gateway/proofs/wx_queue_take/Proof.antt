@@ -1,6 +1,5 @@
 -- `wx_queue_take` meets its contract: it equals `Queue::take`. Assumes nothing.
 use mathlib.Core.Path.{refl}
-use Prim.Native.Nat.{_-_}
 use lib.ListN.{take}
 use Rattle.gateway.specs.Laws.{take-is}
 use borrow.Author.Needs.{needs}

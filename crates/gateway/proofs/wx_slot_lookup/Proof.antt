@@ -1,6 +1,5 @@
 -- `wx_slot_lookup` meets its contract: it equals `Slot::lookup`. Assumes nothing.
 use mathlib.Core.Path.{refl, sym, ap, _∙_}
-use Prim.Native.Nat.{_-_}
 use Rattle.slot.specs.declared.Slot.{Slot}
 use Rattle.gateway.specs.Gateway.{readValues}
 use Rattle.gateway.specs.Laws.{says, look-is}

@@ -1,6 +1,5 @@
 -- `wx_slot_new` meets its contract: it equals `Slot::new`. Assumes nothing.
 use mathlib.Core.Path.{ap, _∙_}
-use Prim.Native.Nat.{_-_}
 use Rattle.gateway.specs.Gateway.{withSlot}
 use borrow.Author.Needs.{needs}
 use Rattle.gateway.proofs.wx_slot_new.Statement.{statement}

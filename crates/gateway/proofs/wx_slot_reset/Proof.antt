@@ -1,6 +1,5 @@
 -- `wx_slot_reset` meets its contract: it equals `Slot::reset`. Assumes nothing.
 use mathlib.Core.Path.{refl}
-use Prim.Native.Nat.{_-_}
 use Rattle.gateway.specs.Laws.{reset-is}
 use borrow.Author.Needs.{needs}
 use Rattle.gateway.proofs.wx_slot_reset.Statement.{statement}

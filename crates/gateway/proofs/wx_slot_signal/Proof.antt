@@ -1,6 +1,5 @@
 -- `wx_slot_signal` meets its contract: it equals `Slot::signal`. Assumes nothing.
 use mathlib.Core.Path.{refl}
-use Prim.Native.Nat.{_-_}
 use Rattle.gateway.specs.Laws.{signal-is}
 use borrow.Author.Needs.{needs}
 use Rattle.gateway.proofs.wx_slot_signal.Statement.{statement}

@@ -1,6 +1,5 @@
 -- `wx_table_check` meets its contract: it equals `table::check`. Assumes nothing.
 use mathlib.Core.Path.{sym, ap, _∙_}
-use Prim.Native.Nat.{_-_}
 use Rattle.table.specs.Table.{outcome}
 use Rattle.gateway.specs.Gateway.{countValues}
 use Rattle.gateway.specs.Laws.{says}
