@@ -71,7 +71,10 @@ fn write(ingress: &mut Ingress<'_>, mut piece: &[u8]) -> Result<(), Box<dyn Erro
                 Err(refusal) => go_on(ingress, refusal)?,
                 Ok(()) if !ingress.write_buf().is_empty() => answer(ingress)?,
                 Ok(()) => {
-                    eprintln!("listen: the buffer is full and nothing in it is finished: {} bytes dropped", ingress.pending().len());
+                    eprintln!(
+                        "listen: the buffer is full and nothing in it is finished: {} bytes dropped",
+                        ingress.pending().len()
+                    );
                     ingress.clear();
                 }
             },

@@ -25,7 +25,14 @@ extern "C" {
     fn wx_table_check(table: *const u8, table_len: usize, out: *mut u64) -> u32;
     fn wx_digest(table: *const u8, table_len: usize, input: *const u8, input_len: usize, out: *mut u64) -> u32;
     fn wx_slot_new(state: *mut u64);
-    fn wx_slot_signal(state: *mut u64, answer: *const u64, payload: *const u8, payload_len: usize, mem: *mut u8, mem_len: usize) -> u32;
+    fn wx_slot_signal(
+        state: *mut u64,
+        answer: *const u64,
+        payload: *const u8,
+        payload_len: usize,
+        mem: *mut u8,
+        mem_len: usize,
+    ) -> u32;
     fn wx_slot_lookup(state: *const u64, mem: *const u8, mem_len: usize, out: *mut u64) -> u32;
     fn wx_slot_reset(state: *mut u64, mem: *const u8, mem_len: usize) -> u32;
     fn wx_queue_new(state: *mut u64);
@@ -140,9 +147,8 @@ pub(crate) fn queue_capacity(len: usize) -> usize {
 /// A notice, put into the queue.
 pub(crate) fn queue_put(state: &mut State, mem: &mut [u8], record: u8, payload: &[u8]) -> Result<(), Refusal> {
     // SAFETY: see the head of this file.
-    let number = unsafe {
-        wx_queue_put(state.as_mut_ptr(), mem.as_mut_ptr(), mem.len(), record, payload.as_ptr(), payload.len())
-    };
+    let number =
+        unsafe { wx_queue_put(state.as_mut_ptr(), mem.as_mut_ptr(), mem.len(), record, payload.as_ptr(), payload.len()) };
     refused(number, &[0; 5], 0)
 }
 

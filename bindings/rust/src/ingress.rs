@@ -130,14 +130,7 @@ impl<'a> Ingress<'a> {
     /// 4 where the commit is more than the room, and 5 where a notice meets a full queue.
     pub fn try_advance(&mut self, commit: usize) -> Result<(), Refusal> {
         let mut state = self.state();
-        let done = ffi::ingress_advance(
-            &mut state,
-            commit,
-            self.digester.table(),
-            self.buf,
-            self.res_slot.mem,
-            self.notices.mem,
-        );
+        let done = ffi::ingress_advance(&mut state, commit, self.digester.table(), self.buf, self.res_slot.mem, self.notices.mem);
         self.put_state(state);
         done
     }
@@ -148,14 +141,7 @@ impl<'a> Ingress<'a> {
     /// Refused with 1, 2, 3 and 5 as [`try_advance`](Ingress::try_advance); refusal 5 carries the bytes taken.
     pub fn try_write(&mut self, piece: &[u8]) -> Result<usize, Refusal> {
         let mut state = self.state();
-        let done = ffi::ingress_write(
-            &mut state,
-            piece,
-            self.digester.table(),
-            self.buf,
-            self.res_slot.mem,
-            self.notices.mem,
-        );
+        let done = ffi::ingress_write(&mut state, piece, self.digester.table(), self.buf, self.res_slot.mem, self.notices.mem);
         self.put_state(state);
         done
     }

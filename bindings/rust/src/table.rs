@@ -68,10 +68,9 @@ impl fmt::Display for TableError {
     fn fmt(&self, f: &mut fmt::Formatter<'_>) -> fmt::Result {
         match self {
             Self::TextLength(n) => write!(f, "a text has 1 to 32 bytes, and this has {n}"),
-            Self::TextByte(at) => write!(
-                f,
-                "byte {at} of the text is not one of 0x20 to 0x7E, or it is a space at its beginning or end"
-            ),
+            Self::TextByte(at) => {
+                write!(f, "byte {at} of the text is not one of 0x20 to 0x7E, or it is a space at its beginning or end")
+            }
             Self::TooManyRecords => f.write_str("a table has at most 64 records"),
             Self::MemoryFull(n) => write!(f, "the memory lent for the table is {n} bytes too short"),
         }

@@ -1,48 +1,12 @@
 //! A conversation with a modem over a pseudo-terminal, in which bytes arrive in odd pieces.
 
-use std::ffi::{c_char, c_int, c_void, CStr};
-use std::fs::{File, OpenOptions};
+mod pty;
+
+use std::fs::File;
 use std::io::{Read, Write};
-use std::os::fd::{AsRawFd, FromRawFd};
-use std::os::unix::fs::OpenOptionsExt;
 use std::thread;
 use std::time::Duration;
 use walumbeex::{ConnectionError, Digester, Ingress, Refusal, Response, TableBuilder, NOTICE_RECORD};
-
-extern "C" {
-    fn posix_openpt(flags: c_int) -> c_int;
-    fn grantpt(fd: c_int) -> c_int;
-    fn unlockpt(fd: c_int) -> c_int;
-    fn ptsname_r(fd: c_int, name: *mut c_char, len: usize) -> c_int;
-    fn tcgetattr(fd: c_int, settings: *mut c_void) -> c_int;
-    fn cfmakeraw(settings: *mut c_void);
-    fn tcsetattr(fd: c_int, when: c_int, settings: *const c_void) -> c_int;
-}
-
-const O_RDWR: c_int = 2;
-const O_NOCTTY: c_int = 0o400;
-
-/// Both ends of a pseudo-terminal that changes no byte: the modem's and the host's.
-fn pseudo_terminal() -> (File, File) {
-    // SAFETY: the calls get a descriptor that they gave, a name's memory with its length, and memory for the terminal's
-    // settings that is larger than any system's.
-    unsafe {
-        let fd = posix_openpt(O_RDWR | O_NOCTTY);
-        assert!(fd >= 0, "no pseudo-terminal: {}", std::io::Error::last_os_error());
-        let modem = File::from_raw_fd(fd);
-        assert_eq!((grantpt(fd), unlockpt(fd)), (0, 0));
-        let mut name: [c_char; 128] = [0; 128];
-        assert_eq!(ptsname_r(fd, name.as_mut_ptr(), name.len()), 0);
-        let path = CStr::from_ptr(name.as_ptr()).to_str().unwrap();
-        let host = OpenOptions::new().read(true).write(true).custom_flags(O_NOCTTY).open(path).unwrap();
-        let mut settings = [0u64; 64];
-        let settings = settings.as_mut_ptr().cast::<c_void>();
-        assert_eq!(tcgetattr(host.as_raw_fd(), settings), 0);
-        cfmakeraw(settings);
-        assert_eq!(tcsetattr(host.as_raw_fd(), 0, settings), 0);
-        (modem, host)
-    }
-}
 
 /// What the host sends, and what the modem then sends: notices, its echo, its answer.
 const EXCHANGES: [(&[u8], &[u8]); 8] = [
@@ -76,7 +40,7 @@ fn modem(mut line: File) {
 
 #[test]
 fn a_conversation_in_odd_pieces() {
-    let (modem_end, mut host) = pseudo_terminal();
+    let (modem_end, mut host, _) = pty::pseudo_terminal();
     let modem = thread::spawn(move || modem(modem_end));
 
     let mut memory = [0; 64];

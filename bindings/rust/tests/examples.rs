@@ -39,11 +39,7 @@ fn known_examples_of_the_empty_table() {
 fn known_examples_with_a_notice() {
     let table = Table::new(b"UR\x07+UUSORD").unwrap();
     let cases: [(&[u8], DigestResult, usize); 3] = [
-        (
-            b"\r\nRING\r\n\r\n+UUSORD: 0,4\r\n",
-            DigestResult::Urc(Urc { record: 0, payload: b"+UUSORD: 0,4" }),
-            24,
-        ),
+        (b"\r\nRING\r\n\r\n+UUSORD: 0,4\r\n", DigestResult::Urc(Urc { record: 0, payload: b"+UUSORD: 0,4" }), 24),
         (b"\r\n+UUSO", DigestResult::None, 0),
         (b"\r\n+UUSORD: >", DigestResult::Prompt(b'>'), 12),
     ];

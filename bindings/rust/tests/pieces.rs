@@ -25,19 +25,40 @@ impl Random {
     }
 }
 
-const TABLES: [&[u8]; 4] = [
-    b"",
-    b"UR\x07+UUSORD",
-    b"UR\x04RINGUR\x07+UUSORDCS\x05READYCE\x05FAULTCP$\x05SEND:",
-    b"CE\x02+CUR\x02+CUR\x05+CREG",
-];
+const TABLES: [&[u8]; 4] =
+    [b"", b"UR\x07+UUSORD", b"UR\x04RINGUR\x07+UUSORDCS\x05READYCE\x05FAULTCP$\x05SEND:", b"CE\x02+CUR\x02+CUR\x05+CREG"];
 
 const ITEMS: [&[u8]; 30] = [
-    b"\r\nOK\r\n", b"\r\nERROR\r\n", b"\r\n+CSQ: 17,99\r\n", b"\r\n+CME ERROR: 10\r\n", b"\r\n+CMS ERROR:\t65535\n",
-    b"\r\n+CME ERROR: 65536\r\n", b"\r\nMODEM ERROR: 1\r\n", b"\r\nNO CARRIER\r\n", b"\r\nBUSY\r\n", b"\r\nNO ANSWER\r\n",
-    b"\r\nNO DIALTONE\r\n", b"\r\nNA\r\n", b"\r\nCONNECT\r\n", b"\r\nCOMMAND NOT SUPPORT\r\n", b"\r\n> ", b"\r\n@", b">",
-    b"AT+CSQ\r\r\n", b"\r\nRING\r\n", b"\r\n+UUSORD: 0,4\r\n", b"\n+UUSORD\r\n", b"\r\n+UUSORD:", b"\r\nREADY\r\n", b"\r\nFAULT\r\n",
-    b"\r\nSEND:", b"\r\n+CREG: 1\r\n", b"\r\n+C\r\n", b"\r\n", b" ", b"a",
+    b"\r\nOK\r\n",
+    b"\r\nERROR\r\n",
+    b"\r\n+CSQ: 17,99\r\n",
+    b"\r\n+CME ERROR: 10\r\n",
+    b"\r\n+CMS ERROR:\t65535\n",
+    b"\r\n+CME ERROR: 65536\r\n",
+    b"\r\nMODEM ERROR: 1\r\n",
+    b"\r\nNO CARRIER\r\n",
+    b"\r\nBUSY\r\n",
+    b"\r\nNO ANSWER\r\n",
+    b"\r\nNO DIALTONE\r\n",
+    b"\r\nNA\r\n",
+    b"\r\nCONNECT\r\n",
+    b"\r\nCOMMAND NOT SUPPORT\r\n",
+    b"\r\n> ",
+    b"\r\n@",
+    b">",
+    b"AT+CSQ\r\r\n",
+    b"\r\nRING\r\n",
+    b"\r\n+UUSORD: 0,4\r\n",
+    b"\n+UUSORD\r\n",
+    b"\r\n+UUSORD:",
+    b"\r\nREADY\r\n",
+    b"\r\nFAULT\r\n",
+    b"\r\nSEND:",
+    b"\r\n+CREG: 1\r\n",
+    b"\r\n+C\r\n",
+    b"\r\n",
+    b" ",
+    b"a",
 ];
 
 /// What an ingress does, said with a digester and the standard library's types.
@@ -128,7 +149,7 @@ struct Met {
 fn run(seed: u64, met: &mut Met) {
     let mut r = Random(seed);
     let digester = Digester::new(Table::new(r.one_of(&TABLES)).unwrap());
-    let (size, slot_size, queue_size) = (r.below(200), r.below(40), r.below(4));
+    let (size, slot_size, queue_size) = (r.below(300), r.below(40), r.below(4));
     let mut memory = (vec![0; size], vec![0; slot_size], vec![0; queue_size * NOTICE_RECORD + r.below(NOTICE_RECORD)]);
     let mut ingress = Ingress::new(digester, &mut memory.0, &mut memory.1, &mut memory.2);
     let mut hand = Hand {
@@ -158,7 +179,7 @@ fn run(seed: u64, met: &mut Met) {
 
     let mut rest = &bytes[..];
     let mut turns = 0;
-    while !rest.is_empty() && turns < 2000 {
+    while !rest.is_empty() && turns < 500 {
         turns += 1;
         met.calls += 1;
         let piece = &rest[..usize::min(rest.len(), 1 + r.below(if turns % 5 == 0 { 60 } else { 7 }))];
@@ -194,7 +215,8 @@ fn run(seed: u64, met: &mut Met) {
                     assert_eq!(hand.queue.pop_front(), Some((urc.record, urc.payload.to_vec())), "seed {seed}");
                 }
             },
-            _ if r.below(6) == 0 => {
+            // Now and then, and where no room is left.
+            _ if r.below(20) == 0 || hand.buf.len() == size => {
                 met.cleared += 1;
                 ingress.clear();
                 hand.buf.clear();
