@@ -1,0 +1,228 @@
+use core::fmt;
+
+use crate::{ffi, Refusal, Table};
+
+/// The most bytes that one digest takes, and the longest buffer of an ingress.
+pub const LONGEST_INPUT: usize = 4096;
+
+/// What the bytes from a modem were; the cases are atat's, and a payload is a part of the caller's own input.
+#[derive(Debug, Clone, Copy, PartialEq, Eq)]
+pub enum DigestResult<'a> {
+    /// A notice of the token table.
+    Urc(Urc<'a>),
+    /// An answer: the bytes before `OK` (or another success), trimmed; or an error.
+    Response(Result<&'a [u8], InternalError<'a>>),
+    /// A prompt for data: `>`, `@`, or the prompt byte of a custom prompt's record.
+    Prompt(u8),
+    /// Nothing is finished yet.
+    None,
+}
+
+/// A notice: the number of its record in the token table, and its line, trimmed.
+#[derive(Debug, Clone, Copy, PartialEq, Eq)]
+pub struct Urc<'a> {
+    /// The record's number in the table, from 0.
+    pub record: u8,
+    /// The whole line, such as `+UUSORD: 0,4`.
+    pub payload: &'a [u8],
+}
+
+/// An error that a modem answered. The names are atat's; codes stay the numbers that were read.
+#[derive(Debug, Clone, Copy, PartialEq, Eq)]
+pub enum InternalError<'a> {
+    /// `ERROR` or `COMMAND NOT SUPPORT`.
+    Error,
+    /// `+CME ERROR: n`.
+    CmeError(u16),
+    /// `+CMS ERROR: n`.
+    CmsError(u16),
+    /// `MODEM ERROR: n` (atat folds it into a CME error).
+    Unknown,
+    /// `NA` (atat folds it into a CME error).
+    NotAllowed,
+    /// `NO CARRIER`, `BUSY`, `NO ANSWER` or `NO DIALTONE`.
+    ConnectionError(ConnectionError),
+    /// A custom error of the token table.
+    Custom {
+        /// The record's number in the table, from 0.
+        record: u8,
+        /// The record's text, as it stands in the input.
+        text: &'a [u8],
+    },
+}
+
+/// How a connection failed.
+#[derive(Debug, Clone, Copy, PartialEq, Eq)]
+pub enum ConnectionError {
+    /// `NO CARRIER`.
+    NoCarrier,
+    /// `NO DIALTONE`.
+    NoDialtone,
+    /// `BUSY`.
+    Busy,
+    /// `NO ANSWER`.
+    NoAnswer,
+}
+
+impl fmt::Display for ConnectionError {
+    fn fmt(&self, f: &mut fmt::Formatter<'_>) -> fmt::Result {
+        f.write_str(match self {
+            Self::NoCarrier => "No carrier",
+            Self::NoDialtone => "No dialtone",
+            Self::Busy => "Busy",
+            Self::NoAnswer => "No answer",
+        })
+    }
+}
+
+impl fmt::Display for InternalError<'_> {
+    fn fmt(&self, f: &mut fmt::Formatter<'_>) -> fmt::Result {
+        match self {
+            Self::Error => f.write_str("Generic error response"),
+            Self::CmeError(code) => write!(f, "GSM Equipment related error {code}"),
+            Self::CmsError(code) => write!(f, "GSM Network related error {code}"),
+            Self::Unknown => f.write_str("Modem error"),
+            Self::NotAllowed => f.write_str("Not allowed"),
+            Self::ConnectionError(e) => write!(f, "Connection Error: {e}"),
+            Self::Custom { record, text } => write!(f, "Custom error match: record {record}, {}", text.escape_ascii()),
+        }
+    }
+}
+
+impl core::error::Error for ConnectionError {}
+impl core::error::Error for InternalError<'_> {}
+
+/// The numbers of the kinds, as the archive has them.
+pub(crate) mod kind {
+    pub(crate) const NONE: u64 = 0;
+    pub(crate) const OK: u64 = 1;
+    pub(crate) const PROMPT: u64 = 2;
+    pub(crate) const CME: u64 = 3;
+    pub(crate) const CMS: u64 = 4;
+    pub(crate) const UNKNOWN: u64 = 5;
+    pub(crate) const NOT_ALLOWED: u64 = 6;
+    pub(crate) const ERROR: u64 = 7;
+    pub(crate) const NO_CARRIER: u64 = 8;
+    pub(crate) const BUSY: u64 = 9;
+    pub(crate) const NO_ANSWER: u64 = 10;
+    pub(crate) const NO_DIALTONE: u64 = 11;
+    pub(crate) const CUSTOM: u64 = 12;
+    pub(crate) const NOTICE: u64 = 13;
+    pub(crate) const CAPACITY: u64 = 14;
+}
+
+/// The answer of a kind, its number and its payload. Codes are at most 65,535, records at most 63, prompts bytes.
+pub(crate) fn answer(kind: u64, number: u64, payload: &[u8]) -> DigestResult<'_> {
+    let error = match kind {
+        kind::OK => return DigestResult::Response(Ok(payload)),
+        kind::PROMPT => return DigestResult::Prompt(number as u8),
+        kind::CME => InternalError::CmeError(number as u16),
+        kind::CMS => InternalError::CmsError(number as u16),
+        kind::UNKNOWN => InternalError::Unknown,
+        kind::NOT_ALLOWED => InternalError::NotAllowed,
+        kind::ERROR => InternalError::Error,
+        kind::NO_CARRIER => InternalError::ConnectionError(ConnectionError::NoCarrier),
+        kind::BUSY => InternalError::ConnectionError(ConnectionError::Busy),
+        kind::NO_ANSWER => InternalError::ConnectionError(ConnectionError::NoAnswer),
+        kind::NO_DIALTONE => InternalError::ConnectionError(ConnectionError::NoDialtone),
+        kind::CUSTOM => InternalError::Custom { record: number as u8, text: payload },
+        kind::NOTICE => return DigestResult::Urc(Urc { record: number as u8, payload }),
+        _ => return DigestResult::None,
+    };
+    DigestResult::Response(Err(error))
+}
+
+/// The kind, number and payload of an answer: `answer` the other way.
+pub(crate) fn parts<'a>(result: &DigestResult<'a>) -> (u64, u64, &'a [u8]) {
+    match *result {
+        DigestResult::None => (kind::NONE, 0, &[]),
+        DigestResult::Urc(Urc { record, payload }) => (kind::NOTICE, record.into(), payload),
+        DigestResult::Prompt(byte) => (kind::PROMPT, byte.into(), &[]),
+        DigestResult::Response(Ok(payload)) => (kind::OK, 0, payload),
+        DigestResult::Response(Err(error)) => match error {
+            InternalError::Error => (kind::ERROR, 0, &[]),
+            InternalError::CmeError(code) => (kind::CME, code.into(), &[]),
+            InternalError::CmsError(code) => (kind::CMS, code.into(), &[]),
+            InternalError::Unknown => (kind::UNKNOWN, 0, &[]),
+            InternalError::NotAllowed => (kind::NOT_ALLOWED, 0, &[]),
+            InternalError::ConnectionError(ConnectionError::NoCarrier) => (kind::NO_CARRIER, 0, &[]),
+            InternalError::ConnectionError(ConnectionError::Busy) => (kind::BUSY, 0, &[]),
+            InternalError::ConnectionError(ConnectionError::NoAnswer) => (kind::NO_ANSWER, 0, &[]),
+            InternalError::ConnectionError(ConnectionError::NoDialtone) => (kind::NO_DIALTONE, 0, &[]),
+            InternalError::Custom { record, text } => (kind::CUSTOM, record.into(), text),
+        },
+    }
+}
+
+/// The part of a memory at a place, of a length; its empty front part where that doesn't fit.
+pub(crate) fn part(memory: &[u8], place: u64, len: u64) -> &[u8] {
+    let place = place as usize;
+    place.checked_add(len as usize).and_then(|end| memory.get(place..end)).unwrap_or(&memory[..0])
+}
+
+/// The digester, in the place of atat's `AtDigester`.
+///
+/// ```
+/// use walumbeex::{Digester, DigestResult, TableBuilder, Urc};
+///
+/// let mut memory = [0; 32];
+/// let mut builder = TableBuilder::new(&mut memory);
+/// let sord = builder.urc(b"+UUSORD").unwrap();
+/// let digester = Digester::new(builder.finish());
+///
+/// let heard = digester.digest(b"AT+CSQ\r\r\n+CSQ: 17,99\r\n\r\nOK\r\n").unwrap();
+/// assert_eq!(heard, (DigestResult::Response(Ok(b"+CSQ: 17,99")), 28));
+///
+/// let heard = digester.digest(b"\r\n+UUSORD: 0,4\r\n").unwrap();
+/// assert_eq!(heard, (DigestResult::Urc(Urc { record: sord, payload: b"+UUSORD: 0,4" }), 16));
+/// ```
+#[derive(Debug, Clone, Copy, PartialEq, Eq)]
+pub struct Digester<'t> {
+    table: &'t [u8],
+}
+
+impl<'t> Digester<'t> {
+    /// A digester that knows the records of a table.
+    #[must_use]
+    pub const fn new(table: Table<'t>) -> Self {
+        Self { table: table.as_bytes() }
+    }
+
+    /// A digester over bytes that haven't been checked: each call that uses it checks them, and refuses with 2 where they
+    /// are no good table.
+    #[must_use]
+    pub const fn unchecked(table: &'t [u8]) -> Self {
+        Self { table }
+    }
+
+    pub(crate) const fn table(&self) -> &'t [u8] {
+        self.table
+    }
+
+    /// Digests an input once: what it was, and how many of its bytes are consumed.
+    ///
+    /// Refused with 1 where the input is over 4,096 bytes, and with 2 where the table isn't good.
+    /// The deepest digest takes some 640 KiB of stack (4,096 bytes of CRLF pairs); the repository's tests run it in 1 MiB.
+    ///
+    /// ```
+    /// use walumbeex::{Digester, DigestResult, InternalError, Table};
+    /// let digester = Digester::new(Table::empty());
+    /// assert_eq!(
+    ///     digester.digest(b"\r\n+CME ERROR: 10\r\n"),
+    ///     Ok((DigestResult::Response(Err(InternalError::CmeError(10))), 18))
+    /// );
+    /// assert_eq!(digester.digest(b"\r\nO"), Ok((DigestResult::None, 0)));
+    /// assert_eq!(digester.digest(&[0; 4097]).unwrap_err().number(), 1);
+    /// ```
+    pub fn digest<'a>(&self, input: &'a [u8]) -> Result<(DigestResult<'a>, usize), Refusal> {
+        let [kind, number, place, len, consumed] = ffi::digest(self.table, input)?;
+        Ok((answer(kind, number, part(input, place, len)), consumed as usize))
+    }
+}
+
+impl Default for Digester<'_> {
+    /// The digester that knows no notice and no custom line.
+    fn default() -> Self {
+        Self::new(Table::empty())
+    }
+}

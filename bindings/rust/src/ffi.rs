@@ -1,0 +1,228 @@
+//! The archive's calls, declared, and a safe wrapper around each: the only file with unsafe code.
+//!
+//! A wrapper takes slices and arrays of a fixed length, so that every pointer is good for the length that goes with it and
+//! the borrow rules keep what is written apart from everything else. No call has a condition on its arguments (that is part
+//! of what is proved of it), so nothing else has to hold. `wx_payload` and `wx_slot_payload` have no wrapper: `get` on a
+//! slice gives the same part.
+
+use crate::Refusal;
+
+/// The places of a state's nine numbers.
+pub(crate) const END: usize = 0;
+pub(crate) const SIGNALLED: usize = 1;
+pub(crate) const SLOT_LOST: usize = 5;
+pub(crate) const START: usize = 6;
+pub(crate) const COUNT: usize = 7;
+pub(crate) const QUEUE_LOST: usize = 8;
+
+/// A state's nine numbers.
+pub(crate) type State = [u64; 9];
+
+/// The five numbers that a call may answer.
+pub(crate) type Out = [u64; 5];
+
+extern "C" {
+    fn wx_table_check(table: *const u8, table_len: usize, out: *mut u64) -> u32;
+    fn wx_digest(table: *const u8, table_len: usize, input: *const u8, input_len: usize, out: *mut u64) -> u32;
+    fn wx_slot_new(state: *mut u64);
+    fn wx_slot_signal(
+        state: *mut u64,
+        answer: *const u64,
+        payload: *const u8,
+        payload_len: usize,
+        mem: *mut u8,
+        mem_len: usize,
+    ) -> u32;
+    fn wx_slot_lookup(state: *const u64, mem: *const u8, mem_len: usize, out: *mut u64) -> u32;
+    fn wx_slot_reset(state: *mut u64, mem: *const u8, mem_len: usize) -> u32;
+    fn wx_queue_new(state: *mut u64);
+    fn wx_queue_capacity(len: usize) -> usize;
+    fn wx_queue_put(state: *mut u64, mem: *mut u8, mem_len: usize, number: u8, payload: *const u8, payload_len: usize) -> u32;
+    fn wx_queue_take(state: *mut u64, mem: *const u8, mem_len: usize, out: *mut u64) -> u32;
+    fn wx_ingress_advance(
+        state: *mut u64,
+        commit: usize,
+        table: *const u8,
+        table_len: usize,
+        buf: *mut u8,
+        buf_len: usize,
+        slot_mem: *mut u8,
+        slot_len: usize,
+        queue_mem: *mut u8,
+        queue_len: usize,
+        out: *mut u64,
+    ) -> u32;
+    fn wx_ingress_write(
+        state: *mut u64,
+        piece: *const u8,
+        piece_len: usize,
+        table: *const u8,
+        table_len: usize,
+        buf: *mut u8,
+        buf_len: usize,
+        slot_mem: *mut u8,
+        slot_len: usize,
+        queue_mem: *mut u8,
+        queue_len: usize,
+        out: *mut u64,
+    ) -> u32;
+    fn wx_ingress_clear(state: *mut u64);
+}
+
+/// The refusal of a number: `out` has the record's number at 2, and `taken` are the bytes taken at 5.
+fn refused(number: u32, out: &Out, taken: usize) -> Result<(), Refusal> {
+    match number {
+        0 => Ok(()),
+        1 => Err(Refusal::TooLong),
+        // The promise of each call has it at 64 or below.
+        2 => Err(Refusal::BadTable { record: out[0] as u8 }),
+        4 => Err(Refusal::NoRoom),
+        5 => Err(Refusal::QueueFull { taken }),
+        // 3; no call answers a number over 5.
+        _ => Err(Refusal::BadState),
+    }
+}
+
+/// How many records a good table has.
+pub(crate) fn table_check(table: &[u8]) -> Result<usize, Refusal> {
+    let mut out: Out = [0; 5];
+    // SAFETY: see the head of this file.
+    let number = unsafe { wx_table_check(table.as_ptr(), table.len(), out.as_mut_ptr()) };
+    refused(number, &out, 0)?;
+    Ok(out[0] as usize)
+}
+
+/// Kind, number, payload's place and length, bytes consumed.
+pub(crate) fn digest(table: &[u8], input: &[u8]) -> Result<Out, Refusal> {
+    let mut out: Out = [0; 5];
+    // SAFETY: see the head of this file.
+    let number = unsafe { wx_digest(table.as_ptr(), table.len(), input.as_ptr(), input.len(), out.as_mut_ptr()) };
+    refused(number, &out, 0)?;
+    Ok(out)
+}
+
+/// A new slot in the state.
+pub(crate) fn slot_new(state: &mut State) {
+    // SAFETY: see the head of this file.
+    unsafe { wx_slot_new(state.as_mut_ptr()) }
+}
+
+/// An answer and its payload's bytes, signalled.
+pub(crate) fn slot_signal(state: &mut State, answer: &Out, payload: &[u8], mem: &mut [u8]) -> Result<(), Refusal> {
+    // SAFETY: see the head of this file.
+    let number = unsafe {
+        wx_slot_signal(state.as_mut_ptr(), answer.as_ptr(), payload.as_ptr(), payload.len(), mem.as_mut_ptr(), mem.len())
+    };
+    refused(number, answer, 0)
+}
+
+/// 1, what is held, its number and its payload's length; 0 of a free slot.
+pub(crate) fn slot_lookup(state: &State, mem: &[u8]) -> Result<Out, Refusal> {
+    let mut out: Out = [0; 5];
+    // SAFETY: see the head of this file.
+    let number = unsafe { wx_slot_lookup(state.as_ptr(), mem.as_ptr(), mem.len(), out.as_mut_ptr()) };
+    refused(number, &out, 0)?;
+    Ok(out)
+}
+
+/// A free slot.
+pub(crate) fn slot_reset(state: &mut State, mem: &[u8]) -> Result<(), Refusal> {
+    // SAFETY: see the head of this file.
+    let number = unsafe { wx_slot_reset(state.as_mut_ptr(), mem.as_ptr(), mem.len()) };
+    refused(number, &[0; 5], 0)
+}
+
+/// An empty queue in the state.
+pub(crate) fn queue_new(state: &mut State) {
+    // SAFETY: see the head of this file.
+    unsafe { wx_queue_new(state.as_mut_ptr()) }
+}
+
+/// How many records a memory of `len` bytes holds.
+pub(crate) fn queue_capacity(len: usize) -> usize {
+    // SAFETY: see the head of this file.
+    unsafe { wx_queue_capacity(len) }
+}
+
+/// A notice, put into the queue.
+pub(crate) fn queue_put(state: &mut State, mem: &mut [u8], record: u8, payload: &[u8]) -> Result<(), Refusal> {
+    // SAFETY: see the head of this file.
+    let number =
+        unsafe { wx_queue_put(state.as_mut_ptr(), mem.as_mut_ptr(), mem.len(), record, payload.as_ptr(), payload.len()) };
+    refused(number, &[0; 5], 0)
+}
+
+/// 1, the oldest notice's table number, its payload's place and length; 0 from an empty queue.
+pub(crate) fn queue_take(state: &mut State, mem: &[u8]) -> Result<Out, Refusal> {
+    let mut out: Out = [0; 5];
+    // SAFETY: see the head of this file.
+    let number = unsafe { wx_queue_take(state.as_mut_ptr(), mem.as_ptr(), mem.len(), out.as_mut_ptr()) };
+    refused(number, &out, 0)?;
+    Ok(out)
+}
+
+/// The commit, digested and delivered.
+pub(crate) fn ingress_advance(
+    state: &mut State,
+    commit: usize,
+    table: &[u8],
+    buf: &mut [u8],
+    slot_mem: &mut [u8],
+    queue_mem: &mut [u8],
+) -> Result<(), Refusal> {
+    let mut out: Out = [0; 5];
+    // SAFETY: see the head of this file.
+    let number = unsafe {
+        wx_ingress_advance(
+            state.as_mut_ptr(),
+            commit,
+            table.as_ptr(),
+            table.len(),
+            buf.as_mut_ptr(),
+            buf.len(),
+            slot_mem.as_mut_ptr(),
+            slot_mem.len(),
+            queue_mem.as_mut_ptr(),
+            queue_mem.len(),
+            out.as_mut_ptr(),
+        )
+    };
+    refused(number, &out, commit)
+}
+
+/// A piece, copied in, digested and delivered: the bytes taken.
+pub(crate) fn ingress_write(
+    state: &mut State,
+    piece: &[u8],
+    table: &[u8],
+    buf: &mut [u8],
+    slot_mem: &mut [u8],
+    queue_mem: &mut [u8],
+) -> Result<usize, Refusal> {
+    let mut out: Out = [0; 5];
+    // SAFETY: see the head of this file.
+    let number = unsafe {
+        wx_ingress_write(
+            state.as_mut_ptr(),
+            piece.as_ptr(),
+            piece.len(),
+            table.as_ptr(),
+            table.len(),
+            buf.as_mut_ptr(),
+            buf.len(),
+            slot_mem.as_mut_ptr(),
+            slot_mem.len(),
+            queue_mem.as_mut_ptr(),
+            queue_mem.len(),
+            out.as_mut_ptr(),
+        )
+    };
+    refused(number, &out, out[0] as usize)?;
+    Ok(out[0] as usize)
+}
+
+/// The buffer's bytes, dropped.
+pub(crate) fn ingress_clear(state: &mut State) {
+    // SAFETY: see the head of this file.
+    unsafe { wx_ingress_clear(state.as_mut_ptr()) }
+}

@@ -1,0 +1,161 @@
+use crate::ffi::{self, State, END, START};
+use crate::{Digester, NoticeQueue, Refusal, ResponseSlot};
+
+/// Bytes from a modem go in; answers come out at [`res_slot`](Ingress::res_slot), notices at
+/// [`notices`](Ingress::notices).
+///
+/// It is the blocking half of atat's `Ingress`. All memory is lent at [`new`](Ingress::new): a buffer of up to 4,096
+/// bytes, the slot's memory (the longest answer) and the queue's (132 bytes a notice).
+///
+/// ```
+/// use walumbeex::{Digester, Ingress, Response, Table, Urc};
+///
+/// let (mut buf, mut answer, mut waiting) = ([0; 256], [0; 128], [0; 4 * 132]);
+/// let digester = Digester::new(Table::new(b"UR\x07+UUSORD").unwrap());
+/// let mut ingress = Ingress::new(digester, &mut buf, &mut answer, &mut waiting);
+///
+/// assert_eq!(ingress.try_write(b"\r\n+UUSORD: 0,4\r\nAT+CSQ\r\r\n+CSQ: 17"), Ok(33));
+/// assert_eq!(ingress.notices.take(), Ok(Some(Urc { record: 0, payload: b"+UUSORD: 0,4" })));
+/// assert_eq!(ingress.res_slot.try_get(), Ok(None));
+///
+/// assert_eq!(ingress.try_write(b",99\r\n\r\nOK\r\n"), Ok(11));
+/// assert_eq!(ingress.res_slot.try_get(), Ok(Some(Response::Ok(b"+CSQ: 17,99"))));
+/// ingress.res_slot.reset().unwrap();
+/// ```
+///
+/// # Going on after refusal 5
+///
+/// 1. [`Refusal::QueueFull`] says how many bytes of the piece were taken. Never offer those again.
+/// 2. Take a notice from the queue: that makes room.
+/// 3. `try_advance(0)`: it delivers the waiting notice, once, and goes on with what lies behind it.
+/// 4. Then write the rest of the piece; on refusal 5, begin again at 2.
+/// 5. A write that takes 0 of a piece that isn't empty has found no room. `try_advance(0)`; if that isn't refused and there
+///    is still no room, [`clear`](Ingress::clear): nothing in the buffer can be finished by a further byte.
+///
+/// ```
+/// use walumbeex::{Digester, Ingress, Refusal, Table, Urc};
+///
+/// let (mut buf, mut answer, mut waiting) = ([0; 64], [0; 64], [0; 132]);
+/// let digester = Digester::new(Table::new(b"UR\x04RING").unwrap());
+/// let mut ingress = Ingress::new(digester, &mut buf, &mut answer, &mut waiting);
+///
+/// let piece = b"\r\nRING\r\n\r\nRING\r\n";
+/// assert_eq!(ingress.try_write(piece), Err(Refusal::QueueFull { taken: 16 }));
+/// assert_eq!(ingress.notices.take(), Ok(Some(Urc { record: 0, payload: b"RING" })));
+/// assert_eq!(ingress.try_advance(0), Ok(()));
+/// assert_eq!(ingress.notices.take(), Ok(Some(Urc { record: 0, payload: b"RING" })));
+/// assert_eq!(ingress.notices.take(), Ok(None));
+/// ```
+#[derive(Debug)]
+pub struct Ingress<'a> {
+    digester: Digester<'a>,
+    buf: &'a mut [u8],
+    end: u64,
+    /// Where answers are delivered.
+    pub res_slot: ResponseSlot<'a>,
+    /// Where notices are delivered.
+    pub notices: NoticeQueue<'a>,
+}
+
+impl<'a> Ingress<'a> {
+    /// An ingress with nothing in its buffer, a free slot and an empty queue.
+    #[must_use]
+    pub fn new(digester: Digester<'a>, buf: &'a mut [u8], slot_mem: &'a mut [u8], queue_mem: &'a mut [u8]) -> Self {
+        Self { digester, buf, end: 0, res_slot: ResponseSlot::new(slot_mem), notices: NoticeQueue::new(queue_mem) }
+    }
+
+    /// An ingress that goes on from nine numbers that [`state`](Ingress::state) gave, over memory that was kept, such as
+    /// over a restart. Any nine numbers may be given: where they don't fit the memory, the calls refuse with 3.
+    ///
+    /// ```
+    /// use walumbeex::{Digester, Ingress};
+    /// let (mut buf, mut answer, mut waiting) = ([0; 64], [0; 64], [0; 132]);
+    /// let mut ingress = Ingress::new(Digester::default(), &mut buf, &mut answer, &mut waiting);
+    /// ingress.try_write(b"\r\nO").unwrap();
+    /// let kept = ingress.state();
+    ///
+    /// let mut ingress = Ingress::with_state(Digester::default(), kept, &mut buf, &mut answer, &mut waiting);
+    /// ingress.try_write(b"K\r\n").unwrap();
+    /// assert!(ingress.res_slot.signalled());
+    /// ```
+    #[must_use]
+    pub fn with_state(
+        digester: Digester<'a>,
+        state: [u64; 9],
+        buf: &'a mut [u8],
+        slot_mem: &'a mut [u8],
+        queue_mem: &'a mut [u8],
+    ) -> Self {
+        let mut ingress = Self::new(digester, buf, slot_mem, queue_mem);
+        ingress.put_state(state);
+        ingress
+    }
+
+    /// The nine numbers of the state: where the bytes in the buffer end; whether the slot is signalled, what it holds, the
+    /// answer's number, the payload's length, the answers lost; the queue's start, its count, the notices lost.
+    #[must_use]
+    pub fn state(&self) -> [u64; 9] {
+        let mut state: State = self.res_slot.state;
+        state[END] = self.end;
+        state[START..].copy_from_slice(&self.notices.state[START..]);
+        state
+    }
+
+    // The slot and the queue keep nine numbers each, of which they use their own.
+    fn put_state(&mut self, state: State) {
+        self.end = state[END];
+        self.res_slot.state = state;
+        self.notices.state = state;
+    }
+
+    /// The room behind the bytes in the buffer. Bytes written here must be committed by
+    /// [`try_advance`](Ingress::try_advance).
+    ///
+    /// ```
+    /// # use walumbeex::{Digester, Ingress};
+    /// # let (mut buf, mut answer, mut waiting) = ([0; 64], [0; 64], [0; 132]);
+    /// # let mut ingress = Ingress::new(Digester::default(), &mut buf, &mut answer, &mut waiting);
+    /// ingress.write_buf()[..6].copy_from_slice(b"\r\nOK\r\n");
+    /// ingress.try_advance(6).unwrap();
+    /// assert!(ingress.res_slot.signalled());
+    /// assert_eq!(ingress.write_buf().len(), 64);
+    /// ```
+    pub fn write_buf(&mut self) -> &mut [u8] {
+        self.buf.get_mut(self.end as usize..).unwrap_or_default()
+    }
+
+    /// Commits so many bytes of [`write_buf`](Ingress::write_buf), then digests and delivers all that is finished.
+    ///
+    /// Refused with 1 where the buffer is over 4,096 bytes, 2 where the table isn't good, 3 where the state doesn't fit,
+    /// 4 where the commit is more than the room, and 5 where a notice meets a full queue.
+    pub fn try_advance(&mut self, commit: usize) -> Result<(), Refusal> {
+        let mut state = self.state();
+        let done = ffi::ingress_advance(&mut state, commit, self.digester.table(), self.buf, self.res_slot.mem, self.notices.mem);
+        self.put_state(state);
+        done
+    }
+
+    /// Copies as much of a piece as fits, advances, and goes on until the piece is used up or there is no room: the bytes
+    /// taken.
+    ///
+    /// Refused with 1, 2, 3 and 5 as [`try_advance`](Ingress::try_advance); refusal 5 carries the bytes taken.
+    pub fn try_write(&mut self, piece: &[u8]) -> Result<usize, Refusal> {
+        let mut state = self.state();
+        let done = ffi::ingress_write(&mut state, piece, self.digester.table(), self.buf, self.res_slot.mem, self.notices.mem);
+        self.put_state(state);
+        done
+    }
+
+    /// Drops the bytes in the buffer, and nothing else.
+    pub fn clear(&mut self) {
+        let mut state = self.state();
+        ffi::ingress_clear(&mut state);
+        self.put_state(state);
+    }
+
+    /// The bytes in the buffer that aren't consumed yet.
+    #[must_use]
+    pub fn pending(&self) -> &[u8] {
+        self.buf.get(..self.end as usize).unwrap_or_default()
+    }
+}

@@ -1,0 +1,69 @@
+use core::fmt;
+
+/// Why a call was refused. Each refusal has a number, and is given exactly when its condition holds; where several hold,
+/// the lowest is given.
+///
+/// All but [`QueueFull`](Refusal::QueueFull) leave every byte and every number as it stood.
+///
+/// ```
+/// use walumbeex::Refusal;
+/// let r = Refusal::BadTable { record: 3 };
+/// assert_eq!(r.number(), 2);
+/// assert_eq!(r.to_string(), "refused 2: record 3 of the token table breaks a rule");
+/// ```
+#[derive(Debug, Clone, Copy, PartialEq, Eq)]
+pub enum Refusal {
+    /// 1: the input to digest, or the ingress' buffer, is over 4,096 bytes. (A piece given to `try_write` may be longer.)
+    TooLong,
+    /// 2: the token table breaks a rule.
+    BadTable {
+        /// The number of the first faulty record, from 0; 64 for a 65th record.
+        record: u8,
+    },
+    /// 3: numbers that don't fit their memory: the end is past the buffer, the stored length past the slot's memory, the
+    /// queue's start or count outside its bounds, or the record to be taken is damaged. Seen only with a state that was
+    /// put together by hand ([`Ingress::with_state`](crate::Ingress::with_state)).
+    BadState,
+    /// 4: the commit is more than the room in the buffer.
+    NoRoom,
+    /// 5: a notice meets a full queue. What came before it is delivered; the notice and what lay with it are still in the
+    /// buffer. Take a notice, then `try_advance(0)`.
+    QueueFull {
+        /// How many of the bytes offered were taken: never offer them again. For `try_write` the bytes of the piece that
+        /// are consumed or in the buffer, for `try_advance` the commit, for `NoticeQueue::put` 0.
+        taken: usize,
+    },
+}
+
+impl Refusal {
+    /// The refusal's number, 1 to 5.
+    #[must_use]
+    pub const fn number(&self) -> u8 {
+        match self {
+            Self::TooLong => 1,
+            Self::BadTable { .. } => 2,
+            Self::BadState => 3,
+            Self::NoRoom => 4,
+            Self::QueueFull { .. } => 5,
+        }
+    }
+}
+
+impl fmt::Display for Refusal {
+    fn fmt(&self, f: &mut fmt::Formatter<'_>) -> fmt::Result {
+        write!(f, "refused {}: ", self.number())?;
+        match self {
+            Self::TooLong => f.write_str("the input or the buffer is over 4,096 bytes"),
+            Self::BadTable { record: 64 } => f.write_str("the token table has over 64 records"),
+            Self::BadTable { record } => write!(f, "record {record} of the token table breaks a rule"),
+            Self::BadState => f.write_str("the numbers of the state don't fit the memory lent"),
+            Self::NoRoom => f.write_str("the commit is more than the room in the buffer"),
+            Self::QueueFull { taken } => write!(
+                f,
+                "the notice queue is full ({taken} bytes were taken and must not be offered again; take a notice, then advance by 0)"
+            ),
+        }
+    }
+}
+
+impl core::error::Error for Refusal {}

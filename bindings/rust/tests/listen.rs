@@ -1,0 +1,119 @@
+//! The program examples/listen.rs, from standard input and from a device.
+
+mod pty;
+
+use std::io::{BufRead, BufReader, Write};
+use std::path::PathBuf;
+use std::process::{Command, Output, Stdio};
+use std::sync::mpsc;
+use std::thread;
+use std::time::Duration;
+
+/// `cargo test` builds the examples, two folders up from this test's own program.
+fn program() -> Command {
+    let mut path: PathBuf = std::env::current_exe().unwrap();
+    path.pop();
+    path.pop();
+    path.push("examples/listen");
+    assert!(
+        path.is_file(),
+        "the example isn't built: `cargo build --example listen` builds it, and so does a plain `cargo test`"
+    );
+    Command::new(path)
+}
+
+fn listen(words: &[&str], input: &[u8]) -> Output {
+    let mut child = program().args(words).stdin(Stdio::piped()).stdout(Stdio::piped()).stderr(Stdio::piped()).spawn().unwrap();
+    // It may have stopped before it read anything.
+    let _ = child.stdin.take().unwrap().write_all(input);
+    child.wait_with_output().unwrap()
+}
+
+#[test]
+fn a_capture_from_standard_input() {
+    let said = listen(&["-"], b"AT+CSQ\r\r\n+CSQ: 17,99\r\n\r\nOK\r\n\r\n> ");
+    assert_eq!(String::from_utf8_lossy(&said.stdout), "ok          +CSQ: 17,99\nprompt      >\n");
+    assert_eq!((said.stderr.len(), said.status.code()), (0, Some(0)));
+}
+
+#[test]
+fn each_notice_once_whatever_the_queue_holds() {
+    let mut input = Vec::new();
+    let mut expected = String::new();
+    for n in 0..100 {
+        input.extend_from_slice(format!("\r\n+CREG: {n}\r\n").as_bytes());
+        expected.push_str(&format!("notice      +CREG: {n}\n"));
+    }
+    input.extend_from_slice(b"\r\nBUSY\r\n\r\nhalf");
+    expected.push_str("connection  Busy\n");
+    let said = listen(&["-", "RING", "+CREG"], &input);
+    assert_eq!(String::from_utf8_lossy(&said.stdout), expected);
+    assert_eq!(said.status.code(), Some(0));
+    let errors = String::from_utf8_lossy(&said.stderr);
+    assert!(errors.contains("listen: refused 5: the notice queue is full"), "{errors}");
+    assert!(errors.ends_with("listen: unfinished at the end: \\r\\nhalf\n"), "{errors}");
+}
+
+#[test]
+fn bytes_that_nothing_finishes_are_dropped_and_it_goes_on() {
+    let mut input = vec![b'a'; 5000];
+    input.extend_from_slice(b"\r\nOK\r\n");
+    let said = listen(&["-"], &input);
+    // The echo before the first CRLF is no part of an answer.
+    assert_eq!(String::from_utf8_lossy(&said.stdout), "ok          \n");
+    let errors = String::from_utf8_lossy(&said.stderr);
+    assert_eq!(errors, "listen: the buffer is full and nothing in it is finished: 4096 bytes dropped\n");
+}
+
+#[test]
+fn wrong_usage() {
+    for (words, status, what) in [
+        (&[][..], 2, "listen: no device was named; usage: listen DEVICE"),
+        (&["/no/such/device"], 1, "listen: /no/such/device: "),
+        (&["-", "RING", " x"], 1, "listen: notice \" x\": byte 0 of the text"),
+    ] {
+        let said = listen(words, b"");
+        let errors = String::from_utf8_lossy(&said.stderr);
+        assert!(errors.starts_with(what) && errors.lines().count() == 1, "{errors}");
+        assert_eq!((said.status.code(), said.stdout.len()), (Some(status), 0));
+    }
+}
+
+/// Each line is printed when it is heard, while the device is still open; when the modem hangs up, the program ends.
+#[test]
+fn a_device_as_it_speaks() {
+    let (mut modem, host, path) = pty::pseudo_terminal();
+    let mut child = program().args([&path, "RING"]).stdout(Stdio::piped()).spawn().unwrap();
+    let lines = BufReader::new(child.stdout.take().unwrap()).lines();
+    let (sender, heard) = mpsc::channel();
+    let reader = thread::spawn(move || lines.map_while(Result::ok).for_each(|line| sender.send(line).unwrap_or(())));
+    let patience = Duration::from_secs(20);
+
+    let mut wrong = Vec::new();
+    for (bytes, line) in [
+        (&b"\r\nRING\r\n"[..], "notice      RING"),
+        (b"ATD1\r\r\nNO CARRIER\r\n", "connection  No carrier"),
+        (b"AT+CMGS=1\r\r\n> ", "prompt      >"),
+        (b"\r\n+CMS ERROR: 500\r\n", "cms error   500"),
+    ] {
+        for piece in bytes.chunks(3) {
+            modem.write_all(piece).unwrap();
+        }
+        match heard.recv_timeout(patience) {
+            Ok(said) if said == line => {}
+            other => {
+                wrong.push(format!("{other:?} in the place of {line}"));
+                break;
+            }
+        }
+    }
+    drop(host);
+    drop(modem);
+    if heard.recv_timeout(patience) != Err(mpsc::RecvTimeoutError::Disconnected) {
+        wrong.push("it didn't end when the modem hung up".to_owned());
+        child.kill().unwrap();
+    }
+    child.wait().unwrap();
+    reader.join().unwrap();
+    assert!(wrong.is_empty(), "{wrong:?}");
+}

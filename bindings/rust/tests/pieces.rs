@@ -1,0 +1,297 @@
+//! Random bytes, in random pieces, through the ingress: after each call its answer, its buffer, slot and queue are what
+//! digesting by hand makes of them.
+
+use std::collections::VecDeque;
+use walumbeex::{DigestResult, Digester, Ingress, InternalError, Refusal, Response, Table, NOTICE_RECORD};
+
+/// A small generator (splitmix64).
+struct Random(u64);
+
+impl Random {
+    fn next(&mut self) -> u64 {
+        self.0 = self.0.wrapping_add(0x9E37_79B9_7F4A_7C15);
+        let mut z = self.0;
+        z = (z ^ (z >> 30)).wrapping_mul(0xBF58_476D_1CE4_E5B9);
+        z = (z ^ (z >> 27)).wrapping_mul(0x94D0_49BB_1331_11EB);
+        z ^ (z >> 31)
+    }
+
+    fn below(&mut self, n: usize) -> usize {
+        (self.next() % n as u64) as usize
+    }
+
+    fn one_of<'a>(&mut self, from: &[&'a [u8]]) -> &'a [u8] {
+        from[self.below(from.len())]
+    }
+}
+
+const TABLES: [&[u8]; 4] =
+    [b"", b"UR\x07+UUSORD", b"UR\x04RINGUR\x07+UUSORDCS\x05READYCE\x05FAULTCP$\x05SEND:", b"CE\x02+CUR\x02+CUR\x05+CREG"];
+
+const ITEMS: [&[u8]; 30] = [
+    b"\r\nOK\r\n",
+    b"\r\nERROR\r\n",
+    b"\r\n+CSQ: 17,99\r\n",
+    b"\r\n+CME ERROR: 10\r\n",
+    b"\r\n+CMS ERROR:\t65535\n",
+    b"\r\n+CME ERROR: 65536\r\n",
+    b"\r\nMODEM ERROR: 1\r\n",
+    b"\r\nNO CARRIER\r\n",
+    b"\r\nBUSY\r\n",
+    b"\r\nNO ANSWER\r\n",
+    b"\r\nNO DIALTONE\r\n",
+    b"\r\nNA\r\n",
+    b"\r\nCONNECT\r\n",
+    b"\r\nCOMMAND NOT SUPPORT\r\n",
+    b"\r\n> ",
+    b"\r\n@",
+    b">",
+    b"AT+CSQ\r\r\n",
+    b"\r\nRING\r\n",
+    b"\r\n+UUSORD: 0,4\r\n",
+    b"\n+UUSORD\r\n",
+    b"\r\n+UUSORD:",
+    b"\r\nREADY\r\n",
+    b"\r\nFAULT\r\n",
+    b"\r\nSEND:",
+    b"\r\n+CREG: 1\r\n",
+    b"\r\n+C\r\n",
+    b"\r\n",
+    b" ",
+    b"a",
+];
+
+/// What an ingress does, said with a digester and the standard library's types.
+struct Hand<'t> {
+    digester: Digester<'t>,
+    size: usize,
+    slot_size: usize,
+    queue_size: usize,
+    buf: Vec<u8>,
+    slot: Option<String>,
+    slot_lost: u64,
+    queue: VecDeque<(u8, Vec<u8>)>,
+    queue_lost: u64,
+}
+
+/// How a slot of so many bytes reads after an answer.
+fn reading(result: DigestResult<'_>, slot_size: usize) -> String {
+    let response = match result {
+        DigestResult::Response(Ok(p)) if p.len() > slot_size => Response::CapacityError,
+        DigestResult::Response(Ok(p)) => Response::Ok(p),
+        DigestResult::Prompt(b) => Response::Prompt(b),
+        DigestResult::Response(Err(e)) => match e {
+            InternalError::Error => Response::OtherError,
+            InternalError::CmeError(n) => Response::CmeError(n),
+            InternalError::CmsError(n) => Response::CmsError(n),
+            InternalError::Unknown => Response::UnknownError,
+            InternalError::NotAllowed => Response::NotAllowedError,
+            InternalError::ConnectionError(e) => Response::ConnectionError(e),
+            InternalError::Custom { text, .. } if text.len() > slot_size => Response::CapacityError,
+            InternalError::Custom { record, text } => Response::CustomError { record, text },
+        },
+        DigestResult::None | DigestResult::Urc(_) => unreachable!(),
+    };
+    format!("{response:?}")
+}
+
+impl Hand<'_> {
+    fn advance(&mut self, bytes: &[u8]) -> Result<(), Refusal> {
+        self.buf.extend_from_slice(bytes);
+        loop {
+            let (result, consumed) = self.digester.digest(&self.buf)?;
+            match result {
+                DigestResult::None => {}
+                DigestResult::Urc(urc) => {
+                    if urc.payload.is_empty() || urc.payload.len() > 128 {
+                        self.queue_lost += 1;
+                    } else if self.queue.len() == self.queue_size {
+                        return Err(Refusal::QueueFull { taken: bytes.len() });
+                    } else {
+                        self.queue.push_back((urc.record, urc.payload.to_vec()));
+                    }
+                }
+                _ if self.slot.is_some() => self.slot_lost += 1,
+                _ => self.slot = Some(reading(result, self.slot_size)),
+            }
+            self.buf.drain(..consumed);
+            if consumed == 0 || self.buf.is_empty() {
+                return Ok(());
+            }
+        }
+    }
+
+    fn write(&mut self, piece: &[u8]) -> Result<usize, Refusal> {
+        let mut taken = 0;
+        while taken < piece.len() && self.buf.len() < self.size {
+            let n = usize::min(piece.len() - taken, self.size - self.buf.len());
+            let done = self.advance(&piece[taken..taken + n]);
+            taken += n;
+            done.map_err(|_| Refusal::QueueFull { taken })?;
+        }
+        Ok(taken)
+    }
+}
+
+/// What was met on the way, so that the test can say that it tried something.
+#[derive(Default, Debug)]
+struct Met {
+    calls: u64,
+    answers: u64,
+    answers_lost: u64,
+    notices: u64,
+    notices_lost: u64,
+    full: u64,
+    no_room: u64,
+    cleared: u64,
+}
+
+fn run(seed: u64, met: &mut Met) {
+    let mut r = Random(seed);
+    let digester = Digester::new(Table::new(r.one_of(&TABLES)).unwrap());
+    let (size, slot_size, queue_size) = (r.below(300), r.below(40), r.below(4));
+    let mut memory = (vec![0; size], vec![0; slot_size], vec![0; queue_size * NOTICE_RECORD + r.below(NOTICE_RECORD)]);
+    let mut ingress = Ingress::new(digester, &mut memory.0, &mut memory.1, &mut memory.2);
+    let mut hand = Hand {
+        digester,
+        size,
+        slot_size,
+        queue_size,
+        buf: Vec::new(),
+        slot: None,
+        slot_lost: 0,
+        queue: VecDeque::new(),
+        queue_lost: 0,
+    };
+
+    let mut bytes = Vec::new();
+    for _ in 0..r.below(30) {
+        match r.below(12) {
+            0 => bytes.extend((0..r.below(6)).map(|_| r.next() as u8)),
+            1 => {
+                bytes.extend_from_slice(b"\r\n+UUSORD: ");
+                bytes.resize(bytes.len() + 110 + r.below(20), b'x');
+                bytes.extend_from_slice(b"\r\n");
+            }
+            _ => bytes.extend_from_slice(r.one_of(&ITEMS)),
+        }
+    }
+
+    let mut rest = &bytes[..];
+    let mut turns = 0;
+    while !rest.is_empty() && turns < 500 {
+        turns += 1;
+        met.calls += 1;
+        let piece = &rest[..usize::min(rest.len(), 1 + r.below(if turns % 5 == 0 { 60 } else { 7 }))];
+        match r.below(8) {
+            // By the buffer and a commit; what doesn't fit comes later.
+            0..=2 => {
+                let room = ingress.write_buf();
+                let n = usize::min(piece.len(), room.len());
+                room[..n].copy_from_slice(&piece[..n]);
+                let said = ingress.try_advance(n);
+                met.full += u64::from(said.is_err());
+                assert_eq!(said, hand.advance(&piece[..n]), "seed {seed}");
+                rest = &rest[n..];
+            }
+            3..=5 => {
+                let said = ingress.try_write(piece);
+                assert_eq!(said, hand.write(piece), "seed {seed}");
+                let taken = match said {
+                    Ok(taken) => taken,
+                    Err(Refusal::QueueFull { taken }) => {
+                        met.full += 1;
+                        taken
+                    }
+                    Err(other) => panic!("seed {seed}: {other}"),
+                };
+                met.no_room += u64::from(taken < piece.len());
+                rest = &rest[taken..];
+            }
+            6 => match ingress.notices.take().unwrap() {
+                None => assert_eq!(hand.queue.pop_front(), None, "seed {seed}"),
+                Some(urc) => {
+                    met.notices += 1;
+                    assert_eq!(hand.queue.pop_front(), Some((urc.record, urc.payload.to_vec())), "seed {seed}");
+                }
+            },
+            // Now and then, and where no room is left.
+            _ if r.below(20) == 0 || hand.buf.len() == size => {
+                met.cleared += 1;
+                ingress.clear();
+                hand.buf.clear();
+            }
+            _ => {
+                met.answers += u64::from(hand.slot.is_some());
+                ingress.res_slot.reset().unwrap();
+                hand.slot = None;
+            }
+        }
+        assert_eq!(ingress.pending(), hand.buf, "seed {seed}");
+        assert_eq!(ingress.write_buf().len(), size - hand.buf.len(), "seed {seed}");
+        let held = ingress.res_slot.try_get().unwrap().map(|response| format!("{response:?}"));
+        assert_eq!(held, hand.slot, "seed {seed}");
+        assert_eq!(ingress.res_slot.lost(), hand.slot_lost, "seed {seed}");
+        assert_eq!(ingress.notices.len(), hand.queue.len(), "seed {seed}");
+        assert_eq!(ingress.notices.lost(), hand.queue_lost, "seed {seed}");
+    }
+    met.answers_lost += hand.slot_lost;
+    met.notices_lost += hand.queue_lost;
+}
+
+#[test]
+fn pieces_through_the_ingress_are_what_digesting_by_hand_makes_of_them() {
+    let fresh = std::time::UNIX_EPOCH.elapsed().map_or(0, |t| t.as_nanos() as u64);
+    let mut met = Met::default();
+    for n in 0..3000 {
+        run(n, &mut met);
+        run(fresh.wrapping_add(n), &mut met);
+    }
+    println!("fresh seeds from {fresh}: {met:?}");
+    let all = [met.answers, met.answers_lost, met.notices, met.notices_lost, met.full, met.no_room, met.cleared];
+    assert!(all.iter().all(|&n| n > 100), "too few of something: {met:?}");
+}
+
+/// Answers that end in OK, notices between them and an error at the end don't hang on where the pieces are cut: the ingress
+/// hears what digesting the whole capture hears. (An error before an OK would: digested whole, the OK wins.)
+#[test]
+fn a_capture_is_heard_the_same_however_it_is_cut() {
+    let capture = b"AT+CSQ\r\r\n+CSQ: 17,99\r\n\r\nOK\r\n\r\n+UUSORD: 0,4\r\nAT+COPS?\r\r\n+COPS: 0\r\n\r\nOK\r\n\r\n+UUSORD\r\n\r\nOK\r\nATD1\r\r\nNO CARRIER\r\n";
+    let digester = Digester::new(Table::new(TABLES[1]).unwrap());
+    let mut whole = Vec::new();
+    let mut rest = &capture[..];
+    while !rest.is_empty() {
+        let (result, consumed) = digester.digest(rest).unwrap();
+        assert!(consumed > 0);
+        match result {
+            DigestResult::Urc(urc) => whole.push(format!("{urc:?}")),
+            DigestResult::None => {}
+            _ => whole.push(reading(result, 64)),
+        }
+        rest = &rest[consumed..];
+    }
+    assert_eq!(whole.len(), 6, "{whole:?}");
+
+    let mut r = Random(7);
+    for round in 0..500 {
+        let (mut buf, mut slot_mem, mut queue_mem) = ([0; 128], [0; 64], [0; NOTICE_RECORD]);
+        let mut ingress = Ingress::new(digester, &mut buf, &mut slot_mem, &mut queue_mem);
+        let mut heard = Vec::new();
+        let mut rest = &capture[..];
+        while !rest.is_empty() {
+            // Short enough that no piece ends two items: the slot holds one answer.
+            let n = usize::min(rest.len(), if round == 0 { 1 } else { 1 + r.below(5) });
+            assert_eq!(ingress.try_write(&rest[..n]), Ok(n));
+            rest = &rest[n..];
+            if let Some(urc) = ingress.notices.take().unwrap() {
+                heard.push(format!("{urc:?}"));
+            }
+            if let Some(response) = ingress.res_slot.try_get().unwrap() {
+                heard.push(format!("{response:?}"));
+                ingress.res_slot.reset().unwrap();
+            }
+        }
+        assert_eq!((ingress.res_slot.lost(), ingress.pending()), (0, &b""[..]));
+        assert_eq!(heard, whole, "round {round}");
+    }
+}

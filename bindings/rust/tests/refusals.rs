@@ -1,0 +1,208 @@
+//! Refusals 1 to 5: exactly when, what they carry, and what they leave.
+
+use walumbeex::{
+    DigestResult, Digester, Ingress, NoticeQueue, Refusal, Response, ResponseSlot, Table, TableBuilder, TableError, Urc,
+    LONGEST_INPUT, MOST_RECORDS, NOTICE_RECORD,
+};
+
+fn ring() -> Digester<'static> {
+    Digester::new(Table::new(b"UR\x04RING").unwrap())
+}
+
+fn bad() -> Digester<'static> {
+    Digester::unchecked(b"UR\x04RINGUR\x00")
+}
+
+#[test]
+fn one_an_input_or_buffer_over_4096_bytes() {
+    let long = [b'a'; LONGEST_INPUT + 1];
+    let digester = Digester::default();
+    assert_eq!(digester.digest(&long[1..]), Ok((DigestResult::None, 0)));
+    assert_eq!(digester.digest(&long), Err(Refusal::TooLong));
+    // The lowest number is given.
+    assert_eq!(bad().digest(&long), Err(Refusal::TooLong));
+
+    let mut buf = long;
+    let mut ingress = Ingress::new(digester, &mut buf, &mut [], &mut []);
+    assert_eq!(ingress.try_write(b"x"), Err(Refusal::TooLong));
+    assert_eq!(ingress.try_advance(9999), Err(Refusal::TooLong));
+    assert_eq!(ingress.state(), [0, 0, 1, 0, 0, 0, 0, 0, 0]);
+
+    // A piece may be longer than a buffer.
+    let piece: Vec<u8> = b"\r\n+CSQ: 17,99\r\n\r\nOK\r\n".repeat(300);
+    let (mut buf, mut slot_mem) = ([0; LONGEST_INPUT], [0; LONGEST_INPUT]);
+    let mut ingress = Ingress::new(digester, &mut buf, &mut slot_mem, &mut []);
+    assert!(piece.len() > LONGEST_INPUT);
+    assert_eq!(ingress.try_write(&piece), Ok(piece.len()));
+    assert_eq!(ingress.res_slot.try_get(), Ok(Some(Response::Ok(b"+CSQ: 17,99"))));
+    assert_eq!(ingress.res_slot.lost(), 299);
+}
+
+#[test]
+fn two_a_faulty_table_with_the_record() {
+    assert_eq!(bad().digest(b"\r\nOK\r\n"), Err(Refusal::BadTable { record: 1 }));
+    for (table, record) in [
+        (&b"XX\x04RING"[..], 0),
+        (b"UR\x04RIN", 0),
+        (b"UR\x04RINGU", 1),
+        (b"UR\x04RINGUR\x05 RING", 1),
+        (b"UR\x04RINGCP>\x00", 1),
+    ] {
+        assert_eq!(Table::new(table), Err(Refusal::BadTable { record }), "{}", table.escape_ascii());
+    }
+    let mut many = b"UR\x01a".repeat(MOST_RECORDS);
+    assert_eq!(Table::new(&many).unwrap().records(), 64);
+    many.extend_from_slice(b"UR\x01a");
+    let refusal = Table::new(&many).unwrap_err();
+    assert_eq!(refusal, Refusal::BadTable { record: 64 });
+    assert_eq!(refusal.to_string(), "refused 2: the token table has over 64 records");
+
+    let mut buf = *b"\r\nOK\r\n";
+    let mut ingress = Ingress::new(bad(), &mut buf, &mut [], &mut []);
+    assert_eq!(ingress.try_advance(6), Err(Refusal::BadTable { record: 1 }));
+    assert_eq!(ingress.try_write(b"x"), Err(Refusal::BadTable { record: 1 }));
+    assert_eq!(ingress.write_buf(), b"\r\nOK\r\n");
+}
+
+#[test]
+fn three_numbers_that_dont_fit() {
+    let new = [0, 0, 1, 0, 0, 0, 0, 0, 0];
+    // The end is past the buffer; a stored length past the slot's memory; the queue's start; its count.
+    for (place, number) in [(0, 9), (4, 5), (6, 2), (7, 3)] {
+        let mut state = new;
+        state[place] = number;
+        let (mut buf, mut slot_mem, mut queue_mem) = ([7; 8], [8; 4], [9; 2 * NOTICE_RECORD]);
+        let mut ingress = Ingress::with_state(ring(), state, &mut buf, &mut slot_mem, &mut queue_mem);
+        assert_eq!(ingress.try_advance(0), Err(Refusal::BadState), "number {place}");
+        assert_eq!(ingress.try_write(b"\r\nOK\r\n"), Err(Refusal::BadState), "number {place}");
+        assert_eq!(ingress.res_slot.try_get().is_err(), place == 4);
+        assert_eq!(ingress.res_slot.reset().is_err(), place == 4);
+        assert_eq!(ingress.res_slot.signal(&DigestResult::Prompt(b'>')).is_err(), place == 4);
+        assert_eq!(ingress.notices.take().is_err(), place >= 6);
+        assert_eq!(ingress.notices.put(0, b"x").is_err(), place >= 6);
+        if place == 0 {
+            assert_eq!((ingress.write_buf().len(), ingress.pending().len()), (0, 0));
+            ingress.clear();
+            assert_eq!(ingress.try_advance(0), Ok(()));
+        } else {
+            assert_eq!(ingress.state()[place], number);
+            assert_eq!(buf, [7; 8]);
+        }
+    }
+    // The record to be taken has a wrong mark, or a wrong length; another damaged record is no matter.
+    for (damage, byte, refused) in [(0, b'u', true), (3, 0, true), (3, 129, true), (132, b'u', false), (3, 128, false)] {
+        let mut queue_mem = [0; 2 * NOTICE_RECORD];
+        let mut queue = NoticeQueue::new(&mut queue_mem);
+        queue.put(0, b"RING").unwrap();
+        queue.put(0, b"RING").unwrap();
+        queue_mem[damage] = byte;
+        let (mut buf, mut slot_mem) = ([0; 8], [0; 4]);
+        let state = [0, 0, 1, 0, 0, 0, 0, 2, 0];
+        let mut ingress = Ingress::with_state(ring(), state, &mut buf, &mut slot_mem, &mut queue_mem);
+        let taken = ingress.notices.take();
+        assert_eq!(taken == Err(Refusal::BadState), refused, "byte {damage} made {byte}: {taken:?}");
+        assert_eq!(ingress.notices.len(), if refused { 2 } else { 1 });
+    }
+}
+
+#[test]
+fn four_a_commit_over_the_room() {
+    let (mut buf, mut slot_mem) = ([0; 8], [0; 8]);
+    let mut ingress = Ingress::new(ring(), &mut buf, &mut slot_mem, &mut []);
+    assert_eq!(ingress.try_write(b"abc"), Ok(3));
+    for commit in [6, 7, usize::MAX] {
+        assert_eq!(ingress.try_advance(commit), Err(Refusal::NoRoom));
+    }
+    assert_eq!(ingress.pending(), b"abc");
+    assert_eq!(ingress.try_advance(5), Ok(()));
+    assert_eq!(ingress.write_buf(), b"");
+    // No room: a write takes nothing, and says so.
+    assert_eq!(ingress.try_write(b"d"), Ok(0));
+    ingress.clear();
+    assert_eq!(ingress.write_buf().len(), 8);
+}
+
+#[test]
+fn five_a_notice_meets_a_full_queue() {
+    let (mut buf, mut slot_mem, mut queue_mem) = ([0; 12], [0; 8], [0; NOTICE_RECORD]);
+    let mut ingress = Ingress::new(ring(), &mut buf, &mut slot_mem, &mut queue_mem);
+    // The buffer has room for 12: the first copy brings a notice and a half, the second the rest of it and more.
+    let piece = b"\r\nRING\r\n\r\nRING\r\n\r\nOK\r\n";
+    let refusal = ingress.try_write(piece).unwrap_err();
+    let Refusal::QueueFull { taken } = refusal else { panic!("{refusal}") };
+    assert_eq!(taken, 20);
+    assert_eq!(ingress.pending(), &piece[8..20]);
+    assert!(!ingress.res_slot.signalled());
+    assert_eq!(refusal.number(), 5);
+    assert!(refusal.to_string().starts_with("refused 5: the notice queue is full (20 bytes were taken"));
+    // The same again: nothing moves.
+    assert_eq!(ingress.try_advance(0), Err(Refusal::QueueFull { taken: 0 }));
+    assert_eq!(ingress.try_write(&piece[taken..]), Ok(0));
+
+    let urc = Urc { record: 0, payload: b"RING" };
+    assert_eq!(ingress.notices.take(), Ok(Some(urc)));
+    assert_eq!(ingress.try_advance(0), Ok(()));
+    assert_eq!(ingress.try_write(&piece[taken..]), Ok(2));
+    assert_eq!(ingress.notices.take(), Ok(Some(urc)));
+    assert_eq!(ingress.notices.take(), Ok(None));
+    assert_eq!(ingress.res_slot.try_get(), Ok(Some(Response::Ok(b""))));
+    assert_eq!(ingress.pending(), b"");
+
+    // Through try_advance the commit is what was taken.
+    ingress.notices.put(0, b"RING").unwrap();
+    ingress.write_buf()[..8].copy_from_slice(b"\r\nRING\r\n");
+    assert_eq!(ingress.try_advance(8), Err(Refusal::QueueFull { taken: 8 }));
+    assert_eq!(ingress.pending(), b"\r\nRING\r\n");
+}
+
+#[test]
+fn a_notice_that_no_queue_holds_is_lost() {
+    let mut queue_mem = [0; NOTICE_RECORD];
+    let mut queue = NoticeQueue::new(&mut queue_mem);
+    queue.put(0, &[b'a'; 128]).unwrap();
+    // Lost also where the queue is full.
+    queue.put(0, &[b'a'; 129]).unwrap();
+    queue.put(0, b"").unwrap();
+    assert_eq!((queue.len(), queue.lost(), queue.capacity()), (1, 2, 1));
+    assert_eq!(queue.take().unwrap().unwrap().payload, &[b'a'; 128]);
+    assert!(queue.is_empty());
+    assert_eq!(NoticeQueue::new(&mut vec![0; 17 * NOTICE_RECORD]).capacity(), 16);
+    assert_eq!(NoticeQueue::new(&mut [0; 131]).capacity(), 0);
+}
+
+#[test]
+fn a_slot_too_small_reads_capacity_error() {
+    let mut slot_mem = [b'z'; 4];
+    let mut slot = ResponseSlot::new(&mut slot_mem);
+    slot.signal(&DigestResult::Response(Ok(b"12345"))).unwrap();
+    assert_eq!(slot.try_get(), Ok(Some(Response::CapacityError)));
+    slot.reset().unwrap();
+    slot.signal(&DigestResult::None).unwrap();
+    slot.signal(&DigestResult::Urc(Urc { record: 0, payload: b"RING" })).unwrap();
+    assert_eq!((slot.signalled(), slot.lost()), (false, 0));
+    slot.signal(&DigestResult::Response(Ok(b"1234"))).unwrap();
+    assert_eq!(slot.try_get(), Ok(Some(Response::Ok(b"1234"))));
+}
+
+#[test]
+fn the_builder_refuses_what_the_table_would() {
+    let mut memory = [0; 20];
+    let mut builder = TableBuilder::new(&mut memory);
+    assert_eq!(builder.urc(b""), Err(TableError::TextLength(0)));
+    assert_eq!(builder.urc(&[b'a'; 33]), Err(TableError::TextLength(33)));
+    assert_eq!(builder.urc(b"a "), Err(TableError::TextByte(1)));
+    assert_eq!(builder.urc(b"a\x7fb"), Err(TableError::TextByte(1)));
+    assert_eq!(builder.custom_prompt(0xFF, b"a b"), Ok(0));
+    assert_eq!(builder.urc(b"0123456789"), Ok(1));
+    assert_eq!(builder.urc(b"a"), Err(TableError::MemoryFull(4)));
+    let table = builder.finish();
+    assert_eq!(table.as_bytes(), b"CP\xFF\x03a bUR\x0A0123456789");
+    assert_eq!(Table::new(table.as_bytes()), Ok(table));
+
+    let mut memory = [0; 300];
+    let mut builder = TableBuilder::new(&mut memory);
+    for number in 0..64 {
+        assert_eq!(builder.custom_error(b"a"), Ok(number));
+    }
+    assert_eq!(builder.custom_error(b"a"), Err(TableError::TooManyRecords));
+}
