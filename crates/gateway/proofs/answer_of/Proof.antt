@@ -1,0 +1,47 @@
+-- `answer_of` meets its contract. Assumes nothing.
+use Prim.Native.Nat.{_-_}
+use Rattle.gateway.specs.Laws.{answer-is}
+use borrow.Author.Needs.{needs}
+use Rattle.gateway.proofs.answer_of.Statement.{statement}
+use Rattle.gateway.proofs.answer_of.Tie as tie
+
+element-copy-out-kind-of : tie.Need-element-copy-out-kind-of
+element-copy-out-kind-of c = search needs
+
+kind-of-requires : tie.Need-kind-of-requires
+kind-of-requires c κs = search needs
+
+element-copy-out-word : tie.Need-element-copy-out-word
+element-copy-out-word c = search needs
+
+word-requires : tie.Need-word-requires
+word-requires c κs = search needs
+
+element-copy-out-t12 : tie.Need-element-copy-out-t12
+element-copy-out-t12 c = search needs
+
+element-copy-out-t16 : tie.Need-element-copy-out-t16
+element-copy-out-t16 c = search needs
+
+element-copy-out-t20 : tie.Need-element-copy-out-t20
+element-copy-out-t20 c = search needs
+
+returns : tie.Need-returns
+returns c =
+    let args = c .before .before .before .before .before .before .before .args in
+    let kind-of = c .before .before .before .before .before .kind-of in
+    let word = c .before .before .before .word in
+    answer-is (args .answer .now) _ (kind-of .ensures) _ (word .ensures)
+
+pub answer-of-spec : {M : Type 1} → statement M
+answer-of-spec =
+    tie.close
+    (tie.spec
+    element-copy-out-kind-of
+    kind-of-requires
+    element-copy-out-word
+    word-requires
+    element-copy-out-t12
+    element-copy-out-t16
+    element-copy-out-t20
+    returns)

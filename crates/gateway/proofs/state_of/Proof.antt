@@ -1,0 +1,23 @@
+-- `state_of` meets its contract. Assumes nothing.
+use Prim.Native.Nat.{_-_}
+use Rattle.gateway.specs.Laws.{state-is}
+use borrow.Author.Needs.{needs}
+use Rattle.gateway.proofs.state_of.Statement.{statement}
+use Rattle.gateway.proofs.state_of.Tie as tie
+
+element-copy-out-t4 : tie.Need-element-copy-out-t4
+element-copy-out-t4 c = search needs
+
+slot-of-requires : tie.Need-slot-of-requires
+slot-of-requires c κs = search needs
+
+queue-of-requires : tie.Need-queue-of-requires
+queue-of-requires c κs = search needs
+
+returns : tie.Need-returns
+returns c =
+    let args = c .before .before .before .args in
+    state-is (args .state .now) _ (c .before .slot-of .ensures) _ (c .queue-of .ensures)
+
+pub state-of-spec : {M : Type 1} → statement M
+state-of-spec = tie.close (tie.spec element-copy-out-t4 slot-of-requires queue-of-requires returns)

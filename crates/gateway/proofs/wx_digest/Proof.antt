@@ -1,0 +1,60 @@
+-- `wx_digest` meets its contract: it equals `digest::digest`. Assumes nothing.
+use mathlib.Core.Path.{refl, sym, ap, _∙_}
+use Prim.Native.Nat.{_-_}
+use Rattle.table.specs.Table.{outcome}
+use Rattle.gateway.specs.Gateway.{answerValues}
+use Rattle.gateway.specs.Laws.{says}
+use borrow.Author.Needs.{needs}
+use Rattle.gateway.proofs.wx_digest.Statement.{statement}
+use Rattle.digest.specs.Digest as digests
+use Rattle.gateway.proofs.wx_digest.Tie as tie
+
+digest-requires : tie.Need-digest-requires
+digest-requires c κs = search needs
+
+enum-known-a : tie.Need-enum-known-a
+enum-known-a c = search needs
+
+lay-answer-requires : tie.Need-lay-answer-requires
+lay-answer-requires c κs = search needs
+
+enum-told : tie.Need-enum-told
+enum-told c = search needs
+
+enum-known-k : tie.Need-enum-known-k
+enum-known-k c = search needs
+
+lay-one-requires : tie.Need-lay-one-requires
+lay-one-requires c κs = search needs
+
+returns : tie.Need-returns
+returns c =
+    let digest = c .before .before .before .before .before .digest in
+    let a = c .before .before .before .a in
+    says answerValues _ _ _ (ap digests.outcome (sym (a .given .1)) ∙ digest .ensures .0) _ (c .lay-answer .ensures)
+
+returns-2 : tie.Need-returns-2
+returns-2 c =
+    let args = c .before .before .before .before .before .args in
+    let digest = c .before .before .digest in
+    says answerValues (args .out .now) _ _ (ap digests.outcome (sym (c .enum-told .given .1)) ∙ digest .ensures .0) (args .out .now) refl
+
+returns-3 : tie.Need-returns-3
+returns-3 c =
+    let digest = c .before .before .before .before .before .digest in
+    let k = c .before .before .before .k in
+    says answerValues _ _ _ (ap digests.outcome (sym (k .given .1)) ∙ digest .ensures .0) _ (c .lay-one .ensures)
+
+pub wx-digest-spec : {M : Type 1} → statement M
+wx-digest-spec =
+    tie.close
+    (tie.spec
+    digest-requires
+    enum-known-a
+    lay-answer-requires
+    enum-told
+    enum-known-k
+    lay-one-requires
+    returns
+    returns-2
+    returns-3)

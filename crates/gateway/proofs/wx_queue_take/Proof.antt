@@ -1,0 +1,76 @@
+-- `wx_queue_take` meets its contract: it equals `Queue::take`. Assumes nothing.
+use mathlib.Core.Path.{refl}
+use Prim.Native.Nat.{_-_}
+use lib.ListN.{take}
+use Rattle.gateway.specs.Laws.{take-is}
+use borrow.Author.Needs.{needs}
+use Rattle.gateway.proofs.wx_queue_take.Statement.{statement}
+use Rattle.gateway.proofs.wx_queue_take.Tie as tie
+
+queue-of-requires : tie.Need-queue-of-requires
+queue-of-requires c κs = search needs
+
+take-requires : tie.Need-take-requires
+take-requires c κs = search needs
+
+enum-known-x : tie.Need-enum-known-x
+enum-known-x c = search needs
+
+put-queue-requires : tie.Need-put-queue-requires
+put-queue-requires c κs = search needs
+
+cast-lay-four : tie.Need-cast-lay-four
+cast-lay-four c = search needs
+
+lay-four-requires : tie.Need-lay-four-requires
+lay-four-requires c κs = search needs
+
+enum-told : tie.Need-enum-told
+enum-told c = search needs
+
+lay-one-requires : tie.Need-lay-one-requires
+lay-one-requires c κs = search needs
+
+enum-told-2 : tie.Need-enum-told-2
+enum-told-2 c = search needs
+
+returns : tie.Need-returns
+returns c =
+    let args = c .before .before .before .before .before .before .before .before .before .before .before .before .args in
+    let queue-of = c .before .before .before .before .before .before .before .before .before .queue-of in
+    let take = c .before .before .before .before .before .before .before .before .take in
+    let x = c .before .before .before .before .before .before .x in
+    let put-queue = c .before .before .before .put-queue in
+    take-is (args .state .now) (args .out .now) (args .mem .now) _ (queue-of .ensures) _ (take .ensures) _ (x .given .1) _ (put-queue .ensures) _ (c .lay-four .ensures)
+
+returns-2 : tie.Need-returns-2
+returns-2 c =
+    let args = c .before .before .before .before .before .before .before .before .args in
+    let queue-of = c .before .before .before .before .before .queue-of in
+    let take = c .before .before .before .before .take in
+    let enum-told = c .before .before .enum-told in
+    take-is (args .state .now) (args .out .now) (args .mem .now) _ (queue-of .ensures) _ (take .ensures) _ (enum-told .given .1) (args .state .now) refl _ (c .lay-one .ensures)
+
+returns-3 : tie.Need-returns-3
+returns-3 c =
+    let args = c .before .before .before .before .before .before .args in
+    let queue-of = c .before .before .before .queue-of in
+    let take = c .before .before .take in
+    take-is (args .state .now) (args .out .now) (args .mem .now) _ (queue-of .ensures) _ (take .ensures) _ (c .enum-told2 .given .1) (args .state .now) refl (args .out .now) refl
+
+pub wx-queue-take-spec : {M : Type 1} → statement M
+wx-queue-take-spec =
+    tie.close
+    (tie.spec
+    queue-of-requires
+    take-requires
+    enum-known-x
+    put-queue-requires
+    cast-lay-four
+    lay-four-requires
+    enum-told
+    lay-one-requires
+    enum-told-2
+    returns
+    returns-2
+    returns-3)

@@ -1,0 +1,78 @@
+-- `wx_slot_lookup` meets its contract: it equals `Slot::lookup`. Assumes nothing.
+use mathlib.Core.Path.{refl, sym, ap, _∙_}
+use Prim.Native.Nat.{_-_}
+use Rattle.slot.specs.declared.Slot.{Slot}
+use Rattle.gateway.specs.Gateway.{readValues}
+use Rattle.gateway.specs.Laws.{says, look-is}
+use borrow.Author.Needs.{needs}
+use Rattle.gateway.proofs.wx_slot_lookup.Statement.{statement}
+use Rattle.slot.specs.Slot as slots
+use Rattle.gateway.proofs.wx_slot_lookup.Tie as tie
+
+slot-of-requires : tie.Need-slot-of-requires
+slot-of-requires c κs = search needs
+
+lookup-requires : tie.Need-lookup-requires
+lookup-requires c κs = search needs
+
+enum-known-x : tie.Need-enum-known-x
+enum-known-x c = search needs
+
+held-number-requires : tie.Need-held-number-requires
+held-number-requires c κs = search needs
+
+cast-lay-four : tie.Need-cast-lay-four
+cast-lay-four c = search needs
+
+lay-four-requires : tie.Need-lay-four-requires
+lay-four-requires c κs = search needs
+
+enum-told : tie.Need-enum-told
+enum-told c = search needs
+
+lay-one-requires : tie.Need-lay-one-requires
+lay-one-requires c κs = search needs
+
+enum-told-2 : tie.Need-enum-told-2
+enum-told-2 c = search needs
+
+returns : tie.Need-returns
+returns c =
+    let args = c .before .before .before .before .before .before .before .before .before .before .args in
+    let slot-of = c .before .before .before .before .before .before .before .before .slot-of in
+    let lookup = c .before .before .before .before .before .before .before .lookup in
+    let x = c .before .before .before .before .before .x in
+    let held-number = c .before .before .held-number in
+    says readValues (args .out .now) _ _ (ap slots.reading (sym (x .given .1)) ∙ lookup .ensures ∙ ap (λ (y : Slot). slots.wasRead y (args .mem .now)) (slot-of .ensures)) _ (look-is (args .out .now) (x .given .0 .0) _ (held-number .ensures) _ (c .lay-four .ensures))
+
+returns-2 : tie.Need-returns-2
+returns-2 c =
+    let args = c .before .before .before .before .before .before .before .args in
+    let slot-of = c .before .before .before .before .before .slot-of in
+    let lookup = c .before .before .before .before .lookup in
+    let enum-told = c .before .before .enum-told in
+    says readValues (args .out .now) _ _ (ap slots.reading (sym (enum-told .given .1)) ∙ lookup .ensures ∙ ap (λ (y : Slot). slots.wasRead y (args .mem .now)) (slot-of .ensures)) _ (c .lay-one .ensures)
+
+returns-3 : tie.Need-returns-3
+returns-3 c =
+    let args = c .before .before .before .before .before .args in
+    let slot-of = c .before .before .before .slot-of in
+    let lookup = c .before .before .lookup in
+    says readValues (args .out .now) _ _ (ap slots.reading (sym (c .enum-told2 .given .1)) ∙ lookup .ensures ∙ ap (λ (y : Slot). slots.wasRead y (args .mem .now)) (slot-of .ensures)) (args .out .now) refl
+
+pub wx-slot-lookup-spec : {M : Type 1} → statement M
+wx-slot-lookup-spec =
+    tie.close
+    (tie.spec
+    slot-of-requires
+    lookup-requires
+    enum-known-x
+    held-number-requires
+    cast-lay-four
+    lay-four-requires
+    enum-told
+    lay-one-requires
+    enum-told-2
+    returns
+    returns-2
+    returns-3)

@@ -1,0 +1,49 @@
+-- `wx_slot_reset` meets its contract: it equals `Slot::reset`. Assumes nothing.
+use mathlib.Core.Path.{refl}
+use Prim.Native.Nat.{_-_}
+use Rattle.gateway.specs.Laws.{reset-is}
+use borrow.Author.Needs.{needs}
+use Rattle.gateway.proofs.wx_slot_reset.Statement.{statement}
+use Rattle.gateway.proofs.wx_slot_reset.Tie as tie
+
+slot-of-requires : tie.Need-slot-of-requires
+slot-of-requires c κs = search needs
+
+reset-requires : tie.Need-reset-requires
+reset-requires c κs = search needs
+
+enum-known-x : tie.Need-enum-known-x
+enum-known-x c = search needs
+
+put-slot-requires : tie.Need-put-slot-requires
+put-slot-requires c κs = search needs
+
+enum-told : tie.Need-enum-told
+enum-told c = search needs
+
+returns : tie.Need-returns
+returns c =
+    let args = c .before .before .before .before .before .before .before .before .before .args in
+    let slot-of = c .before .before .before .before .before .before .slot-of in
+    let reset = c .before .before .before .before .before .reset in
+    let x = c .before .before .before .x in
+    reset-is (args .state .now) (args .mem .now) _ (slot-of .ensures) _ (reset .ensures) _ (x .given .1) _ (c .put-slot .ensures)
+
+returns-2 : tie.Need-returns-2
+returns-2 c =
+    let args = c .before .before .before .before .before .before .args in
+    let slot-of = c .before .before .before .slot-of in
+    let reset = c .before .before .reset in
+    reset-is (args .state .now) (args .mem .now) _ (slot-of .ensures) _ (reset .ensures) _ (c .enum-told .given .1) (args .state .now) refl
+
+pub wx-slot-reset-spec : {M : Type 1} → statement M
+wx-slot-reset-spec =
+    tie.close
+    (tie.spec
+    slot-of-requires
+    reset-requires
+    enum-known-x
+    put-slot-requires
+    enum-told
+    returns
+    returns-2)

@@ -1,0 +1,195 @@
+-- The ways out of the exports, each with what led there. Assumes nothing.
+use mathlib.Core.Path.{_≡_, refl, sym, ap, _∙_}
+use mathlib.Core.Bool.{Bool, true, false}
+use mathlib.Core.List.{List, [], _∷_}
+use Prim.Native.Nat.{ℕ, _+_, _-_, _≤_, _<_}
+use native.Mathlib.Omega.{arith}
+use lib.ListN.{length, getD, List·getD-eq-default}
+use lib.Dec.{leb, ltb}
+use borrow.Author.Tests.{le-leb, lt-leb, lt-ltb, le-ltb}
+use Rattle.text.specs.Text.{partOf, partAt, orFront}
+use Rattle.table.specs.Outcome.{Outcome}
+use Rattle.digest.specs.declared.Kind.{Kind}
+use Rattle.digest.specs.declared.Kind.the-variants as kind
+use Rattle.slot.specs.declared.Held.{Held}
+use Rattle.slot.specs.declared.Held.the-variants.{Heard, Capacity}
+use Rattle.digest.specs.declared.Answer.{Answer}
+use Rattle.slot.specs.Slot as slots
+use Rattle.slot.specs.declared.Slot.{Slot}
+use Rattle.slot.specs.declared.Turned.{Turned}
+use Rattle.queue.specs.Queue.{Got, ours, putInto}
+use Rattle.queue.specs.Queue as queues
+use Rattle.queue.specs.declared.Queue.{Queue}
+use Rattle.queue.specs.declared.Put.{Put}
+use Rattle.queue.specs.declared.Taken.{Taken}
+use Rattle.ingress.specs.Ingress.{Result, world, advanced, result, written, taking}
+use Rattle.ingress.specs.declared.State.{State}
+use Rattle.ingress.specs.declared.Advanced.{Advanced}
+use Rattle.ingress.specs.declared.Written.{Written}
+use Rattle.gateway.specs.Gateway.{numberOf, valuesOf, laid, Call, call, said, partValues, fittedAt, kinds, kindOf, word, answerOf, heldNumber, heldBy, heldOf, flagNumber, slotOf, queueOf, stateOf, stateNumbers, withSlot, withQueue, numbersBy, resetSaid, Turn, turn, signalSaid, putSaid, readBy, gotValues, withGot, Take, took, takeSaid, Whole, whole, numbersLeft, wholeSaid, countValues, noValues}
+
+-- an export returns its call's number, with the values at the front of the array
+pub says : {A : Type 0} (f : A → List ℕ) (o : List ℕ) (x y : Outcome A) → x ≡ y → (q : List ℕ) → q ≡ laid (valuesOf f x) o → call (numberOf x) q ≡ said f y o
+says f o x y e q h = ap (call (numberOf x)) h ∙ ap (λ (z : Outcome _). said f z o) e
+
+-- where a part begins
+module _ (size place len : ℕ) where
+  pub fits-not : size < place + len → 0 ≡ fittedAt size place len
+  unfolding fittedAt
+  fits-not h = rw (lt-leb (place + len) size h)
+
+  pub fits-there : place + len ≤ size → place ≡ fittedAt size place len
+  unfolding fittedAt
+  fits-there h = rw (le-leb (place + len) size h)
+
+-- a part of the memory s as two numbers
+pub part-is : (s o : List ℕ) (place len : ℕ) (p : List ℕ) → p ≡ partOf s place len → (a : ℕ) → a ≡ fittedAt (length s) place len → (q : List ℕ) → q ≡ laid (a ∷ length p ∷ []) o → q ≡ laid (partValues s place len) o
+unfolding fittedAt partAt
+part-is s o place len p e a g q h = h ∙ ap (λ (n : ℕ). laid (n ∷ length p ∷ []) o) g ∙ ap (λ (t : List ℕ). laid (partAt s place len ∷ length t ∷ []) o) e
+
+-- what a slot holds
+pub held-capacity : (n : ℕ) → 13 < n → Capacity ≡ heldOf n
+held-capacity n h = ap (λ (b : Bool). heldBy b n) (sym (lt-ltb 13 n h))
+
+pub held-heard : (n : ℕ) → n ≤ 13 → (k : Kind) → k ≡ kindOf n → Heard k ≡ heldOf n
+held-heard n h k e = ap Heard e ∙ ap (λ (b : Bool). heldBy b n) (sym (le-ltb 13 n h))
+
+up : (k n : ℕ) → k ≤ n → (n ≡ k → ⊥) → k + 1 ≤ n
+up k n h e = omega arith
+
+-- a number over 13 is no kind's
+over-none : (n : ℕ) → 14 ≤ n → kind.None ≡ kindOf n
+over-none n h = sym (List·getD-eq-default kinds kind.None {n = n} h)
+
+pub kind-none : (n : ℕ) → (n ≡ 0 → ⊥) → (n ≡ 1 → ⊥) → (n ≡ 2 → ⊥) → (n ≡ 3 → ⊥) → (n ≡ 4 → ⊥) → (n ≡ 5 → ⊥) → (n ≡ 6 → ⊥) → (n ≡ 7 → ⊥) → (n ≡ 8 → ⊥) → (n ≡ 9 → ⊥) → (n ≡ 10 → ⊥) → (n ≡ 11 → ⊥) → (n ≡ 12 → ⊥) → (n ≡ 13 → ⊥) → kind.None ≡ kindOf n
+kind-none n h0 h1 h2 h3 h4 h5 h6 h7 h8 h9 h10 h11 h12 h13 = over-none n (up 13 n (up 12 n (up 11 n (up 10 n (up 9 n (up 8 n (up 7 n (up 6 n (up 5 n (up 4 n (up 3 n (up 2 n (up 1 n (up 0 n (omega arith) h0) h1) h2) h3) h4) h5) h6) h7) h8) h9) h10) h11) h12) h13)
+
+-- structs, field by field
+pub answer-is : (v : List ℕ) (k : Kind) → k ≡ kindOf (getD v 0 0) → (n : ℕ) → n ≡ word (getD v 1 0) → _≡_ {A = Answer} (record { kind = k; number = n; place = getD v 2 0; len = getD v 3 0; consumed = getD v 4 0 }) (answerOf v)
+answer-is v k e n f = λ i. record { kind = e i; number = f i; place = getD v 2 0; len = getD v 3 0; consumed = getD v 4 0 }
+
+pub slot-is : (v : List ℕ) (h : Held) → h ≡ heldOf (getD v 2 0) → (n : ℕ) → n ≡ word (getD v 3 0) → (l : ℕ) → l ≡ word (getD v 5 0) → _≡_ {A = Slot} (record { signalled = slotOf v .signalled; held = h; number = n; len = getD v 4 0; lost = l }) (slotOf v)
+slot-is v h e n f l g = λ i. record { signalled = slotOf v .signalled; held = e i; number = f i; len = getD v 4 0; lost = g i }
+
+pub queue-is : (v : List ℕ) (l : ℕ) → l ≡ word (getD v 8 0) → _≡_ {A = Queue} (record { start = getD v 6 0; count = getD v 7 0; lost = l }) (queueOf v)
+queue-is v l e = λ i. record { start = getD v 6 0; count = getD v 7 0; lost = e i }
+
+pub state-is : (v : List ℕ) (x : Slot) → x ≡ slotOf v → (q : Queue) → q ≡ queueOf v → _≡_ {A = State} (record { end = getD v 0 0; slot = x; queue = q }) (stateOf v)
+state-is v x e q f = λ i. record { end = getD v 0 0; slot = e i; queue = f i }
+
+pub with-slot : (v : List ℕ) (x : Slot) (f : ℕ) → f ≡ flagNumber (x .signalled) → (h : ℕ) → h ≡ heldNumber (x .held) → getD v 0 0 ∷ f ∷ h ∷ x .number ∷ x .len ∷ x .lost ∷ getD v 6 0 ∷ getD v 7 0 ∷ getD v 8 0 ∷ [] ≡ withSlot v x
+with-slot v x f e h g = λ i. getD v 0 0 ∷ e i ∷ g i ∷ x .number ∷ x .len ∷ x .lost ∷ getD v 6 0 ∷ getD v 7 0 ∷ getD v 8 0 ∷ []
+
+-- what a look at a signalled slot answers, and the payload that it holds
+pub look-is : (o : List ℕ) (x : Slot) (h : ℕ) → h ≡ heldNumber (x .held) → (q : List ℕ) → q ≡ laid (1 ∷ h ∷ x .number ∷ x .len ∷ []) o → q ≡ laid (readBy true x) o
+look-is o x h e q f = f ∙ ap (λ (n : ℕ). laid (1 ∷ n ∷ x .number ∷ x .len ∷ []) o) e
+
+front-at : (b : Bool) → 0 ≡ orFront b 0
+unfolding orFront
+front-at true = refl
+front-at false = refl
+
+pub slot-part : (v m o : List ℕ) (s : Slot) → s ≡ slotOf v → (p : List ℕ) → p ≡ partOf m 0 (s .len) → (q : List ℕ) → q ≡ laid (0 ∷ length p ∷ []) o → q ≡ laid (partValues m 0 (slotOf v .len)) o
+unfolding partAt
+slot-part v m o s es p e q f =
+    f
+    ∙ (λ i. laid (front-at (leb (0 + s .len) (length m)) i ∷ length (e i) ∷ []) o)
+    ∙ ap (λ (y : Slot). laid (partValues m 0 (y .len)) o) es
+
+-- a signal: the slot s read from the numbers v, the answer a from the array w, the call's outcome r with the memory k that it left
+pub signal-is : (v w p m : List ℕ) (s : Slot) → s ≡ slotOf v → (a : Answer) → a ≡ answerOf w → (r : Turned) (k : List ℕ) → slots.after (slots.outcome r) k ≡ slots.signalled s a p m → (x : Turned) → r ≡ x → (u : List ℕ) → u ≡ numbersBy withSlot (slots.outcome x) v → turn (numberOf (slots.outcome x)) u k ≡ signalSaid (slots.signalled (slotOf v) (answerOf w) p m) v
+signal-is v w p m s es a ea r k e x q u f =
+    ap (λ (z : List ℕ). turn (numberOf (slots.outcome x)) z k) f
+    ∙ ap (λ (y : Turned). signalSaid (slots.after (slots.outcome y) k) v) (sym q)
+    ∙ ap (λ (z : slots.After). signalSaid z v) (e ∙ (λ i. slots.signalled (es i) (ea i) p m))
+
+pub reset-is : (v m : List ℕ) (s : Slot) → s ≡ slotOf v → (r : Turned) → slots.outcome r ≡ slots.wasReset s m → (x : Turned) → r ≡ x → (u : List ℕ) → u ≡ numbersBy withSlot (slots.outcome x) v → call (numberOf (slots.outcome x)) u ≡ resetSaid (slots.wasReset (slotOf v) m) v
+reset-is v m s es r e x q u f =
+    ap (call (numberOf (slots.outcome x))) f
+    ∙ ap (λ (y : Turned). resetSaid (slots.outcome y) v) (sym q)
+    ∙ ap (λ (z : Outcome Slot). resetSaid z v) (e ∙ ap (λ (y : Slot). slots.wasReset y m) es)
+
+-- a put: likewise
+pub put-is : (v p m : List ℕ) (n : ℕ) (s : Queue) → s ≡ queueOf v → (r : Put) (k : List ℕ) → queues.after (queues.outcome r) k ≡ putInto ours s n p m → (x : Put) → r ≡ x → (u : List ℕ) → u ≡ numbersBy withQueue (queues.outcome x) v → turn (numberOf (queues.outcome x)) u k ≡ putSaid (putInto ours (queueOf v) n p m) v
+put-is v p m n s es r k e x q u f =
+    ap (λ (z : List ℕ). turn (numberOf (queues.outcome x)) z k) f
+    ∙ ap (λ (y : Put). putSaid (queues.after (queues.outcome y) k) v) (sym q)
+    ∙ ap (λ (z : queues.After). putSaid z v) (e ∙ ap (λ (y : Queue). putInto ours y n p m) es)
+
+pub take-is : (v o m : List ℕ) (s : Queue) → s ≡ queueOf v → (r : Taken) → queues.taking r ≡ queues.taken ours s m → (x : Taken) → r ≡ x → (u : List ℕ) → u ≡ numbersBy withGot (queues.taking x) v → (k : List ℕ) → k ≡ laid (valuesOf gotValues (queues.taking x)) o → took (numberOf (queues.taking x)) u k ≡ takeSaid (queues.taken ours (queueOf v) m) v o
+take-is v o m s es r e x q u f k g =
+    (λ i. took (numberOf (queues.taking x)) (f i) (g i))
+    ∙ ap (λ (y : Taken). takeSaid (queues.taking y) v o) (sym q)
+    ∙ ap (λ (z : Outcome Got). takeSaid z v o) (e ∙ ap (λ (y : Queue). queues.taken ours y m) es)
+
+-- an advance or a write: from the state s read from the numbers v, with what it left of the three memories
+module _ (v o : List ℕ) (s : State) (es : s ≡ stateOf v) (t b m n b′ m′ n′ : List ℕ) where
+  pub advance-is : (c : ℕ) (r : Advanced) → result s r b′ m′ n′ ≡ advanced t c (world s b m n) → (x : Advanced) → r ≡ x → (u : List ℕ) → u ≡ numbersLeft (result s x b′ m′ n′ .said) v (result s x b′ m′ n′ .left .state) → (k : List ℕ) → k ≡ laid (valuesOf noValues (result s x b′ m′ n′ .said)) o → whole (numberOf (result s x b′ m′ n′ .said)) u k b′ m′ n′ ≡ wholeSaid noValues (advanced t c (world (stateOf v) b m n)) v o
+  advance-is c r e x q u f k g =
+      (λ i. whole (numberOf (result s x b′ m′ n′ .said)) (f i) (g i) b′ m′ n′)
+      ∙ ap (λ (y : Advanced). wholeSaid noValues (result s y b′ m′ n′) v o) (sym q)
+      ∙ ap (λ (z : Result Unit). wholeSaid noValues z v o) (e ∙ ap (λ (y : State). advanced t c (world y b m n)) es)
+
+  pub write-is : (p : List ℕ) (r : Written) → taking s r b′ m′ n′ ≡ written t p (world s b m n) → (x : Written) → r ≡ x → (u : List ℕ) → u ≡ numbersLeft (taking s x b′ m′ n′ .said) v (taking s x b′ m′ n′ .left .state) → (k : List ℕ) → k ≡ laid (valuesOf countValues (taking s x b′ m′ n′ .said)) o → whole (numberOf (taking s x b′ m′ n′ .said)) u k b′ m′ n′ ≡ wholeSaid countValues (written t p (world (stateOf v) b m n)) v o
+  write-is p r e x q u f k g =
+      (λ i. whole (numberOf (taking s x b′ m′ n′ .said)) (f i) (g i) b′ m′ n′)
+      ∙ ap (λ (y : Written). wholeSaid countValues (taking s y b′ m′ n′) v o) (sym q)
+      ∙ ap (λ (z : Result ℕ). wholeSaid countValues z v o) (e ∙ ap (λ (y : State). written t p (world y b m n)) es)
+
+-- A state that is written as its nine numbers is read back as it was: `slot-round`, `queue-round` and together `state-round`. Its numbers of 32 bits are at most 4,294,967,295.
+flag-round : (b : Bool) → ltb 0 (flagNumber b) ≡ b
+flag-round true = refl
+flag-round false = refl
+
+held-round : (h : Held) → heldOf (heldNumber h) ≡ h
+held-round (Heard kind.None) = refl
+held-round (Heard kind.Ok) = refl
+held-round (Heard kind.Prompt) = refl
+held-round (Heard kind.Cme) = refl
+held-round (Heard kind.Cms) = refl
+held-round (Heard kind.Unknown) = refl
+held-round (Heard kind.NotAllowed) = refl
+held-round (Heard kind.Error) = refl
+held-round (Heard kind.NoCarrier) = refl
+held-round (Heard kind.Busy) = refl
+held-round (Heard kind.NoAnswer) = refl
+held-round (Heard kind.NoDialtone) = refl
+held-round (Heard kind.Custom) = refl
+held-round (Heard kind.Notice) = refl
+held-round Capacity = refl
+
+word-round : (n : ℕ) → n ≤ 4294967295 → word n ≡ n
+word-round n h = omega arith
+
+pub slot-round : (v : List ℕ) (x : Slot) → x .number ≤ 4294967295 → x .lost ≤ 4294967295 → slotOf (withSlot v x) ≡ x
+slot-round v x h g = λ i. record { signalled = flag-round (x .signalled) i; held = held-round (x .held) i; number = word-round (x .number) h i; len = x .len; lost = word-round (x .lost) g i }
+
+pub queue-round : (v : List ℕ) (x : Queue) → x .lost ≤ 4294967295 → queueOf (withQueue v x) ≡ x
+queue-round v x h = λ i. record { start = x .start; count = x .count; lost = word-round (x .lost) h i }
+
+pub state-round : (s : State) → s .slot .number ≤ 4294967295 → s .slot .lost ≤ 4294967295 → s .queue .lost ≤ 4294967295 → stateOf (stateNumbers s) ≡ s
+state-round s h g f = λ i. record { end = s .end; slot = slot-round [] (s .slot) h g i; queue = queue-round [] (s .queue) f i }
+
+-- Each export's promise determines the number that it returns and all that it leaves.
+pub call-one : (w : Call) (r q : ℕ) (o p : List ℕ) → call r o ≡ w → call q p ≡ w → (r ≡ q) × (o ≡ p)
+call-one w r q o p e f = let g : call r o ≡ call q p = e ∙ sym f in (ap (λ (x : Call). x .number) g, ap (λ (x : Call). x .out) g)
+
+pub turn-one : (w : Turn) (r q : ℕ) (v u m n : List ℕ) → turn r v m ≡ w → turn q u n ≡ w → (r ≡ q) × ((v ≡ u) × (m ≡ n))
+turn-one w r q v u m n e f =
+    let g : turn r v m ≡ turn q u n = e ∙ sym f in
+    (ap (λ (x : Turn). x .number) g, (ap (λ (x : Turn). x .state) g, ap (λ (x : Turn). x .memory) g))
+
+pub took-one : (w : Take) (r q : ℕ) (v u o p : List ℕ) → took r v o ≡ w → took q u p ≡ w → (r ≡ q) × ((v ≡ u) × (o ≡ p))
+took-one w r q v u o p e f =
+    let g : took r v o ≡ took q u p = e ∙ sym f in
+    (ap (λ (x : Take). x .number) g, (ap (λ (x : Take). x .state) g, ap (λ (x : Take). x .out) g))
+
+pub whole-one : (w : Whole) (r q : ℕ) (v u o p b c m l n k : List ℕ) → whole r v o b m n ≡ w → whole q u p c l k ≡ w → (r ≡ q) × ((v ≡ u) × ((o ≡ p) × ((b ≡ c) × ((m ≡ l) × (n ≡ k)))))
+whole-one w r q v u o p b c m l n k e f =
+    let g : whole r v o b m n ≡ whole q u p c l k = e ∙ sym f in (
+      ap (λ (x : Whole). x .number) g,
+      (
+        ap (λ (x : Whole). x .state) g,
+        (ap (λ (x : Whole). x .out) g, (ap (λ (x : Whole). x .buf) g, (ap (λ (x : Whole). x .slotMemory) g, ap (λ (x : Whole). x .queueMemory) g))),
+      ),
+    )
