@@ -77,7 +77,8 @@ fn both(pair: Option<(f64, f64)>) -> (String, String) {
 }
 
 fn plain(rows: &[Row]) -> String {
-    let mut out = format!("{:48} {:>15} {:>15} {:>7} {:>15} {:>15} {:>7}\n", "workload", "instructions", "the Rust's", "ratio", "nanoseconds", "the Rust's", "ratio");
+    let mut out =
+        format!("{:48} {:>15} {:>15} {:>7} {:>15} {:>15} {:>7}\n", "workload", "instructions", "the Rust's", "ratio", "nanoseconds", "the Rust's", "ratio");
     for r in rows {
         let ((a, b), (c, d)) = (both(r.instructions), both(r.nanoseconds));
         let _ = writeln!(out, "{:48} {a:>15} {b:>15} {:>7} {c:>15} {d:>15} {:>7}", r.name, ratio(r.instructions), ratio(r.nanoseconds));
@@ -89,6 +90,7 @@ fn page(rows: &[Row], empty: f64, about: &str) -> String {
     let mut out = String::from("# Benchmarks: ours beside atat 0.25.0\n\n");
     out += "`./bench` writes this page. Ratios are ours / the Rust's: below 1 ours is cheaper, above 1 the Rust is.\n\n![the ratios](benchmarks.svg)\n\n";
     out += about;
+    out += include_str!("../reading.md");
     out += "\n## The table\n\nInstructions of one call, and median nanoseconds of one call. `-`: not counted, or not timed.\n\n";
     out += "| Workload | Instructions, ours | the Rust's | Ratio | Nanoseconds, ours | the Rust's | Ratio | Samples |\n|---|--:|--:|--:|--:|--:|--:|--:|\n";
     let mut group = "";
@@ -157,7 +159,13 @@ fn drawing(rows: &[Row]) -> String {
         }
         y += STEP;
         let middle = y - STEP / 2.0;
-        let _ = writeln!(out, "<text x=\"{:.0}\" y=\"{:.1}\" text-anchor=\"end\" fill=\"#111\">{}</text>", LEFT - 12.0, middle + 4.0, r.name.replace('<', "&lt;").replace('>', "&gt;"));
+        let _ = writeln!(
+            out,
+            "<text x=\"{:.0}\" y=\"{:.1}\" text-anchor=\"end\" fill=\"#111\">{}</text>",
+            LEFT - 12.0,
+            middle + 4.0,
+            r.name.replace('<', "&lt;").replace('>', "&gt;")
+        );
         if let Some(ratio) = ratio_of(r.instructions) {
             let _ = writeln!(out, "<circle cx=\"{:.1}\" cy=\"{middle:.1}\" r=\"5\" fill=\"#1b5e9c\"/>", x(ratio));
         }
