@@ -90,7 +90,6 @@ fn page(rows: &[Row], empty: f64, about: &str) -> String {
     let mut out = String::from("# Benchmarks: ours beside atat 0.25.0\n\n");
     out += "`./bench` writes this page. Ratios are ours / the Rust's: below 1 ours is cheaper, above 1 the Rust is.\n\n![the ratios](benchmarks.svg)\n\n";
     out += about;
-    out += include_str!("../reading.md");
     out += "\n## The table\n\nInstructions of one call, and median nanoseconds of one call. `-`: not counted, or not timed.\n\n";
     out += "| Workload | Instructions, ours | the Rust's | Ratio | Nanoseconds, ours | the Rust's | Ratio | Samples |\n|---|--:|--:|--:|--:|--:|--:|--:|\n";
     let mut group = "";
@@ -100,7 +99,7 @@ fn page(rows: &[Row], empty: f64, about: &str) -> String {
             let _ = writeln!(out, "| **{group}** | | | | | | | |");
         }
         let ((a, b), (c, d)) = (both(r.instructions), both(r.nanoseconds));
-        let _ = writeln!(out, "| {} | {a} | {b} | **{}** | {c} | {d} | {} | {} |", r.name, ratio(r.instructions), ratio(r.nanoseconds), r.samples);
+        let _ = writeln!(out, "| {} | {a} | {b} | {} | {c} | {d} | {} | {} |", r.name, ratio(r.instructions), ratio(r.nanoseconds), r.samples);
     }
     let _ = writeln!(out, "\nA call that does nothing counts {empty:.0} instructions; they are in every figure.");
     out
