@@ -1,0 +1,136 @@
+//! The proved digester and ingress beside those of atat 0.25.0, on the same inputs, in one program.
+//!
+//! `count` runs each workload once between the two marks that icount.c looks for, ours and then the Rust's, and prints its name;
+//! `time` prints median nanoseconds; `report` makes the table and the drawing of both. Before any workload is measured the two sides' answers to it are compared.
+
+mod heard;
+mod measure;
+mod ours;
+mod report;
+mod sides;
+mod tables;
+mod theirs;
+mod workloads;
+
+use atat::{AtDigester, Digester, Parser};
+use measure::Pair;
+use sides::Ears;
+use std::hint::black_box;
+use std::process::ExitCode;
+use tables::{records, Empty, Many, One};
+use workloads::{Table, Way, Workload};
+
+/// The sizes on both sides: the ingress's buffer, the slot's memory, the notices that the queue holds.
+const BUFFER: usize = 4096;
+const SLOT: usize = 4096;
+const QUEUE: usize = 16;
+
+/// An input at the front of a page, so that where it lies is the same in every run.
+#[repr(align(4096))]
+struct Page([u8; workloads::LONG]);
+
+fn paged(input: &[u8]) -> &'static [u8] {
+    let page = Box::leak(Box::new(Page([0; workloads::LONG])));
+    page.0[..input.len()].copy_from_slice(input);
+    &page.0[..input.len()]
+}
+
+/// Both sides of a workload, or how their answers differ.
+fn pair(w: &Workload) -> Result<Pair, String> {
+    match w.table {
+        Table::Empty => pair_under::<Empty>(w, Vec::new(), AtDigester::new()),
+        Table::One => pair_under::<One>(w, records("UR", One::TEXTS), AtDigester::new()),
+        Table::Many => pair_under::<Many>(w, records("UR", Many::TEXTS), AtDigester::new()),
+        Table::CustomError => pair_under::<Empty>(w, records("CE", &["SIM BUSY"]), AtDigester::new().with_custom_error(theirs::sim_busy)),
+    }
+}
+
+fn pair_under<P: Parser + 'static>(w: &Workload, table: Vec<u8>, mut digester: AtDigester<P>) -> Result<Pair, String> {
+    let input = paged(&w.input);
+    match w.way {
+        Way::Digest => {
+            same(w, ours::heard(&table, input), theirs::heard(&mut digester, input))?;
+            Ok(Pair {
+                ours: Box::new(move || {
+                    let mut out = [0; 5];
+                    black_box(ours::digest(&table, black_box(input), &mut out));
+                    black_box(out);
+                }),
+                theirs: Box::new(move || {
+                    black_box(digester.digest(black_box(input)));
+                }),
+            })
+        }
+        Way::Pieces(n) => {
+            let mut ours = ours::Ingress::new(&table);
+            let mut theirs = theirs::Ingress::<P>::new();
+            same(w, sides::outcome(&mut ours, input, n), sides::outcome(&mut theirs, input, n))?;
+            Ok(Pair {
+                ours: Box::new(move || {
+                    black_box(sides::exchange(&mut ours, black_box(input), n));
+                }),
+                theirs: Box::new(move || {
+                    black_box(sides::exchange(&mut theirs, black_box(input), n));
+                }),
+            })
+        }
+        Way::Signal => {
+            let mut ours = ours::Ingress::new(&table);
+            let mut theirs = theirs::Ingress::<P>::new();
+            ours.signal(input);
+            theirs.signal(input);
+            same(w, ours.held(), theirs.held())?;
+            ours.reset();
+            theirs.reset();
+            Ok(Pair {
+                ours: Box::new(move || sides::signalled(&mut ours, black_box(input))),
+                theirs: Box::new(move || sides::signalled(&mut theirs, black_box(input))),
+            })
+        }
+    }
+}
+
+fn same<T: PartialEq + std::fmt::Debug>(w: &Workload, ours: T, theirs: T) -> Result<(), String> {
+    if ours == theirs {
+        return Ok(());
+    }
+    Err(format!("the answers to \"{}\" differ\n  ours: {ours:?}\n  the Rust's: {theirs:?}", w.name))
+}
+
+fn run(words: &[&str]) -> Result<(), String> {
+    match words {
+        ["count"] => {
+            let nothing = &mut || ();
+            println!("an empty call\tours");
+            measure::marked(nothing);
+            for w in workloads::all().iter().filter(|w| w.is_counted) {
+                let mut pair = pair(w)?;
+                println!("{}\tours", w.name);
+                measure::marked(&mut *pair.ours);
+                println!("{}\tthe Rust", w.name);
+                measure::marked(&mut *pair.theirs);
+            }
+            Ok(())
+        }
+        ["time"] => {
+            for w in workloads::all() {
+                let (ours, theirs, samples) = measure::times(&mut pair(&w)?);
+                println!("{}\t{ours:.1}\t{theirs:.1}\t{samples}", w.name);
+            }
+            Ok(())
+        }
+        ["report", counts, times, about, folder] => report::write(counts, times, about, folder),
+        _ => Err("usage: benchmark count | time | report COUNTS TIMES ABOUT FOLDER".to_owned()),
+    }
+}
+
+fn main() -> ExitCode {
+    let words: Vec<String> = std::env::args().skip(1).collect();
+    match run(&words.iter().map(String::as_str).collect::<Vec<_>>()) {
+        Ok(()) => ExitCode::SUCCESS,
+        Err(what) => {
+            eprintln!("benchmark: {what}");
+            ExitCode::FAILURE
+        }
+    }
+}

@@ -1,0 +1,151 @@
+//! The Rattle side: the exports of the archive, as include/walumbeex.h declares them. All that is unsafe about them stands here.
+
+use crate::heard::{Heard, Held};
+use crate::sides::Ears;
+use crate::{BUFFER, QUEUE, SLOT};
+
+extern "C" {
+    fn wx_digest(table: *const u8, table_len: usize, input: *const u8, input_len: usize, out: *mut [u64; 5]) -> u32;
+    fn wx_slot_new(state: *mut [u64; 9]);
+    fn wx_slot_signal(state: *mut [u64; 9], answer: *const [u64; 5], payload: *const u8, payload_len: usize, mem: *mut u8, mem_len: usize) -> u32;
+    fn wx_slot_lookup(state: *const [u64; 9], mem: *const u8, mem_len: usize, out: *mut [u64; 5]) -> u32;
+    fn wx_slot_reset(state: *mut [u64; 9], mem: *const u8, mem_len: usize) -> u32;
+    fn wx_queue_new(state: *mut [u64; 9]);
+    fn wx_ingress_clear(state: *mut [u64; 9]);
+    fn wx_ingress_write(
+        state: *mut [u64; 9],
+        piece: *const u8,
+        piece_len: usize,
+        table: *const u8,
+        table_len: usize,
+        buf: *mut u8,
+        buf_len: usize,
+        slot_mem: *mut u8,
+        slot_mem_len: usize,
+        queue_mem: *mut u8,
+        queue_mem_len: usize,
+        out: *mut [u64; 5],
+    ) -> u32;
+}
+
+/// The refusal's number, 0 for none; the answer stands in `out`.
+#[inline]
+pub fn digest(table: &[u8], input: &[u8], out: &mut [u64; 5]) -> u32 {
+    // SAFETY: each pointer and length is a slice's own, and `out` is a lent array of five.
+    unsafe { wx_digest(table.as_ptr(), table.len(), input.as_ptr(), input.len(), out) }
+}
+
+/// What is heard in the input, in the crate's types.
+pub fn heard(table: &[u8], input: &[u8]) -> Heard {
+    let mut out = [0; 5];
+    let refusal = digest(table, input, &mut out);
+    assert_eq!(refusal, 0, "our digest refused a workload");
+    let [kind, number, place, len, consumed] = out;
+    let (kind, number) = in_its_type(kind, number);
+    Heard { kind, number, place: place as usize, len: len as usize, consumed: consumed as usize }
+}
+
+/// Our kind and number in the crate's types: MODEM ERROR is its CmeError::Unknown, 100; NA its NotAllowed, 3. The crate numbers no notice and no custom error.
+fn in_its_type(kind: u64, number: u64) -> (&'static str, Option<u64>) {
+    match kind {
+        0 => ("none", None),
+        1 => ("ok", None),
+        2 => ("prompt", Some(number)),
+        3 => ("cme", Some(number)),
+        4 => ("cms", Some(number)),
+        5 => ("cme", Some(100)),
+        6 => ("cme", Some(3)),
+        7 => ("error", None),
+        8 => ("no carrier", None),
+        9 => ("busy", None),
+        10 => ("no answer", None),
+        11 => ("no dialtone", None),
+        12 => ("custom", None),
+        13 => ("notice", None),
+        _ => ("capacity", None),
+    }
+}
+
+pub struct Ingress {
+    state: [u64; 9],
+    table: Vec<u8>,
+    buf: Vec<u8>,
+    slot_mem: Vec<u8>,
+    queue_mem: Vec<u8>,
+}
+
+impl Ingress {
+    pub fn new(table: &[u8]) -> Self {
+        let mut state = [0; 9];
+        // SAFETY: `state` is an array of nine.
+        unsafe {
+            wx_slot_new(&mut state);
+            wx_queue_new(&mut state);
+        }
+        Self { state, table: table.to_vec(), buf: vec![0; BUFFER], slot_mem: vec![0; SLOT], queue_mem: vec![0; QUEUE * 132] }
+    }
+}
+
+impl Ears for Ingress {
+    #[inline]
+    fn clear(&mut self) {
+        // SAFETY: `state` is an array of nine.
+        unsafe { wx_ingress_clear(&mut self.state) }
+    }
+
+    #[inline]
+    fn write(&mut self, piece: &[u8]) -> usize {
+        let mut out = [0; 5];
+        // SAFETY: each pointer and length is a slice's own; the lent memories are four different vectors.
+        let refusal = unsafe {
+            wx_ingress_write(
+                &mut self.state,
+                piece.as_ptr(),
+                piece.len(),
+                self.table.as_ptr(),
+                self.table.len(),
+                self.buf.as_mut_ptr(),
+                self.buf.len(),
+                self.slot_mem.as_mut_ptr(),
+                self.slot_mem.len(),
+                self.queue_mem.as_mut_ptr(),
+                self.queue_mem.len(),
+                &mut out,
+            )
+        };
+        assert_eq!(refusal, 0, "our ingress refused a workload");
+        out[0] as usize
+    }
+
+    #[inline]
+    fn signal(&mut self, payload: &[u8]) {
+        let answer = [1, 0, 0, payload.len() as u64, 0];
+        // SAFETY: as above.
+        let refusal = unsafe { wx_slot_signal(&mut self.state, &answer, payload.as_ptr(), payload.len(), self.slot_mem.as_mut_ptr(), self.slot_mem.len()) };
+        assert_eq!(refusal, 0, "our slot refused a signal");
+    }
+
+    #[inline]
+    fn reset(&mut self) {
+        // SAFETY: as above.
+        let refusal = unsafe { wx_slot_reset(&mut self.state, self.slot_mem.as_ptr(), self.slot_mem.len()) };
+        assert_eq!(refusal, 0, "our slot refused a reset");
+    }
+
+    fn held(&mut self) -> Held {
+        let mut out = [0; 5];
+        // SAFETY: as above.
+        let refusal = unsafe { wx_slot_lookup(&self.state, self.slot_mem.as_ptr(), self.slot_mem.len(), &mut out) };
+        assert_eq!(refusal, 0, "our slot refused a look");
+        if out[0] == 0 {
+            return Held::nothing();
+        }
+        let (kind, number) = in_its_type(out[1], out[2]);
+        Held { kind, number, payload: self.slot_mem[..out[3] as usize].to_vec() }
+    }
+
+    fn waiting(&mut self) -> Vec<u8> {
+        assert_eq!(self.state[7], 0, "a workload of the ingress has a notice");
+        self.buf[..self.state[0] as usize].to_vec()
+    }
+}

@@ -1,0 +1,128 @@
+//! What is measured: inputs under a table, and streams through an ingress.
+
+/// The table of a workload, on both sides.
+#[derive(Clone, Copy, PartialEq, Eq)]
+pub enum Table {
+    Empty,
+    /// One notice.
+    One,
+    /// 56 notices.
+    Many,
+    /// One custom error: a `CE` record, and on the Rust side a function.
+    CustomError,
+}
+
+#[derive(Clone, Copy, PartialEq, Eq)]
+pub enum Way {
+    /// One call of the digester.
+    Digest,
+    /// An exchange through an ingress, in pieces of so many bytes.
+    Pieces(usize),
+    /// The input as an Ok's payload, signalled to the slot alone, which is then freed.
+    Signal,
+}
+
+pub struct Workload {
+    pub group: &'static str,
+    pub name: &'static str,
+    pub table: Table,
+    pub way: Way,
+    pub input: Vec<u8>,
+    /// Whether its instructions are counted; where that would take hours it is only timed.
+    pub is_counted: bool,
+}
+
+pub const LONG: usize = 4096;
+const ANSWER: &[u8] = b"\r\n+CSQ: 17,99\r\n\r\nOK\r\n";
+const EXCHANGE: &[u8] = b"AT+CSQ\r\r\n+CSQ: 17,99\r\n\r\nOK\r\n";
+const NOTICE: &[u8] = b"\r\n+UUSORD: 0,4\r\n";
+const OK: &[u8] = b"\r\nOK\r\n";
+const UNCOUNTED: &str = "listing of 4,096 bytes, byte by byte";
+
+/// A text over and over, as many bytes as are asked for; the last may be cut.
+fn over_and_over(text: &[u8], len: usize) -> Vec<u8> {
+    text.iter().copied().cycle().take(len).collect()
+}
+
+fn joined(parts: &[&[u8]]) -> Vec<u8> {
+    parts.concat()
+}
+
+/// Lines of an answer, then `end`, `len` bytes in all: the first line is as much longer as is needed.
+fn lines(end: &[u8], len: usize) -> Vec<u8> {
+    let line = b"\r\n+CSQ: 17,99\r\n";
+    let room = len - end.len();
+    let (n, over) = (room / line.len(), room % line.len());
+    let first = joined(&[b"\r\n+CSQ: ", &vec![b'1'; over], &line[8..]]);
+    joined(&[&first, &over_and_over(line, (n - 1) * line.len()), end])
+}
+
+/// The workloads, in the order of the table.
+pub fn all() -> Vec<Workload> {
+    let mut all = Vec::new();
+    let mut add = |group, name, table, way, input: Vec<u8>| all.push(Workload { group, name, table, way, input, is_counted: name != UNCOUNTED });
+    let digest = Way::Digest;
+    let empty = Table::Empty;
+
+    let group = "answers";
+    add(group, "typical answer", empty, digest, ANSWER.to_vec());
+    add(group, "typical answer, last byte missing", empty, digest, ANSWER[..ANSWER.len() - 1].to_vec());
+    add(group, "typical answer, table of 56", Table::Many, digest, ANSWER.to_vec());
+    add(group, "typical answer, last byte missing, table of 56", Table::Many, digest, ANSWER[..ANSWER.len() - 1].to_vec());
+    add(group, "OK alone", empty, digest, OK.to_vec());
+    add(group, "prompt >", empty, digest, b"\r\n> ".to_vec());
+
+    let group = "errors";
+    let mut error = |name, table, line: &[u8]| add(group, name, table, digest, joined(&[b"\r\n", line, b"\r\n"]));
+    error("+CME ERROR: 10", empty, b"+CME ERROR: 10");
+    error("+CMS ERROR: 500", empty, b"+CMS ERROR: 500");
+    error("MODEM ERROR: 7", empty, b"MODEM ERROR: 7");
+    error("ERROR", empty, b"ERROR");
+    error("COMMAND NOT SUPPORT", empty, b"COMMAND NOT SUPPORT");
+    error("NO CARRIER", empty, b"NO CARRIER");
+    error("BUSY", empty, b"BUSY");
+    error("NO ANSWER", empty, b"NO ANSWER");
+    error("NO DIALTONE", empty, b"NO DIALTONE");
+    error("NA", empty, b"NA");
+    error("custom error", Table::CustomError, b"SIM BUSY");
+
+    let group = "notices";
+    add(group, "notice, table of 1", Table::One, digest, NOTICE.to_vec());
+    add(group, "notice, table of 56", Table::Many, digest, NOTICE.to_vec());
+
+    let group = "4,096 bytes";
+    let letters = |n| over_and_over(b"abcdefghijklmnopqrstuvwxyz", n);
+    add(group, "one long line, OK", empty, digest, joined(&[b"\r\n", &letters(LONG - 10), b"\r\n", OK]));
+    add(group, "one long line, no CRLF before it, OK", empty, digest, joined(&[&letters(LONG - 6), OK]));
+    add(group, "many lines, OK", empty, digest, lines(OK, LONG));
+    add(group, "many lines, OK not yet ended", empty, digest, lines(&OK[..5], LONG));
+    add(group, "no CR", empty, digest, letters(LONG));
+    add(group, "spaces", empty, digest, vec![b' '; LONG]);
+    add(group, "CRLFs", empty, digest, over_and_over(b"\r\n", LONG));
+    add(group, "CRLF +CME ERROR over and over", empty, digest, over_and_over(b"\r\n+CME ERROR", LONG));
+    add(group, "CRLF +CME ERROR: over and over", empty, digest, over_and_over(b"\r\n+CME ERROR:", LONG));
+
+    let group = "ingress";
+    add(group, "typical exchange, one piece", empty, Way::Pieces(usize::MAX), EXCHANGE.to_vec());
+    add(group, "typical exchange, byte by byte", empty, Way::Pieces(1), EXCHANGE.to_vec());
+    add(group, "typical exchange, table of 56, one piece", Table::Many, Way::Pieces(usize::MAX), EXCHANGE.to_vec());
+    add(group, "typical exchange, table of 56, byte by byte", Table::Many, Way::Pieces(1), EXCHANGE.to_vec());
+    add(group, "listing of 4,096 bytes, pieces of 64", empty, Way::Pieces(64), lines(OK, LONG));
+    add(group, "listing of 1,024 bytes, byte by byte", empty, Way::Pieces(1), lines(OK, 1024));
+    add(group, UNCOUNTED, empty, Way::Pieces(1), lines(OK, LONG));
+    add(group, "CRLFs, 256 bytes, byte by byte", empty, Way::Pieces(1), over_and_over(b"\r\n", 256));
+    add(group, "slot alone: signal, reset", empty, Way::Signal, b"+CSQ: 17,99".to_vec());
+    all
+}
+
+#[cfg(test)]
+mod tests {
+    use super::*;
+
+    #[test]
+    fn the_long_ones_are_of_their_length() {
+        for w in all().iter().filter(|w| w.group == "4,096 bytes" || w.name.starts_with("listing of 4,096")) {
+            assert_eq!(w.input.len(), LONG, "{}", w.name);
+        }
+    }
+}
