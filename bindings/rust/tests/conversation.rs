@@ -4,6 +4,7 @@ mod pty;
 
 use std::fs::File;
 use std::io::{Read, Write};
+use std::sync::mpsc;
 use std::thread;
 use std::time::Duration;
 use walumbeex::{ConnectionError, Digester, Ingress, Refusal, Response, TableBuilder, NOTICE_RECORD};
@@ -38,8 +39,20 @@ fn modem(mut line: File) {
     }
 }
 
+/// A wrong answer may leave each side waiting for the other, so the conversation has a time limit.
 #[test]
 fn a_conversation_in_odd_pieces() {
+    let (sender, done) = mpsc::channel();
+    let conversation = thread::spawn(move || {
+        converse();
+        sender.send(()).unwrap();
+    });
+    let timed_out = done.recv_timeout(Duration::from_secs(30)) == Err(mpsc::RecvTimeoutError::Timeout);
+    assert!(!timed_out, "the conversation came to no end");
+    conversation.join().unwrap();
+}
+
+fn converse() {
     let (modem_end, mut host, _) = pty::pseudo_terminal();
     let modem = thread::spawn(move || modem(modem_end));
 

@@ -185,6 +185,31 @@ fn a_slot_too_small_reads_capacity_error() {
 }
 
 #[test]
+fn a_slot_reads_each_answer_as_it_was_signalled() {
+    use walumbeex::{ConnectionError as C, InternalError as E};
+    let error = |e| DigestResult::Response(Err(e));
+    for (result, response) in [
+        (DigestResult::Response(Ok(b"12")), Response::Ok(b"12")),
+        (DigestResult::Prompt(b'$'), Response::Prompt(b'$')),
+        (error(E::Error), Response::OtherError),
+        (error(E::CmeError(65535)), Response::CmeError(65535)),
+        (error(E::CmsError(7)), Response::CmsError(7)),
+        (error(E::Unknown), Response::UnknownError),
+        (error(E::NotAllowed), Response::NotAllowedError),
+        (error(E::ConnectionError(C::NoCarrier)), Response::ConnectionError(C::NoCarrier)),
+        (error(E::ConnectionError(C::NoDialtone)), Response::ConnectionError(C::NoDialtone)),
+        (error(E::ConnectionError(C::Busy)), Response::ConnectionError(C::Busy)),
+        (error(E::ConnectionError(C::NoAnswer)), Response::ConnectionError(C::NoAnswer)),
+        (error(E::Custom { record: 63, text: b"FAULT" }), Response::CustomError { record: 63, text: b"FAULT" }),
+    ] {
+        let mut slot_mem = [0; 8];
+        let mut slot = ResponseSlot::new(&mut slot_mem);
+        slot.signal(&result).unwrap();
+        assert_eq!(slot.try_get(), Ok(Some(response)));
+    }
+}
+
+#[test]
 fn the_builder_refuses_what_the_table_would() {
     let mut memory = [0; 20];
     let mut builder = TableBuilder::new(&mut memory);
