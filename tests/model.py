@@ -1,5 +1,5 @@
 #!/usr/bin/env python3
-"""An executable reading of document 01 (the scope), written from its text alone: it shares no line with the Rattle code or its definitions.
+"""An executable reading of document 01 (the scope), written from its text: it shares no line with the Rattle code or its definitions.
 
 It reads the lines that the programs drive and compare read and prints what they must print:
     tests/model.py drive   < crates/drive/stdin     the origin of crates/drive/stdout
