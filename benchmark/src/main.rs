@@ -1,7 +1,8 @@
 //! The proved digester and ingress beside those of atat 0.25.0, on the same inputs, in one program.
 //!
-//! `count` runs each workload once between the two marks that icount.c looks for, ours and then the Rust's, and prints its name;
-//! `time` prints median nanoseconds; `report` makes the table and the drawing of both. Before any workload is measured the two sides' answers to it are compared.
+//! `count` runs each workload once between the two marks that icount.c looks for, ours and then the Rust's, and prints its name, and `count vast` the vast one;
+//! `time` prints median nanoseconds; `report` makes the table and the drawing of both. Before any workload is measured the two sides' answers to it are compared; of
+//! the vast one, what the counted calls answer.
 
 mod heard;
 mod measure;
@@ -97,13 +98,27 @@ fn same<T: PartialEq + std::fmt::Debug>(w: &Workload, ours: T, theirs: T) -> Res
     Err(format!("the answers to \"{}\" differ\n  ours: {ours:?}\n  the Rust's: {theirs:?}", w.name))
 }
 
+/// The vast workload: each side runs it once, between the marks, and what came of it is compared.
+fn count_vast(w: &Workload) -> Result<(), String> {
+    let Way::Pieces(n) = w.way else { return Err(format!("\"{}\" is no exchange", w.name)) };
+    let input = paged(&w.input);
+    let mut ours = ours::Ingress::new(&[]);
+    let mut theirs = theirs::Ingress::<Empty>::new();
+    let (mut ours_said, mut theirs_said) = (None, None);
+    println!("{}\tours", w.name);
+    measure::marked(&mut || ours_said = Some(sides::outcome(&mut ours, black_box(input), n)));
+    println!("{}\tthe Rust", w.name);
+    measure::marked(&mut || theirs_said = Some(sides::outcome(&mut theirs, black_box(input), n)));
+    same(w, ours_said, theirs_said)
+}
+
 fn run(words: &[&str]) -> Result<(), String> {
     match words {
         ["count"] => {
             let nothing = &mut || ();
             println!("an empty call\tours");
             measure::marked(nothing);
-            for w in workloads::all().iter().filter(|w| w.is_counted) {
+            for w in workloads::all().iter().filter(|w| !w.is_vast) {
                 let mut pair = pair(w)?;
                 println!("{}\tours", w.name);
                 measure::marked(&mut *pair.ours);
@@ -112,6 +127,7 @@ fn run(words: &[&str]) -> Result<(), String> {
             }
             Ok(())
         }
+        ["count", "vast"] => workloads::all().iter().filter(|w| w.is_vast).try_for_each(count_vast),
         ["time"] => {
             for w in workloads::all() {
                 let (ours, theirs, samples) = measure::times(&mut pair(&w)?);
@@ -120,7 +136,7 @@ fn run(words: &[&str]) -> Result<(), String> {
             Ok(())
         }
         ["report", counts, times, about, folder] => report::write(counts, times, about, folder),
-        _ => Err("usage: benchmark count | time | report COUNTS TIMES ABOUT FOLDER".to_owned()),
+        _ => Err("usage: benchmark count [vast] | time | report COUNTS TIMES ABOUT FOLDER".to_owned()),
     }
 }
 

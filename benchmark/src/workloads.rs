@@ -28,8 +28,8 @@ pub struct Workload {
     pub table: Table,
     pub way: Way,
     pub input: Vec<u8>,
-    /// Whether its instructions are counted; where that would take hours it is only timed.
-    pub is_counted: bool,
+    /// So many instructions, a hundred thousand million, that they are counted once and its answers compared in that same call.
+    pub is_vast: bool,
 }
 
 pub const LONG: usize = 4096;
@@ -37,7 +37,7 @@ const ANSWER: &[u8] = b"\r\n+CSQ: 17,99\r\n\r\nOK\r\n";
 const EXCHANGE: &[u8] = b"AT+CSQ\r\r\n+CSQ: 17,99\r\n\r\nOK\r\n";
 const NOTICE: &[u8] = b"\r\n+UUSORD: 0,4\r\n";
 const OK: &[u8] = b"\r\nOK\r\n";
-const UNCOUNTED: &str = "listing of 4,096 bytes, byte by byte";
+const VAST: &str = "listing of 4,096 bytes, byte by byte";
 
 /// A text over and over, as many bytes as are asked for; the last may be cut.
 fn over_and_over(text: &[u8], len: usize) -> Vec<u8> {
@@ -60,7 +60,7 @@ fn lines(end: &[u8], len: usize) -> Vec<u8> {
 /// The workloads, in the order of the table.
 pub fn all() -> Vec<Workload> {
     let mut all = Vec::new();
-    let mut add = |group, name, table, way, input: Vec<u8>| all.push(Workload { group, name, table, way, input, is_counted: name != UNCOUNTED });
+    let mut add = |group, name, table, way, input: Vec<u8>| all.push(Workload { group, name, table, way, input, is_vast: name == VAST });
     let digest = Way::Digest;
     let empty = Table::Empty;
 
@@ -109,7 +109,7 @@ pub fn all() -> Vec<Workload> {
     add(group, "typical exchange, table of 56, byte by byte", Table::Many, Way::Pieces(1), EXCHANGE.to_vec());
     add(group, "listing of 4,096 bytes, pieces of 64", empty, Way::Pieces(64), lines(OK, LONG));
     add(group, "listing of 1,024 bytes, byte by byte", empty, Way::Pieces(1), lines(OK, 1024));
-    add(group, UNCOUNTED, empty, Way::Pieces(1), lines(OK, LONG));
+    add(group, VAST, empty, Way::Pieces(1), lines(OK, LONG));
     add(group, "CRLFs, 256 bytes, byte by byte", empty, Way::Pieces(1), over_and_over(b"\r\n", 256));
     add(group, "slot alone: signal, reset", empty, Way::Signal, b"+CSQ: 17,99".to_vec());
     all

@@ -9,9 +9,11 @@ use std::sync::mpsc;
 use std::thread;
 use std::time::Duration;
 
-/// `cargo test` builds the examples, two folders up from this test's own program.
+/// `cargo test` builds the examples, two folders up from this test's own program. On a machine of another kind
+/// `WALUMBEEX_RUNNER` has the words that start an x86-64 program.
 fn program() -> Command {
-    let mut path: PathBuf = std::env::current_exe().unwrap();
+    // Not current_exe: where a loader is named in front of the program, that is the loader.
+    let mut path = PathBuf::from(std::env::args_os().next().unwrap());
     path.pop();
     path.pop();
     path.push("examples/listen");
@@ -19,7 +21,16 @@ fn program() -> Command {
         path.is_file(),
         "the example isn't built: `cargo build --example listen` builds it, and so does a plain `cargo test`"
     );
-    Command::new(path)
+    let runner = std::env::var("WALUMBEEX_RUNNER").unwrap_or_default();
+    let mut words = runner.split_whitespace();
+    match words.next() {
+        None => Command::new(path),
+        Some(first) => {
+            let mut command = Command::new(first);
+            command.args(words).arg(path);
+            command
+        }
+    }
 }
 
 fn listen(words: &[&str], input: &[u8]) -> Output {

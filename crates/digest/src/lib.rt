@@ -160,7 +160,7 @@ fn skipped(s: &[u8]) -> usize
     ensures { λ r. ⌜ r ≡ skipped (now (s .entry)) ⌝ }
 {
     let a = text::skip(Blanks::Space, s, 0);
-    match text::find(s, a, &parser::CRLF) {
+    match parser::find_crlf(s, a) {
         Found::At(k) => k,
         Found::Nothing => a,
     }

@@ -2,9 +2,10 @@
 // Named after the functions of atat's `parser` module; the order in which the forms are tried is the digester's.
 // Every function is total: a place past the end holds nothing, and an empty text has a stated answer.
 ghost use mathlib.Core.Path.{_≡_};
+ghost use mathlib.Core.List.{[], _∷_};
 ghost use lib.ListN.{length};
 ghost use Rattle.text.specs.Text.{stands, findIn};
-ghost use Rattle.parser.specs.Parser.{fixedText, lineEnding, isDigit, digitsAt, tailAt, numericAt, numericError, promptFrom, customPrompt, wrapped, breaksOff, noticeText, noticeAt};
+ghost use Rattle.parser.specs.Parser.{crlf, fixedText, lineEnding, isDigit, digitsAt, tailAt, numericAt, numericError, promptFrom, customPrompt, wrapped, breaksOff, noticeText, noticeAt};
 use text::Blanks;
 use text::Found;
 
@@ -72,8 +73,8 @@ pub fn fixed_at(buf: &[u8], place: usize, fixed: Fixed) -> bool
     }
 }
 
-// The fixed text's first place at or after `from`.
-pub fn find_fixed(buf: &[u8], from: usize, fixed: Fixed) -> Found
+// The fixed text's first place at or after `from`, place by place.
+fn find_short(buf: &[u8], from: usize, fixed: Fixed) -> Found
     ensures { λ r. ⌜ r ≡ findIn (fixedText fixed) (now (buf .entry)) from ⌝ }
 {
     match fixed {
@@ -90,6 +91,46 @@ pub fn find_fixed(buf: &[u8], from: usize, fixed: Fixed) -> Found
         Fixed::Cms => text::find(buf, from, &CMS_ERROR),
         Fixed::Modem => text::find(buf, from, &MODEM_ERROR),
     }
+}
+
+// The same by blocks, for long inputs; the two numbers are the places in the text of bytes that ordinary traffic seldom has so far apart.
+fn find_long(buf: &[u8], from: usize, fixed: Fixed) -> Found
+    ensures { λ r. ⌜ r ≡ findIn (fixedText fixed) (now (buf .entry)) from ⌝ }
+{
+    match fixed {
+        Fixed::Ok => seek::find(buf, from, &OK, 2, 3),
+        Fixed::Connect => seek::find(buf, from, &CONNECT, 4, 5),
+        Fixed::Error => seek::find(buf, from, &ERROR, 6, 7),
+        Fixed::CommandNotSupport => seek::find(buf, from, &COMMAND_NOT_SUPPORT, 4, 5),
+        Fixed::NoCarrier => seek::find(buf, from, &NO_CARRIER, 9, 10),
+        Fixed::Busy => seek::find(buf, from, &BUSY, 2, 5),
+        Fixed::NoAnswer => seek::find(buf, from, &NO_ANSWER, 7, 8),
+        Fixed::NoDialtone => seek::find(buf, from, &NO_DIALTONE, 8, 9),
+        Fixed::Na => seek::find(buf, from, &NA, 2, 3),
+        Fixed::Cme => seek::find(buf, from, &CME_ERROR, 5, 12),
+        Fixed::Cms => seek::find(buf, from, &CMS_ERROR, 5, 12),
+        Fixed::Modem => seek::find(buf, from, &MODEM_ERROR, 4, 13),
+    }
+}
+
+// The fixed text's first place at or after `from`.
+pub fn find_fixed(buf: &[u8], from: usize, fixed: Fixed) -> Found
+    ensures { λ r. ⌜ r ≡ findIn (fixedText fixed) (now (buf .entry)) from ⌝ }
+{
+    if buf.len() < seek::SHORT {
+        return find_short(buf, from, fixed);
+    }
+    find_long(buf, from, fixed)
+}
+
+// The first CRLF at or after `from`.
+pub fn find_crlf(buf: &[u8], from: usize) -> Found
+    ensures { λ r. ⌜ r ≡ findIn crlf (now (buf .entry)) from ⌝ }
+{
+    if buf.len() < seek::SHORT {
+        return text::find(buf, from, &CRLF);
+    }
+    seek::find(buf, from, &CRLF, 0, 1)
 }
 
 // How long the fixed text is, with its CRLFs.
@@ -224,12 +265,22 @@ pub fn numeric_error(buf: &[u8], from: usize, head: Fixed) -> Numeric
     numeric_at(buf, place, head)
 }
 
+// The byte's first place at or after `from`.
+fn find_byte(buf: &[u8], from: usize, byte: u8) -> Found
+    ensures { λ r. ⌜ r ≡ findIn (byte ∷ []) (now (buf .entry)) from ⌝ }
+{
+    let one = [byte];
+    if buf.len() < seek::SHORT {
+        return text::find(buf, from, &one);
+    }
+    seek::find(buf, from, &one, 0, 0)
+}
+
 // A prompt: has the first such byte at or after `from` only run blanks after it?
 pub fn prompt_from(buf: &[u8], from: usize, byte: u8) -> bool
     ensures { λ r. ⌜ r ≡ promptFrom byte (now (buf .entry)) from ⌝ }
 {
-    let one = [byte];
-    let Found::At(place) = text::find(buf, from, &one) else {
+    let Found::At(place) = find_byte(buf, from, byte) else {
         return false;
     };
     let end = text::skip(Blanks::Run, buf, place + 1);

@@ -8,11 +8,8 @@ use Rattle.digest.proofs.skipped.Tie as tie
 skip-requires : tie.Need-skip-requires
 skip-requires c κs = search needs
 
-slice-aggregate-find : tie.Need-slice-aggregate-find
-slice-aggregate-find c = search needs
-
-find-requires : tie.Need-find-requires
-find-requires c κs = search needs
+find-crlf-requires : tie.Need-find-crlf-requires
+find-crlf-requires c κs = search needs
 
 enum-known-k : tie.Need-enum-known-k
 enum-known-k c = search needs
@@ -22,23 +19,22 @@ enum-told c = search needs
 
 returns : tie.Need-returns
 returns c =
-    let skip = c .before .before .before .before .before .skip in
-    let find = c .before .before .before .find in
-    skipped-at _ _ (skip .ensures) _ (find .ensures) _ (c .before .k .given .1)
+    let skip = c .before .before .before .before .skip in
+    let find-crlf = c .before .before .before .find-crlf in
+    skipped-at _ _ (skip .ensures) _ (find-crlf .ensures) _ (c .before .k .given .1)
 
 returns-2 : tie.Need-returns-2
 returns-2 c =
-    let skip = c .before .before .before .before .skip in
-    let find = c .before .before .find in
-    skipped-none _ _ (skip .ensures) _ (find .ensures) (c .enum-told .given .1)
+    let skip = c .before .before .before .skip in
+    let find-crlf = c .before .before .find-crlf in
+    skipped-none _ _ (skip .ensures) _ (find-crlf .ensures) (c .enum-told .given .1)
 
 pub skipped-spec : {M : Type 1} → statement M
 skipped-spec =
     tie.close
     (tie.spec
     skip-requires
-    slice-aggregate-find
-    find-requires
+    find-crlf-requires
     enum-known-k
     enum-told
     returns

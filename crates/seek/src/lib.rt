@@ -1,0 +1,125 @@
+// The search of `text` for long inputs, a block of places at a time, behind the same contract.
+// A text is looked for by two of its bytes, those at k and l in it. The caller picks two that ordinary traffic seldom has so far apart:
+// they change what a search costs, and nothing else.
+ghost use mathlib.Core.Path.{_≡_};
+ghost use Prim.Native.Nat.{_≤_, _<_, _+_, min};
+ghost use lib.ListN.{length};
+ghost use Rattle.text.specs.Text.{stands, findIn};
+ghost use Rattle.seek.specs.Seek.{bothAt, anyOf, orNext, Later};
+use text::Found;
+
+// Is there a j below n with b at `at` + j and c at `to` + j? It goes through all n, so that a processor may take many at once.
+fn hit(s: &[u8], at: usize, b: u8, to: usize, c: u8, n: usize) -> bool
+    requires { ⌜ (at + n ≤ length (now s)) × (to + n ≤ length (now s)) ⌝ }
+    ensures { λ r. ⌜ r ≡ anyOf (bothAt (now (s .entry)) at b to c) n ⌝ }
+{
+    let mut any = false;
+    let mut j = 0;
+    while j < n {
+        any = any | ((s[at + j] == b) & (s[to + j] == c));
+        j += 1;
+    }
+    any
+}
+
+// A later place with the same answer: past the blocks of n places, up to the place e, none of which has t's bytes k and l.
+fn pass(s: &[u8], from: usize, e: usize, t: &[u8], k: usize, l: usize, n: usize) -> usize
+    requires { ⌜ (k < length (now t)) × (l < length (now t)) ⌝ }
+    requires { ⌜ (from ≤ e) × (e + length (now t) ≤ length (now s) + 1) ⌝ }
+    requires { ⌜ 0 < n ⌝ }
+    ensures { λ r. ⌜ Later (findIn (now (t .entry)) (now (s .entry))) from e r ⌝ }
+{
+    let mut i = from;
+    while n <= e - i {
+        if hit(s, i + k, t[k], i + l, t[l], n) {
+            return i;
+        }
+        i += n;
+    }
+    i
+}
+
+// Does t stand in s at p? Its byte k is asked first: most places don't have it.
+fn holds(s: &[u8], p: usize, t: &[u8], k: usize) -> bool
+    requires { ⌜ (k < length (now t)) × (p + length (now t) ≤ length (now s)) ⌝ }
+    ensures { λ r. ⌜ r ≡ stands (now (t .entry)) (now (s .entry)) p ⌝ }
+{
+    if s[p + k] != t[k] {
+        return false;
+    }
+    text::matches_at(s, p, t)
+}
+
+// The first place from `from` on and before e where t stands, one by one.
+fn find_upto(s: &[u8], from: usize, e: usize, t: &[u8], k: usize) -> Found
+    requires { ⌜ k < length (now t) ⌝ }
+    requires { ⌜ (from ≤ e) × (e + length (now t) ≤ length (now s) + 1) ⌝ }
+    ensures { λ r. ⌜ findIn (now (t .entry)) (now (s .entry)) from ≡ orNext r (findIn (now (t .entry)) (now (s .entry)) e) ⌝ }
+{
+    let mut p = from;
+    while p < e {
+        if holds(s, p, t, k) {
+            return Found::At(p);
+        }
+        p += 1;
+    }
+    Found::Nothing
+}
+
+// The places of a block, and of four, which are passed over at once where none has the two bytes.
+const BLOCK: usize = 16;
+
+const FOUR: usize = 64;
+
+// The end of the block at p: 16 places on, or e.
+fn block_end(p: usize, e: usize) -> usize
+    requires { ⌜ p ≤ e ⌝ }
+    ensures { λ r. ⌜ r ≡ min (p + 16) e ⌝ }
+{
+    if e - p < BLOCK {
+        return e;
+    }
+    p + BLOCK
+}
+
+// By blocks, up to the end e of the places where t fits: over those without the two bytes, then one by one through a block that has them.
+fn find_long(s: &[u8], from: usize, e: usize, t: &[u8], k: usize, l: usize) -> Found
+    requires { ⌜ (k < length (now t)) × (l < length (now t)) ⌝ }
+    requires { ⌜ (from ≤ e) × (e + length (now t) ≡ length (now s) + 1) ⌝ }
+    ensures { λ r. ⌜ r ≡ findIn (now (t .entry)) (now (s .entry)) from ⌝ }
+{
+    let mut i = from;
+    while i < e {
+        let past = pass(s, i, e, t, k, l, FOUR);
+        let p = pass(s, past, e, t, k, l, BLOCK);
+        let end = block_end(p, e);
+        if let Found::At(q) = find_upto(s, p, end, t, k) {
+            return Found::At(q);
+        }
+        i = end;
+    }
+    Found::Nothing
+}
+
+// Inputs shorter than this are better searched place by place: a search by blocks takes its time to start.
+pub const SHORT: usize = 64;
+
+// The first place at or after `from` where t stands in s, letter case exact; where k or l is no byte of t, it is `text::find`.
+pub fn find(s: &[u8], from: usize, t: &[u8], k: usize, l: usize) -> Found
+    ensures { λ r. ⌜ r ≡ findIn (now (t .entry)) (now (s .entry)) from ⌝ }
+{
+    if t.len() <= k {
+        return text::find(s, from, t);
+    }
+    if t.len() <= l {
+        return text::find(s, from, t);
+    }
+    if s.len() < t.len() {
+        return Found::Nothing;
+    }
+    let e = s.len() - t.len() + 1;
+    if e < from {
+        return Found::Nothing;
+    }
+    find_long(s, from, e, t, k, l)
+}
