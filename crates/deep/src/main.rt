@@ -25,7 +25,7 @@ fn main() {
     fill(&mut buf);
     match digest::digest(b"", &buf) {
         Digested::Is(a) => {
-            if digest::is_found(a) {
+            if answers::is_found(a) {
                 io::write_all(STDOUT_FILENO, b"4096 bytes of CRLF: found something, ");
             } else {
                 io::write_all(STDOUT_FILENO, b"4096 bytes of CRLF: None, ");

@@ -12,16 +12,17 @@ use Rattle.text.specs.declared.Found.the-variants.{At, Nothing}
 use Rattle.table.specs.Outcome.{Outcome, answered, refused}
 use Rattle.table.specs.Table.{Token, Entry, ofMark, tokens, ruling}
 use Rattle.table.specs.declared.Mark.the-variants as mark
-use Rattle.parser.specs.Parser.{crlf, fixedText, numericError, promptFrom, customPrompt, wrapped, noticeAt}
-use Rattle.parser.specs.declared.Fixed.{Fixed}
-use Rattle.parser.specs.declared.Fixed.the-variants as fixed
+use Rattle.lines.specs.Lines.{crlf, fixedText}
+use Rattle.parser.specs.Parser.{numericError, promptFrom, customPrompt, wrapped, noticeAt}
+use Rattle.lines.specs.declared.Fixed.{Fixed}
+use Rattle.lines.specs.declared.Fixed.the-variants as fixed
 use Rattle.parser.specs.declared.Numeric.{Numeric}
 use Rattle.parser.specs.declared.Numeric.the-variants as numeric
 use Rattle.parser.specs.declared.Notice.{Notice}
 use Rattle.parser.specs.declared.Notice.the-variants as notice
-use Rattle.digest.specs.declared.Kind.{Kind}
-use Rattle.digest.specs.declared.Kind.the-variants as kind
-use Rattle.digest.specs.declared.Answer.{Answer}
+use Rattle.answers.specs.declared.Kind.{Kind}
+use Rattle.answers.specs.declared.Kind.the-variants as kind
+use Rattle.answers.specs.declared.Answer.{Answer}
 use Rattle.digest.specs.declared.Occurs.{Occurs}
 use Rattle.digest.specs.declared.Occurs.the-variants as occurs
 use Rattle.digest.specs.declared.Digested.{Digested}
@@ -30,7 +31,7 @@ use Rattle.digest.specs.declared.Rule.{Rule}
 use Rattle.digest.specs.declared.Rule.the-variants as rule
 use Rattle.digest.specs.declared.Tried.{Tried}
 use Rattle.digest.specs.declared.Tried.the-variants.{Done, Next}
-use Rattle.digest.specs.Answer.{isFound, answer, nothing, shift}
+use Rattle.answers.specs.Answer.{isFound, answer, nothing, shift}
 
 -- the first of the two that answers
 unfoldable pub orElse : Tried → Tried → Tried

@@ -9,10 +9,10 @@ use Rattle.text.specs.Text.{isBlank, past, keep, trimmed, stands, findIn, partO
 use Rattle.table.specs.Outcome.{Outcome, answered, refused}
 use Rattle.table.specs.Table.{ruling, tokens, ofMark}
 use Rattle.parser.specs.Parser.{numericError, promptFrom, customPrompt, noticeAt}
-use Rattle.digest.specs.declared.Kind.{Kind}
-use Rattle.digest.specs.declared.Kind.the-variants.{None, Ok, Prompt, Cme, Cms, NotAllowed, Notice}
-use Rattle.digest.specs.declared.Answer.{Answer}
-use Rattle.digest.specs.Answer.{Number, none, number, numberOf}
+use Rattle.answers.specs.declared.Kind.{Kind}
+use Rattle.answers.specs.declared.Kind.the-variants.{None, Ok, Prompt, Cme, Cms, NotAllowed, Notice}
+use Rattle.answers.specs.declared.Answer.{Answer}
+use Rattle.answers.specs.Answer.{Number, none, number, numberOf}
 use Rattle.digest.specs.Digest.{digested}
 
 pub record Known : Type 0 where

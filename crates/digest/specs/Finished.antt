@@ -11,9 +11,10 @@ use Rattle.text.specs.Text.{isBlank, stands}
 use Rattle.text.specs.declared.Blanks.the-variants as blanks
 use Rattle.table.specs.Table.{Token, ofMark}
 use Rattle.table.specs.declared.Mark.the-variants as mark
-use Rattle.parser.specs.Parser.{crlf, fixedText, lineEnding, isDigit, value, wrapped, breaksOff}
-use Rattle.parser.specs.declared.Fixed.{Fixed}
-use Rattle.parser.specs.declared.Fixed.the-variants as fixed
+use Rattle.lines.specs.Lines.{crlf, fixedText}
+use Rattle.parser.specs.Parser.{lineEnding, isDigit, value, wrapped, breaksOff}
+use Rattle.lines.specs.declared.Fixed.{Fixed}
+use Rattle.lines.specs.declared.Fixed.the-variants as fixed
 
 -- something in the list has the property
 abbrev pub Some : {A : Type 0} → (A → Type 0) → List A → Type 0

@@ -6,8 +6,8 @@ use Prim.Native.Nat.{ℕ, _+_, _≤_}
 use lib.ListN.{length}
 use Rattle.table.specs.Outcome.{Outcome, answered, refused}
 use Rattle.table.specs.Table.{Token, tokens}
-use Rattle.digest.specs.declared.Answer.{Answer}
-use Rattle.digest.specs.Answer.{isFound}
+use Rattle.answers.specs.declared.Answer.{Answer}
+use Rattle.answers.specs.Answer.{isFound}
 use Rattle.digest.specs.Digest.{skipped}
 use Rattle.digest.specs.Finished.{Holds, NothingFinished}
 

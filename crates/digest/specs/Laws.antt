@@ -21,23 +21,25 @@ use Rattle.table.specs.declared.Mark.the-variants as mark
 use Rattle.table.specs.declared.Record.{Record}
 use Rattle.table.specs.declared.Next.{Next}
 use Rattle.table.specs.declared.Next.the-variants as next
-use Rattle.parser.specs.Parser.{crlf, fixedText, numericError, customPrompt, wrapped, noticeAt}
-use Rattle.parser.specs.Laws.{fixed-some, notice-bounds}
-use Rattle.parser.specs.declared.Fixed.{Fixed}
-use Rattle.parser.specs.declared.Fixed.the-variants as fixed
+use Rattle.lines.specs.Lines.{crlf, fixedText}
+use Rattle.parser.specs.Parser.{numericError, customPrompt, wrapped, noticeAt}
+use Rattle.lines.specs.Laws.{fixed-some}
+use Rattle.parser.specs.Laws.{notice-bounds}
+use Rattle.lines.specs.declared.Fixed.{Fixed}
+use Rattle.lines.specs.declared.Fixed.the-variants as fixed
 use Rattle.parser.specs.declared.Digits.{Digits}
 use Rattle.parser.specs.declared.Numeric.{Numeric}
 use Rattle.parser.specs.declared.Numeric.the-variants as numeric
 use Rattle.parser.specs.declared.Notice.{Notice}
 use Rattle.parser.specs.declared.Notice.the-variants as notice
-use Rattle.digest.specs.declared.Kind.{Kind}
-use Rattle.digest.specs.declared.Kind.the-variants as kind
-use Rattle.digest.specs.declared.Answer.{Answer}
+use Rattle.answers.specs.declared.Kind.{Kind}
+use Rattle.answers.specs.declared.Kind.the-variants as kind
+use Rattle.answers.specs.declared.Answer.{Answer}
 use Rattle.digest.specs.declared.Occurs.{Occurs}
 use Rattle.digest.specs.declared.Occurs.the-variants as occurs
 use Rattle.digest.specs.declared.Tried.{Tried}
 use Rattle.digest.specs.declared.Tried.the-variants as tries
-use Rattle.digest.specs.Answer.{numbered, stored, kindFound, placed, answer, nothing, shift}
+use Rattle.answers.specs.Answer.{numbered, stored, kindFound, placed, answer, nothing, shift}
 use Rattle.digest.specs.Digest.{orElse, foundOr, skipped, trimmedAnswer, heard, notices, occursOr, firstCustom, success, customSuccess, lineSuccess, promptTried, customPrompts, customError, numericTried, lineTried, headTried, numericFrom, lineFrom, retries, after}
 
 -- A chain of rules: u is what the first rule t gave. It answered; or it didn't, and the rest r decides.

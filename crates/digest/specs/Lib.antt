@@ -1,4 +1,3 @@
-pub mod Answer
 pub mod Digest
 pub mod Finished
 pub mod Heard

@@ -20,7 +20,8 @@ use Rattle.text.specs.declared.Found.{Found}
 use Rattle.text.specs.declared.Found.the-variants.{At, Nothing}
 use Rattle.table.specs.Table.{isText}
 use Rattle.table.specs.Laws.{text-some, text-end}
-use Rattle.parser.specs.Parser.{crlf, onlyBlanks, promptFrom, customPrompt, isDigit, valueAfter, value, atMost, digitsAt, ifEnded, endedRun, tailAt, ifHead, numericAt, lineEnding, pick, breaksOff, through, ifColon, ifBare, unlessBroken, noticeText, afterEnding, noticeAt}
+use Rattle.lines.specs.Lines.{crlf}
+use Rattle.parser.specs.Parser.{onlyBlanks, promptFrom, customPrompt, isDigit, valueAfter, value, atMost, digitsAt, ifEnded, endedRun, tailAt, ifHead, numericAt, lineEnding, pick, breaksOff, through, ifColon, ifBare, unlessBroken, noticeText, afterEnding, noticeAt}
 use Rattle.parser.specs.Laws.{text-broken, text-bare, text-through, notice-none, notice-is, digit-bounds, ending-fits}
 use Rattle.parser.specs.declared.Digits.{Digits}
 use Rattle.parser.specs.declared.Run.{Run}

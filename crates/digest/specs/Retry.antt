@@ -20,15 +20,16 @@ use Rattle.text.specs.declared.Found.the-variants.{At, Nothing}
 use Rattle.table.specs.Table.{Token, Entry, ofMark}
 use Rattle.table.specs.Laws.{Texts, mark-texts}
 use Rattle.table.specs.declared.Mark.the-variants as mark
-use Rattle.parser.specs.Parser.{crlf, fixedText, promptFrom, customPrompt, wrapped}
-use Rattle.parser.specs.declared.Fixed.{Fixed}
-use Rattle.parser.specs.declared.Fixed.the-variants as fixed
-use Rattle.digest.specs.declared.Kind.{Kind}
-use Rattle.digest.specs.declared.Kind.the-variants as kind
+use Rattle.lines.specs.Lines.{crlf, fixedText}
+use Rattle.parser.specs.Parser.{promptFrom, customPrompt, wrapped}
+use Rattle.lines.specs.declared.Fixed.{Fixed}
+use Rattle.lines.specs.declared.Fixed.the-variants as fixed
+use Rattle.answers.specs.declared.Kind.{Kind}
+use Rattle.answers.specs.declared.Kind.the-variants as kind
 use Rattle.digest.specs.declared.Occurs.{Occurs}
 use Rattle.digest.specs.declared.Occurs.the-variants as occurs
 use Rattle.digest.specs.declared.Tried.the-variants as tries
-use Rattle.digest.specs.Answer.{isFound, answer, nothing}
+use Rattle.answers.specs.Answer.{isFound, answer, nothing}
 use Rattle.digest.specs.Digest.{orElse, skipped, trimmedAnswer, success, notices, firstCustom, customSuccess, lineSuccess, successes, promptTried, customPrompts, prompts, customError, lineTried, headTried, lineFrom, numericErrors, lineErrors, errors, tried, digest}
 use Rattle.digest.specs.Finished.{Some, LineStart, atCrlf, onlyOne, EndsIn}
 use Rattle.digest.specs.Position.{ends-told, custom-moved}

@@ -14,22 +14,23 @@ use Rattle.text.specs.declared.Found.{Found}
 use Rattle.text.specs.declared.Found.the-variants.{At, Nothing}
 use Rattle.table.specs.Table.{Token, Entry, ofMark}
 use Rattle.table.specs.declared.Mark.the-variants as mark
-use Rattle.parser.specs.Parser.{fixedText, numericError, promptFrom, customPrompt, noticeAt}
+use Rattle.lines.specs.Lines.{fixedText}
+use Rattle.parser.specs.Parser.{numericError, promptFrom, customPrompt, noticeAt}
 use Rattle.parser.specs.Laws.{notice-bounds, error-bounds}
-use Rattle.parser.specs.declared.Fixed.{Fixed}
-use Rattle.parser.specs.declared.Fixed.the-variants as fixed
+use Rattle.lines.specs.declared.Fixed.{Fixed}
+use Rattle.lines.specs.declared.Fixed.the-variants as fixed
 use Rattle.parser.specs.declared.Numeric.{Numeric}
 use Rattle.parser.specs.declared.Numeric.the-variants as numeric
 use Rattle.parser.specs.declared.Notice.{Notice}
 use Rattle.parser.specs.declared.Notice.the-variants as notice
-use Rattle.digest.specs.declared.Kind.{Kind}
-use Rattle.digest.specs.declared.Kind.the-variants as kind
-use Rattle.digest.specs.declared.Answer.{Answer}
+use Rattle.answers.specs.declared.Kind.{Kind}
+use Rattle.answers.specs.declared.Kind.the-variants as kind
+use Rattle.answers.specs.declared.Answer.{Answer}
 use Rattle.digest.specs.declared.Occurs.{Occurs}
 use Rattle.digest.specs.declared.Occurs.the-variants as occurs
 use Rattle.digest.specs.declared.Tried.{Tried}
 use Rattle.digest.specs.declared.Tried.the-variants as tries
-use Rattle.digest.specs.Answer.{isFound, placed, answer, nothing, shift}
+use Rattle.answers.specs.Answer.{isFound, placed, answer, nothing, shift}
 use Rattle.digest.specs.Digest.{orElse, skipped, trimmedAnswer, heard, notices, firstCustom, success, customSuccess, lineSuccess, successes, promptTried, customPrompts, prompts, customError, numericTried, lineTried, headTried, numericFrom, lineFrom, numericErrors, lineErrors, errors, tried, retries, ifFound, again, after, digestBy, digest}
 use Rattle.digest.specs.Laws.{trim-room, occurs-room, line-room, na-room, retries-room, skipped-le}
 

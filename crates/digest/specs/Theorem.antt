@@ -24,25 +24,26 @@ use Rattle.table.specs.Outcome.{Outcome, answered, refused}
 use Rattle.table.specs.Table.{isText, Token, Entry, ofMark, tokens, ruling}
 use Rattle.table.specs.Laws.{Texts, EntryTexts, mark-texts, text-some, text-byte, good-tokens}
 use Rattle.table.specs.declared.Mark.the-variants as mark
-use Rattle.parser.specs.Parser.{crlf, fixedText, value, pick, lineEnding, atFound, numericAt, numericError, promptFrom, customPrompt, wrapped, breaksOff, noticeAt}
+use Rattle.lines.specs.Lines.{crlf, fixedText}
+use Rattle.parser.specs.Parser.{value, pick, lineEnding, atFound, numericAt, numericError, promptFrom, customPrompt, wrapped, breaksOff, noticeAt}
 use Rattle.parser.specs.Laws.{ending-fits}
-use Rattle.parser.specs.declared.Fixed.{Fixed}
-use Rattle.parser.specs.declared.Fixed.the-variants as fixed
+use Rattle.lines.specs.declared.Fixed.{Fixed}
+use Rattle.lines.specs.declared.Fixed.the-variants as fixed
 use Rattle.parser.specs.declared.Digits.{Digits}
 use Rattle.parser.specs.declared.Numeric.{Numeric}
 use Rattle.parser.specs.declared.Numeric.the-variants as numeric
 use Rattle.parser.specs.declared.Notice.{Notice}
 use Rattle.parser.specs.declared.Notice.the-variants as notice
-use Rattle.digest.specs.declared.Kind.{Kind}
-use Rattle.digest.specs.declared.Kind.the-variants as kind
-use Rattle.digest.specs.declared.Answer.{Answer}
+use Rattle.answers.specs.declared.Kind.{Kind}
+use Rattle.answers.specs.declared.Kind.the-variants as kind
+use Rattle.answers.specs.declared.Answer.{Answer}
 use Rattle.digest.specs.declared.Occurs.{Occurs}
 use Rattle.digest.specs.declared.Occurs.the-variants as occurs
 use Rattle.digest.specs.declared.Digested.{Digested}
 use Rattle.digest.specs.declared.Digested.the-variants as says
 use Rattle.digest.specs.declared.Tried.{Tried}
 use Rattle.digest.specs.declared.Tried.the-variants as tries
-use Rattle.digest.specs.Answer.{kindFound, isFound, answer, nothing, shift}
+use Rattle.answers.specs.Answer.{kindFound, isFound, answer, nothing, shift}
 use Rattle.digest.specs.Digest.{orElse, foundOr, skipped, trimmedAnswer, heard, notices, occursOr, firstCustom, success, customSuccess, lineSuccess, successes, promptTried, customPrompts, prompts, customError, numericTried, lineTried, headTried, numericFrom, lineFrom, numericErrors, lineErrors, errors, tried, retries, ifFound, again, after, digest, underTable, unlessLong, digested, outcome, unlessOver, digestChecked}
 use Rattle.digest.specs.Finished.{Some, All, LineStart, atCrlf, onlyOne, NoticeEnd, bare, colon, NoticeEnded, Unfinished, NumericEnded, FirstAlone, EndsIn, nine, heads, Line, Item, Holds}
 use Rattle.digest.specs.Finished as items

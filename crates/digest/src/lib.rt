@@ -6,12 +6,15 @@ ghost use lib.ListN.{length};
 ghost use Rattle.table.specs.Table.{tokens, entries};
 ghost use Rattle.table.specs.declared.Mark.the-variants as mark;
 ghost use Rattle.text.specs.Text.{stands, findIn, partOf, partAt, further};
-ghost use Rattle.parser.specs.Parser.{fixedText, noticeAt};
-ghost use Rattle.parser.specs.declared.Fixed.the-variants as fixed;
-ghost use Rattle.digest.specs.Answer.{numbered, stored, isFound, placed, answer, nothing, shift};
+ghost use Rattle.lines.specs.Lines.{fixedText};
+ghost use Rattle.parser.specs.Parser.{noticeAt};
+ghost use Rattle.lines.specs.declared.Fixed.the-variants as fixed;
+ghost use Rattle.answers.specs.Answer.{numbered, stored, isFound, placed, answer, nothing, shift};
 ghost use Rattle.digest.specs.Digest.{skipped, trimmedAnswer, heard, notices, firstCustom, success, customSuccess, lineSuccess, successes, customPrompts, promptTried, prompts, customError, numericFrom, lineFrom, numericErrors, lineErrors, headTried, errors, byRule, tried, retries, digest, digested, digestChecked, outcome};
 ghost use Rattle.digest.specs.Heard.{HeardIn};
-use parser::Fixed;
+use answers::Answer;
+use answers::Kind;
+use lines::Fixed;
 use parser::Notice;
 use parser::Numeric;
 use table::Checked;
@@ -19,33 +22,6 @@ use table::Mark;
 use table::Next;
 use text::Blanks;
 use text::Found;
-
-// What was heard. Custom is a custom error; a custom success is an Ok.
-pub enum Kind {
-    None,
-    Ok,
-    Prompt,
-    Cme,
-    Cms,
-    Unknown,
-    NotAllowed,
-    Error,
-    NoCarrier,
-    Busy,
-    NoAnswer,
-    NoDialtone,
-    Custom,
-    Notice,
-}
-
-// An answer: its kind, its number (0 where the kind has none), its payload's place and length in the caller's input, the bytes consumed.
-pub struct Answer {
-    pub kind: Kind,
-    pub number: u32,
-    pub place: usize,
-    pub len: usize,
-    pub consumed: usize,
-}
 
 // What a rule gives: an answer, or the next rule's turn.
 pub enum Tried {
@@ -57,51 +33,6 @@ pub enum Tried {
 pub enum Occurs {
     At(u32, usize, usize),
     Nothing,
-}
-
-// The number that is stored for a kind: n where it has one, else 0.
-pub fn number_of(kind: Kind, n: u32) -> u32
-    ensures { λ r. ⌜ r ≡ stored (numbered kind n) ⌝ }
-{
-    match kind {
-        Kind::None => 0,
-        Kind::Ok => 0,
-        Kind::Prompt => n,
-        Kind::Cme => n,
-        Kind::Cms => n,
-        Kind::Unknown => 0,
-        Kind::NotAllowed => 0,
-        Kind::Error => 0,
-        Kind::NoCarrier => 0,
-        Kind::Busy => 0,
-        Kind::NoAnswer => 0,
-        Kind::NoDialtone => 0,
-        Kind::Custom => n,
-        Kind::Notice => n,
-    }
-}
-
-// Is the answer another than None?
-pub fn is_found(a: Answer) -> bool
-    ensures { λ r. ⌜ r ≡ isFound a ⌝ }
-{
-    let kind = a.kind;
-    match kind {
-        Kind::None => false,
-        Kind::Ok => true,
-        Kind::Prompt => true,
-        Kind::Cme => true,
-        Kind::Cms => true,
-        Kind::Unknown => true,
-        Kind::NotAllowed => true,
-        Kind::Error => true,
-        Kind::NoCarrier => true,
-        Kind::Busy => true,
-        Kind::NoAnswer => true,
-        Kind::NoDialtone => true,
-        Kind::Custom => true,
-        Kind::Notice => true,
-    }
 }
 
 // A payload of length 0 has place 0.
@@ -120,7 +51,7 @@ fn made(kind: Kind, n: u32, place: usize, len: usize, consumed: usize) -> Answer
 {
     Answer {
         kind: kind,
-        number: number_of(kind, n),
+        number: answers::number_of(kind, n),
         place: placed_at(len, place),
         len: len,
         consumed: consumed,
@@ -160,7 +91,7 @@ fn skipped(s: &[u8]) -> usize
     ensures { λ r. ⌜ r ≡ skipped (now (s .entry)) ⌝ }
 {
     let a = text::skip(Blanks::Space, s, 0);
-    match parser::find_crlf(s, a) {
+    match lines::find_crlf(s, a) {
         Found::At(k) => k,
         Found::Nothing => a,
     }
@@ -254,8 +185,8 @@ fn custom_success(table: &[u8], s: &[u8], e: usize) -> Tried
 fn line_success(s: &[u8], e: usize, line: Fixed) -> Tried
     ensures { λ r. ⌜ r ≡ lineSuccess line (findIn (fixedText line) (now (s .entry)) e) (now (s .entry)) e ⌝ }
 {
-    match parser::find_fixed(s, e, line) {
-        Found::At(k) => success(s, e, k, k + parser::fixed_len(line)),
+    match lines::find_fixed(s, e, line) {
+        Found::At(k) => success(s, e, k, k + lines::fixed_len(line)),
         Found::Nothing => Tried::Next,
     }
 }
@@ -343,8 +274,8 @@ fn numeric_from(s: &[u8], e: usize, kind: Kind, head: Fixed) -> Tried
 fn line_from(s: &[u8], e: usize, kind: Kind, line: Fixed) -> Tried
     ensures { λ r. ⌜ r ≡ lineFrom kind line (now (s .entry)) e ⌝ }
 {
-    match parser::find_fixed(s, e, line) {
-        Found::At(k) => Tried::Done(made(kind, 0, 0, 0, k + parser::fixed_len(line))),
+    match lines::find_fixed(s, e, line) {
+        Found::At(k) => Tried::Done(made(kind, 0, 0, 0, k + lines::fixed_len(line))),
         Found::Nothing => Tried::Next,
     }
 }
@@ -388,10 +319,10 @@ fn line_errors(s: &[u8], e: usize) -> Tried
 fn not_allowed(s: &[u8], e: usize) -> Tried
     ensures { λ r. ⌜ r ≡ headTried (stands (fixedText fixed.Na) (now (s .entry)) e) e ⌝ }
 {
-    if !parser::fixed_at(s, e, Fixed::Na) {
+    if !lines::fixed_at(s, e, Fixed::Na) {
         return Tried::Next;
     }
-    Tried::Done(made(Kind::NotAllowed, 0, 0, 0, e + parser::fixed_len(Fixed::Na)))
+    Tried::Done(made(Kind::NotAllowed, 0, 0, 0, e + lines::fixed_len(Fixed::Na)))
 }
 
 // Rule 5, in its order.
@@ -452,7 +383,7 @@ fn try_once(table: &[u8], s: &[u8], e: usize) -> Tried
 fn retries_at(s: &[u8], e: usize) -> bool
     ensures { λ r. ⌜ r ≡ retries (now (s .entry)) e ⌝ }
 {
-    if !text::matches_at(s, e, &parser::CRLF) {
+    if !text::matches_at(s, e, &lines::CRLF) {
         return false;
     }
     4 < s.len() - e
@@ -472,7 +403,7 @@ fn digest_in(table: &[u8], s: &[u8]) -> Answer
             }
             let from = e + 2;
             let r = digest_in(table, &s[from..]);
-            if !is_found(r) {
+            if !answers::is_found(r) {
                 return nothing(e);
             }
             shifted(r, from)

@@ -6,9 +6,9 @@ use lib.ListN.{length, getD}
 use lib.Dec.{eqb, ltb}
 use Rattle.text.specs.Text.{partOf, partAt}
 use Rattle.table.specs.Outcome.{Outcome, answered, refused}
-use Rattle.digest.specs.declared.Kind.{Kind}
-use Rattle.digest.specs.declared.Kind.the-variants as kind
-use Rattle.digest.specs.declared.Answer.{Answer}
+use Rattle.answers.specs.declared.Kind.{Kind}
+use Rattle.answers.specs.declared.Kind.the-variants as kind
+use Rattle.answers.specs.declared.Answer.{Answer}
 use Rattle.slot.specs.Slot.{Reading}
 use Rattle.slot.specs.Slot as slots
 use Rattle.slot.specs.declared.Held.{Held}

@@ -9,11 +9,11 @@ use lib.Dec.{leb, ltb}
 use borrow.Author.Tests.{le-leb, lt-leb, lt-ltb, le-ltb}
 use Rattle.text.specs.Text.{partOf, partAt, orFront}
 use Rattle.table.specs.Outcome.{Outcome}
-use Rattle.digest.specs.declared.Kind.{Kind}
-use Rattle.digest.specs.declared.Kind.the-variants as kind
+use Rattle.answers.specs.declared.Kind.{Kind}
+use Rattle.answers.specs.declared.Kind.the-variants as kind
 use Rattle.slot.specs.declared.Held.{Held}
 use Rattle.slot.specs.declared.Held.the-variants.{Heard, Capacity}
-use Rattle.digest.specs.declared.Answer.{Answer}
+use Rattle.answers.specs.declared.Answer.{Answer}
 use Rattle.slot.specs.Slot as slots
 use Rattle.slot.specs.declared.Slot.{Slot}
 use Rattle.slot.specs.declared.Turned.{Turned}

@@ -7,9 +7,9 @@ use lib.Dec.{leb}
 use Rattle.text.specs.Text.{partOf}
 use Rattle.moves.specs.Moves.{put, moved}
 use Rattle.table.specs.Outcome.{Outcome, answered, refused}
-use Rattle.digest.specs.declared.Kind.{Kind}
-use Rattle.digest.specs.declared.Kind.the-variants as kind
-use Rattle.digest.specs.declared.Answer.{Answer}
+use Rattle.answers.specs.declared.Kind.{Kind}
+use Rattle.answers.specs.declared.Kind.the-variants as kind
+use Rattle.answers.specs.declared.Answer.{Answer}
 use Rattle.digest.specs.Digest.{digestChecked}
 use Rattle.slot.specs.Slot.{signalled}
 use Rattle.slot.specs.Slot as slots

@@ -14,14 +14,14 @@ use Rattle.moves.specs.Moves.{moved}
 use Rattle.moves.specs.Laws.{moved-length, moved-held, moved-still}
 use Rattle.table.specs.Outcome.{Outcome, answered, refused}
 use Rattle.table.specs.Table.{tokens}
-use Rattle.digest.specs.Answer.{kindFound}
+use Rattle.answers.specs.Answer.{kindFound}
 use Rattle.digest.specs.Digest.{digestChecked}
 use Rattle.digest.specs.Finished.{NothingFinished}
 use Rattle.digest.specs.Heard.{Heard}
 use Rattle.digest.specs.Laws.{none-only}
 use Rattle.digest.specs.Theorem.{checked-heard, checked-within}
-use Rattle.digest.specs.declared.Kind.{Kind}
-use Rattle.digest.specs.declared.Answer.{Answer}
+use Rattle.answers.specs.declared.Kind.{Kind}
+use Rattle.answers.specs.declared.Answer.{Answer}
 use Rattle.slot.specs.Slot.{isResponse, signalled}
 use Rattle.slot.specs.Slot as slots
 use Rattle.slot.specs.Laws.{signal-none, signal-kept, signal-stuck}

@@ -12,7 +12,7 @@ use Rattle.text.specs.Text.{partOf}
 use Rattle.moves.specs.Moves.{put, moved}
 use Rattle.digest.specs.Digest.{digestChecked}
 use Rattle.digest.specs.Theorem.{checked-within}
-use Rattle.digest.specs.declared.Answer.{Answer}
+use Rattle.answers.specs.declared.Answer.{Answer}
 use Rattle.slot.specs.Slot.{signalled}
 use Rattle.slot.specs.Slot as slots
 use Rattle.slot.specs.declared.Turned.{Turned}

@@ -8,7 +8,7 @@ use lib.Dec.{eqb}
 use Rattle.text.specs.Text.{partOf}
 use Rattle.table.specs.Outcome.{Outcome, answered, refused}
 use Rattle.table.specs.Table.{tokens}
-use Rattle.digest.specs.declared.Answer.{Answer}
+use Rattle.answers.specs.declared.Answer.{Answer}
 use Rattle.digest.specs.Digest.{digestChecked}
 use Rattle.digest.specs.Finished.{NothingFinished}
 use Rattle.slot.specs.Slot.{wasReset}

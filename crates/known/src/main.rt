@@ -1,7 +1,7 @@
 // Runs the fifteen known examples of document 01 through the digester and prints each answer as 01's table has it.
-use digest::Answer;
+use answers::Answer;
+use answers::Kind;
 use digest::Digested;
-use digest::Kind;
 use libc::STDOUT_FILENO;
 
 fn put(text: &[u8]) {

@@ -18,30 +18,14 @@ use Rattle.text.specs.Laws.{found-at, stands-fits, stands-append, stands-behind
 use Rattle.text.specs.declared.Blanks.the-variants as blanks
 use Rattle.text.specs.declared.Found.{Found}
 use Rattle.text.specs.declared.Found.the-variants.{At, Nothing}
-use Rattle.parser.specs.declared.Fixed.{Fixed}
-use Rattle.parser.specs.declared.Fixed.the-variants.{Ok, Connect, Error, CommandNotSupport, NoCarrier, Busy, NoAnswer, NoDialtone, Na, Cme, Cms, Modem}
 use Rattle.parser.specs.declared.Run.{Run}
 use Rattle.parser.specs.declared.Run.the-variants.{Value, TooLarge}
 use Rattle.parser.specs.declared.Digits.{Digits}
 use Rattle.parser.specs.declared.Numeric.{Numeric}
 use Rattle.parser.specs.declared.Numeric.the-variants as numeric
 use Rattle.parser.specs.declared.Notice.the-variants as notice
-use Rattle.parser.specs.Parser.{crlf, fixedText, pick, lineEnding, isDigit, valueAfter, value, atMost, digitsAt, ifEnded, endedRun, tailAt, ifHead, numericAt, atFound, numericError, onlyBlanks, promptFrom, customPrompt, wrapped, breaksOff, through, ifColon, ifBare, unlessBroken, noticeText, afterEnding, noticeAt}
-
--- no fixed text is empty
-pub fixed-some : (x : Fixed) → 0 < length (fixedText x)
-fixed-some Ok = omega arith
-fixed-some Connect = omega arith
-fixed-some Error = omega arith
-fixed-some CommandNotSupport = omega arith
-fixed-some NoCarrier = omega arith
-fixed-some Busy = omega arith
-fixed-some NoAnswer = omega arith
-fixed-some NoDialtone = omega arith
-fixed-some Na = omega arith
-fixed-some Cme = omega arith
-fixed-some Cms = omega arith
-fixed-some Modem = omega arith
+use Rattle.lines.specs.Lines.{crlf, fixedText}
+use Rattle.parser.specs.Parser.{pick, lineEnding, isDigit, valueAfter, value, atMost, digitsAt, ifEnded, endedRun, tailAt, ifHead, numericAt, atFound, numericError, onlyBlanks, promptFrom, customPrompt, wrapped, breaksOff, through, ifColon, ifBare, unlessBroken, noticeText, afterEnding, noticeAt}
 
 -- `lineEnding`
 module _ (s : List ℕ) (p : ℕ) where

@@ -9,8 +9,7 @@ use Rattle.text.specs.Text.{isBlank, past, keep, begins, stands, findIn}
 use Rattle.text.specs.declared.Blanks.the-variants as blanks
 use Rattle.text.specs.declared.Found.{Found}
 use Rattle.text.specs.declared.Found.the-variants.{At, Nothing}
-use Rattle.parser.specs.declared.Fixed.{Fixed}
-use Rattle.parser.specs.declared.Fixed.the-variants.{Ok, Connect, Error, CommandNotSupport, NoCarrier, Busy, NoAnswer, NoDialtone, Na, Cme, Cms, Modem}
+use Rattle.lines.specs.Lines.{crlf}
 use Rattle.parser.specs.declared.Run.{Run}
 use Rattle.parser.specs.declared.Run.the-variants.{Value, TooLarge}
 use Rattle.parser.specs.declared.Digits.{Digits}
@@ -18,24 +17,6 @@ use Rattle.parser.specs.declared.Numeric.{Numeric}
 use Rattle.parser.specs.declared.Numeric.the-variants as numeric
 use Rattle.parser.specs.declared.Notice.{Notice}
 use Rattle.parser.specs.declared.Notice.the-variants as notice
-
-abbrev pub crlf : List ℕ
-crlf = bytes "\r\n"
-
--- rules 3 and 5: the nine fixed lines, and the heads of the three numeric errors
-abbrev pub fixedText : Fixed → List ℕ
-fixedText Ok = bytes "\r\nOK\r\n"
-fixedText Connect = bytes "\r\nCONNECT\r\n"
-fixedText Error = bytes "\r\nERROR\r\n"
-fixedText CommandNotSupport = bytes "\r\nCOMMAND NOT SUPPORT\r\n"
-fixedText NoCarrier = bytes "\r\nNO CARRIER\r\n"
-fixedText Busy = bytes "\r\nBUSY\r\n"
-fixedText NoAnswer = bytes "\r\nNO ANSWER\r\n"
-fixedText NoDialtone = bytes "\r\nNO DIALTONE\r\n"
-fixedText Na = bytes "\r\nNA\r\n"
-fixedText Cme = bytes "\r\n+CME ERROR:"
-fixedText Cms = bytes "\r\n+CMS ERROR:"
-fixedText Modem = bytes "\r\nMODEM ERROR:"
 
 unfoldable pub pick : Bool → ℕ → ℕ → ℕ
 pick true a b = a

@@ -14,10 +14,10 @@ use Rattle.text.specs.Text.{partOf}
 use Rattle.text.specs.Laws.{part-is, part-none}
 use Rattle.moves.specs.Moves.{put}
 use Rattle.moves.specs.Laws.{put-is, put-length, put-held, put-elsewhere}
-use Rattle.digest.specs.declared.Kind.{Kind}
-use Rattle.digest.specs.declared.Kind.the-variants as kind
-use Rattle.digest.specs.declared.Answer.{Answer}
-use Rattle.digest.specs.Answer.{Number, none, number, numberOf, isFound}
+use Rattle.answers.specs.declared.Kind.{Kind}
+use Rattle.answers.specs.declared.Kind.the-variants as kind
+use Rattle.answers.specs.declared.Answer.{Answer}
+use Rattle.answers.specs.Answer.{Number, none, number, numberOf, isFound}
 use Rattle.digest.specs.Digest.{digestChecked}
 use Rattle.digest.specs.Theorem.{checked-inside, checked-within}
 use Rattle.report.specs.declared.Drawn.{Drawn}

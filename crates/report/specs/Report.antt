@@ -7,10 +7,10 @@ use lib.Dec.{leb, ltb}
 use Rattle.text.specs.Bytes.{bytes}
 use Rattle.text.specs.Text.{partOf}
 use Rattle.moves.specs.Moves.{put}
-use Rattle.digest.specs.declared.Kind.{Kind}
-use Rattle.digest.specs.declared.Kind.the-variants as kind
-use Rattle.digest.specs.declared.Answer.{Answer}
-use Rattle.digest.specs.Answer.{Number, none, number, numberOf, isFound}
+use Rattle.answers.specs.declared.Kind.{Kind}
+use Rattle.answers.specs.declared.Kind.the-variants as kind
+use Rattle.answers.specs.declared.Answer.{Answer}
+use Rattle.answers.specs.Answer.{Number, none, number, numberOf, isFound}
 use Rattle.digest.specs.Digest.{digestChecked}
 use Rattle.report.specs.declared.Drawn.{Drawn}
 use Rattle.report.specs.declared.Reported.{Reported}

@@ -3,10 +3,10 @@
 ghost use mathlib.Core.Path.{_≡_};
 ghost use Prim.Native.Nat.{_≤_, _<_, _+_, _*_};
 ghost use lib.ListN.{length, drop};
-ghost use Rattle.digest.specs.Answer.{numbered, isFound};
+ghost use Rattle.answers.specs.Answer.{numbered, isFound};
 ghost use Rattle.report.specs.Report.{inked, ink, decimal, hexDigit, hex, nameOf, payloadText, numberText, valueOf, lineIf, lines, drawn, draw, reported, report};
-use digest::Answer;
-use digest::Kind;
+use answers::Answer;
+use answers::Kind;
 
 // Puts a text where it fits, and answers where it ends.
 fn ink(out: &mut [u8], at: usize, text: &[u8]) -> usize
@@ -143,7 +143,7 @@ fn line(out: &mut [u8], at: usize, s: &[u8], a: Answer) -> usize
     requires { ⌜ at + (53 + 2 * a .len) ≤ length (now out) ⌝ }
     ensures { λ r. ⌜ inked (now (out .exit)) r ≡ ink (now (out .entry)) at (lineIf (isFound a) a (now (s .entry))) ⌝ }
 {
-    if !digest::is_found(a) {
+    if !answers::is_found(a) {
         return at;
     }
     let kind = a.kind;

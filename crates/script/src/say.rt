@@ -4,7 +4,7 @@ ghost use Prim.Native.Nat.{_<_};
 use super::LENGTH;
 use super::Memory;
 use super::read::plus;
-use digest::Kind;
+use answers::Kind;
 use libc::STDOUT_FILENO;
 use slot::Held;
 

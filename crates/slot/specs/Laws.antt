@@ -11,9 +11,9 @@ use Rattle.text.specs.Logic.{false-true}
 use Rattle.moves.specs.Moves.{put, oneMore}
 use Rattle.moves.specs.Laws.{put-length}
 use Rattle.table.specs.Outcome.{Outcome, answered, refused}
-use Rattle.digest.specs.Answer.{numbered, stored}
-use Rattle.digest.specs.declared.Kind.{Kind}
-use Rattle.digest.specs.declared.Answer.{Answer}
+use Rattle.answers.specs.Answer.{numbered, stored}
+use Rattle.answers.specs.declared.Kind.{Kind}
+use Rattle.answers.specs.declared.Answer.{Answer}
 use Rattle.slot.specs.declared.Held.the-variants.{Heard}
 use Rattle.slot.specs.declared.Slot.{Slot}
 use Rattle.slot.specs.declared.Turned.{Turned}

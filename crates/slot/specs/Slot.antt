@@ -6,10 +6,10 @@ use lib.ListN.{length}
 use lib.Dec.{leb}
 use Rattle.moves.specs.Moves.{put, oneMore}
 use Rattle.table.specs.Outcome.{Outcome, answered, refused}
-use Rattle.digest.specs.Answer.{numbered, stored}
-use Rattle.digest.specs.declared.Kind.{Kind}
-use Rattle.digest.specs.declared.Kind.the-variants as kind
-use Rattle.digest.specs.declared.Answer.{Answer}
+use Rattle.answers.specs.Answer.{numbered, stored}
+use Rattle.answers.specs.declared.Kind.{Kind}
+use Rattle.answers.specs.declared.Kind.the-variants as kind
+use Rattle.answers.specs.declared.Answer.{Answer}
 use Rattle.slot.specs.declared.Held.the-variants.{Heard, Capacity}
 use Rattle.slot.specs.declared.Slot.{Slot}
 use Rattle.slot.specs.declared.Turned.{Turned}

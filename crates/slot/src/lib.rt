@@ -4,8 +4,8 @@
 ghost use mathlib.Core.Path.{_≡_};
 ghost use Rattle.text.specs.Text.{partOf, partAt, further};
 ghost use Rattle.slot.specs.Slot.{isResponse, carries, newSlot, lostOne, filled, overflowing, freed, after, signalled, outcome, wasReset, wasRead, reading};
-use digest::Answer;
-use digest::Kind;
+use answers::Answer;
+use answers::Kind;
 
 // What is stored: an answer's kind, or that its payload was longer than the memory (CapacityError).
 pub enum Held {
@@ -99,7 +99,7 @@ impl Slot {
         Slot {
             signalled: true,
             held: Held::Heard(kind),
-            number: digest::number_of(kind, n),
+            number: answers::number_of(kind, n),
             len: len,
             lost: self.lost,
         }

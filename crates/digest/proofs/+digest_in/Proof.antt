@@ -14,7 +14,7 @@ use Rattle.digest.proofs.+digest_in.Tie.{close}
 use Rattle.digest.proofs.digest_in.Reads as digest-in
 use Rattle.digest.proofs.digest_in.Kinds as digest-in-kinds
 use Rattle.digest.proofs.+digest_in.Lts-digest_in as digest-in-lts
-use Rattle.digest.proofs.is_found.Reads as is-found-reads
+use Rattle.answers.proofs.is_found.Reads as is-found-reads
 use Rattle.digest.proofs.nothing.Reads as nothing-reads
 use Rattle.digest.proofs.retries_at.Reads as retries-at-reads
 use Rattle.digest.proofs.shifted.Reads as shifted-reads

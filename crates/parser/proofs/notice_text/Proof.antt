@@ -5,7 +5,7 @@ use lib.ListN.{length}
 use borrow.Author.Tests.{not-true, not-false}
 use Rattle.text.specs.Bytes.{bytes}
 use Rattle.text.specs.Laws.{found-at, stands-fits, stands-within}
-use Rattle.parser.specs.Parser.{crlf}
+use Rattle.lines.specs.Lines.{crlf}
 use Rattle.parser.specs.Laws.{text-broken, text-off, text-bare, text-other, text-through, text-open}
 use borrow.Author.Needs.{needs}
 use native.Mathlib.Omega.{arith}

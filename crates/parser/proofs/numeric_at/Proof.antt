@@ -3,7 +3,8 @@ use mathlib.Core.Path.{sym, ap, _∙_}
 use Prim.Native.Nat.{ℕ, _+_, _-_}
 use borrow.Author.Tests.{not-true, not-false}
 use Rattle.text.specs.Laws.{stands-within}
-use Rattle.parser.specs.Parser.{fixedText, tailAt}
+use Rattle.lines.specs.Lines.{fixedText}
+use Rattle.parser.specs.Parser.{tailAt}
 use Rattle.parser.specs.Laws.{numeric-off, numeric-tail}
 use borrow.Author.Needs.{needs}
 use native.Mathlib.Omega.{arith}

@@ -1,7 +1,7 @@
 -- `value` meets its contract: each arm puts a number or the payload, as its kind has one. Assumes nothing.
 use mathlib.Core.Path.{sym, ap}
 use Prim.Native.Nat.{_-_}
-use Rattle.digest.specs.Answer.{numbered}
+use Rattle.answers.specs.Answer.{numbered}
 use Rattle.report.specs.Report.{valueOf}
 use Rattle.report.specs.Laws.{same-text}
 use borrow.Author.Needs.{needs}

@@ -1,7 +1,7 @@
 -- `fixed_len` meets its contract: each arm knows its text, whose length computes. Assumes nothing.
 use borrow.Author.Needs.{needs}
-use Rattle.parser.proofs.fixed_len.Statement.{statement}
-use Rattle.parser.proofs.fixed_len.Tie as tie
+use Rattle.lines.proofs.fixed_len.Statement.{statement}
+use Rattle.lines.proofs.fixed_len.Tie as tie
 
 enum-told : tie.Need-enum-told
 enum-told c = search needs

@@ -1,8 +1,8 @@
--- `find_long` meets its contract: each arm knows its text, and the constant is its list. Assumes nothing.
+-- `find_short` meets its contract: each arm knows its text, and the constant is its list. Assumes nothing.
 use Prim.Native.Nat.{_-_}
 use borrow.Author.Needs.{needs}
-use Rattle.parser.proofs.find_long.Statement.{statement}
-use Rattle.parser.proofs.find_long.Tie as tie
+use Rattle.lines.proofs.find_short.Statement.{statement}
+use Rattle.lines.proofs.find_short.Tie as tie
 
 enum-told : tie.Need-enum-told
 enum-told c = search needs
@@ -172,8 +172,8 @@ returns-12 c =
     let enum-told12 = c .before .before .enum-told12 in
     rw (enum-told12 .given .1) (c .find12 .ensures)
 
-pub find-long-spec : {M : Type 1} → statement M
-find-long-spec =
+pub find-short-spec : {M : Type 1} → statement M
+find-short-spec =
     tie.close
     (tie.spec
     enum-told

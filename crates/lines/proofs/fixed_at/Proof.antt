@@ -1,8 +1,8 @@
 -- `fixed_at` meets its contract: each arm knows its text, and the constant is its list. Assumes nothing.
 use Prim.Native.Nat.{_-_}
 use borrow.Author.Needs.{needs}
-use Rattle.parser.proofs.fixed_at.Statement.{statement}
-use Rattle.parser.proofs.fixed_at.Tie as tie
+use Rattle.lines.proofs.fixed_at.Statement.{statement}
+use Rattle.lines.proofs.fixed_at.Tie as tie
 
 enum-told : tie.Need-enum-told
 enum-told c = search needs

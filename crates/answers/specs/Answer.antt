@@ -1,9 +1,9 @@
 -- The answer of a digest in document 01's terms.
 use mathlib.Core.Bool.{Bool, true, false}
 use Prim.Native.Nat.{ℕ, zero, suc, _+_}
-use Rattle.digest.specs.declared.Kind.{Kind}
-use Rattle.digest.specs.declared.Kind.the-variants.{None, Ok, Prompt, Cme, Cms, Unknown, NotAllowed, Error, NoCarrier, Busy, NoAnswer, NoDialtone, Custom, Notice}
-use Rattle.digest.specs.declared.Answer.{Answer}
+use Rattle.answers.specs.declared.Kind.{Kind}
+use Rattle.answers.specs.declared.Kind.the-variants.{None, Ok, Prompt, Cme, Cms, Unknown, NotAllowed, Error, NoCarrier, Busy, NoAnswer, NoDialtone, Custom, Notice}
+use Rattle.answers.specs.declared.Answer.{Answer}
 
 -- a number, or none
 pub data Number : Type 0 where

@@ -1,7 +1,7 @@
 -- `find_crlf` meets its contract: both searches promise it. Assumes nothing.
 use borrow.Author.Needs.{needs}
-use Rattle.parser.proofs.find_crlf.Statement.{statement}
-use Rattle.parser.proofs.find_crlf.Tie as tie
+use Rattle.lines.proofs.find_crlf.Statement.{statement}
+use Rattle.lines.proofs.find_crlf.Tie as tie
 
 slice-aggregate-find : tie.Need-slice-aggregate-find
 slice-aggregate-find c = search needs

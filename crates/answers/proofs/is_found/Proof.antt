@@ -1,7 +1,8 @@
--- `number_of` meets its contract: each arm knows its kind. Assumes nothing.
+-- `is_found` meets its contract: each arm knows its kind. Assumes nothing.
+use Prim.Native.Nat.{_-_}
 use borrow.Author.Needs.{needs}
-use Rattle.digest.proofs.number_of.Statement.{statement}
-use Rattle.digest.proofs.number_of.Tie as tie
+use Rattle.answers.proofs.is_found.Statement.{statement}
+use Rattle.answers.proofs.is_found.Tie as tie
 
 enum-told : tie.Need-enum-told
 enum-told c = search needs
@@ -87,8 +88,8 @@ returns-13 c = search needs
 returns-14 : tie.Need-returns-14
 returns-14 c = search needs
 
-pub number-of-spec : {M : Type 1} → statement M
-number-of-spec =
+pub is-found-spec : {M : Type 1} → statement M
+is-found-spec =
     tie.close
     (tie.spec
     enum-told

@@ -1,8 +1,7 @@
--- `is_found` meets its contract: each arm knows its kind. Assumes nothing.
-use Prim.Native.Nat.{_-_}
+-- `number_of` meets its contract: each arm knows its kind. Assumes nothing.
 use borrow.Author.Needs.{needs}
-use Rattle.digest.proofs.is_found.Statement.{statement}
-use Rattle.digest.proofs.is_found.Tie as tie
+use Rattle.answers.proofs.number_of.Statement.{statement}
+use Rattle.answers.proofs.number_of.Tie as tie
 
 enum-told : tie.Need-enum-told
 enum-told c = search needs
@@ -88,8 +87,8 @@ returns-13 c = search needs
 returns-14 : tie.Need-returns-14
 returns-14 c = search needs
 
-pub is-found-spec : {M : Type 1} → statement M
-is-found-spec =
+pub number-of-spec : {M : Type 1} → statement M
+number-of-spec =
     tie.close
     (tie.spec
     enum-told
