@@ -16,7 +16,7 @@ struct qemu_plugin_insn;
 
 void qemu_plugin_register_vcpu_tb_trans_cb(plugin_id, void (*)(plugin_id, struct qemu_plugin_tb *));
 void qemu_plugin_register_vcpu_insn_exec_cb(struct qemu_plugin_insn *, void (*)(unsigned, void *), int registers, void *);
-void qemu_plugin_register_vcpu_tb_exec_inline(struct qemu_plugin_tb *, int operation, void *, uint64_t);
+void qemu_plugin_register_vcpu_insn_exec_inline(struct qemu_plugin_insn *, int operation, void *, uint64_t);
 void qemu_plugin_register_atexit_cb(plugin_id, void (*)(plugin_id, void *), void *);
 size_t qemu_plugin_tb_n_insns(const struct qemu_plugin_tb *);
 struct qemu_plugin_insn *qemu_plugin_tb_get_insn(const struct qemu_plugin_tb *, size_t);
@@ -30,20 +30,15 @@ EXPORTED int qemu_plugin_version = 1;
 static uint64_t executed, executed_at_start;
 static FILE *out;
 
-// A block's instructions are added where it is entered, and it is left at its end: at a mark, those of its block that are still to come are taken off.
-static uint64_t until(void *still) {
-    return executed - (uintptr_t)still;
+static void start(unsigned cpu, void *unused) {
+    (void)cpu, (void)unused;
+    executed_at_start = executed;
 }
 
-static void start(unsigned cpu, void *still) {
-    (void)cpu;
-    executed_at_start = until(still);
-}
-
-// The stop's own instruction is in the difference.
-static void stop(unsigned cpu, void *still) {
-    (void)cpu;
-    fprintf(out, "%llu\n", (unsigned long long)(until(still) - executed_at_start - 1));
+// The start's own instruction is in the difference, or the stop's: one of the two marks, and not the other.
+static void stop(unsigned cpu, void *unused) {
+    (void)cpu, (void)unused;
+    fprintf(out, "%llu\n", (unsigned long long)(executed - executed_at_start - 1));
 }
 
 // 1 or 2 for a mark, 0 for any other instruction.
@@ -59,13 +54,12 @@ static void translated(plugin_id id, struct qemu_plugin_tb *block) {
     size_t n = qemu_plugin_tb_n_insns(block);
     for (size_t i = 0; i < n; i++) {
         struct qemu_plugin_insn *insn = qemu_plugin_tb_get_insn(block, i);
-        void *still = (void *)(uintptr_t)(n - 1 - i);
         switch (mark(insn)) {
-        case 1: qemu_plugin_register_vcpu_insn_exec_cb(insn, start, NO_REGISTERS, still); break;
-        case 2: qemu_plugin_register_vcpu_insn_exec_cb(insn, stop, NO_REGISTERS, still); break;
+        case 1: qemu_plugin_register_vcpu_insn_exec_cb(insn, start, NO_REGISTERS, NULL); break;
+        case 2: qemu_plugin_register_vcpu_insn_exec_cb(insn, stop, NO_REGISTERS, NULL); break;
         }
+        qemu_plugin_register_vcpu_insn_exec_inline(insn, ADD, &executed, 1);
     }
-    qemu_plugin_register_vcpu_tb_exec_inline(block, ADD, &executed, n);
 }
 
 static void ended(plugin_id id, void *unused) {
