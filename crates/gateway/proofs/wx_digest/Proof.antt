@@ -1,7 +1,7 @@
 -- `wx_digest` meets its contract: it equals `digest::digest`. Assumes nothing.
 use mathlib.Core.Path.{refl, sym, ap, _∙_}
 use Rattle.table.specs.Table.{outcome}
-use Rattle.gateway.specs.Gateway.{answerValues}
+use Rattle.numbers.specs.Numbers.{answerValues}
 use Rattle.gateway.specs.Laws.{says}
 use borrow.Author.Needs.{needs}
 use Rattle.gateway.proofs.wx_digest.Statement.{statement}

@@ -1,6 +1,6 @@
 -- `wx_queue_new` meets its contract: it equals `Queue::new`. Assumes nothing.
 use mathlib.Core.Path.{ap, _∙_}
-use Rattle.gateway.specs.Gateway.{withQueue}
+use Rattle.numbers.specs.Numbers.{withQueue}
 use borrow.Author.Needs.{needs}
 use Rattle.gateway.proofs.wx_queue_new.Statement.{statement}
 use Rattle.gateway.proofs.wx_queue_new.Tie as tie

@@ -1,6 +1,6 @@
 -- `wx_slot_new` meets its contract: it equals `Slot::new`. Assumes nothing.
 use mathlib.Core.Path.{ap, _∙_}
-use Rattle.gateway.specs.Gateway.{withSlot}
+use Rattle.numbers.specs.Numbers.{withSlot}
 use borrow.Author.Needs.{needs}
 use Rattle.gateway.proofs.wx_slot_new.Statement.{statement}
 use Rattle.gateway.proofs.wx_slot_new.Tie as tie

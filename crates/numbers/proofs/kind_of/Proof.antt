@@ -1,8 +1,8 @@
 -- `kind_of` meets its contract: fourteen numbers one by one, and the rest. Assumes nothing.
-use Rattle.gateway.specs.Laws.{kind-none}
+use Rattle.numbers.specs.Laws.{kind-none}
 use borrow.Author.Needs.{needs}
-use Rattle.gateway.proofs.kind_of.Statement.{statement}
-use Rattle.gateway.proofs.kind_of.Tie as tie
+use Rattle.numbers.proofs.kind_of.Statement.{statement}
+use Rattle.numbers.proofs.kind_of.Tie as tie
 
 returns : tie.Need-returns
 returns c = search needs

@@ -1,9 +1,9 @@
 -- `held_of` meets its contract. Assumes nothing.
-use Rattle.gateway.specs.Laws.{held-capacity, held-heard}
+use Rattle.numbers.specs.Laws.{held-capacity, held-heard}
 use borrow.Author.Needs.{needs}
 use native.Mathlib.Omega.{arith}
-use Rattle.gateway.proofs.held_of.Statement.{statement}
-use Rattle.gateway.proofs.held_of.Tie as tie
+use Rattle.numbers.proofs.held_of.Statement.{statement}
+use Rattle.numbers.proofs.held_of.Tie as tie
 
 returns : tie.Need-returns
 returns c = held-capacity (c .before .args .n) (omega arith)

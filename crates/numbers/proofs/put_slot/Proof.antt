@@ -1,8 +1,8 @@
 -- `put_slot` meets its contract. Assumes nothing.
-use Rattle.gateway.specs.Laws.{with-slot}
+use Rattle.numbers.specs.Laws.{with-slot}
 use borrow.Author.Needs.{needs}
-use Rattle.gateway.proofs.put_slot.Statement.{statement}
-use Rattle.gateway.proofs.put_slot.Tie as tie
+use Rattle.numbers.proofs.put_slot.Statement.{statement}
+use Rattle.numbers.proofs.put_slot.Tie as tie
 
 element-copy-out-t6 : tie.Need-element-copy-out-t6
 element-copy-out-t6 c = search needs

@@ -1,7 +1,7 @@
 -- `kind_number` meets its contract: each arm answers its own number. Assumes nothing.
 use borrow.Author.Needs.{needs}
-use Rattle.gateway.proofs.kind_number.Statement.{statement}
-use Rattle.gateway.proofs.kind_number.Tie as tie
+use Rattle.numbers.proofs.kind_number.Statement.{statement}
+use Rattle.numbers.proofs.kind_number.Tie as tie
 
 enum-told : tie.Need-enum-told
 enum-told c = search needs

@@ -1,8 +1,8 @@
 -- `answer_of` meets its contract. Assumes nothing.
-use Rattle.gateway.specs.Laws.{answer-is}
+use Rattle.numbers.specs.Laws.{answer-is}
 use borrow.Author.Needs.{needs}
-use Rattle.gateway.proofs.answer_of.Statement.{statement}
-use Rattle.gateway.proofs.answer_of.Tie as tie
+use Rattle.numbers.proofs.answer_of.Statement.{statement}
+use Rattle.numbers.proofs.answer_of.Tie as tie
 
 element-copy-out-kind-of : tie.Need-element-copy-out-kind-of
 element-copy-out-kind-of c = search needs

@@ -1,8 +1,8 @@
 -- `state_of` meets its contract. Assumes nothing.
-use Rattle.gateway.specs.Laws.{state-is}
+use Rattle.numbers.specs.Laws.{state-is}
 use borrow.Author.Needs.{needs}
-use Rattle.gateway.proofs.state_of.Statement.{statement}
-use Rattle.gateway.proofs.state_of.Tie as tie
+use Rattle.numbers.proofs.state_of.Statement.{statement}
+use Rattle.numbers.proofs.state_of.Tie as tie
 
 element-copy-out-t4 : tie.Need-element-copy-out-t4
 element-copy-out-t4 c = search needs

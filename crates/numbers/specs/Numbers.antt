@@ -1,0 +1,118 @@
+-- What each number of a lent array means: a state as nine numbers, and what a call answers at the front of an array of five.
+use mathlib.Core.Bool.{Bool, true, false}
+use mathlib.Core.List.{List, [], _∷_, _++_}
+use Prim.Native.Nat.{ℕ, min}
+use lib.ListN.{getD}
+use lib.Dec.{ltb}
+use Rattle.answers.specs.declared.Kind.{Kind}
+use Rattle.answers.specs.declared.Kind.the-variants as kind
+use Rattle.answers.specs.declared.Answer.{Answer}
+use Rattle.slot.specs.declared.Held.{Held}
+use Rattle.slot.specs.declared.Held.the-variants.{Heard, Capacity}
+use Rattle.slot.specs.declared.Slot.{Slot}
+use Rattle.queue.specs.declared.Queue.{Queue}
+use Rattle.ingress.specs.declared.State.{State}
+
+-- the number of each kind
+abbrev pub kindNumber : Kind → ℕ
+kindNumber kind.None = 0
+kindNumber kind.Ok = 1
+kindNumber kind.Prompt = 2
+kindNumber kind.Cme = 3
+kindNumber kind.Cms = 4
+kindNumber kind.Unknown = 5
+kindNumber kind.NotAllowed = 6
+kindNumber kind.Error = 7
+kindNumber kind.NoCarrier = 8
+kindNumber kind.Busy = 9
+kindNumber kind.NoAnswer = 10
+kindNumber kind.NoDialtone = 11
+kindNumber kind.Custom = 12
+kindNumber kind.Notice = 13
+
+-- the kinds in the order of their numbers
+abbrev pub kinds : List Kind
+kinds =
+    kind.None
+    ∷ kind.Ok
+    ∷ kind.Prompt
+    ∷ kind.Cme
+    ∷ kind.Cms
+    ∷ kind.Unknown
+    ∷ kind.NotAllowed
+    ∷ kind.Error
+    ∷ kind.NoCarrier
+    ∷ kind.Busy
+    ∷ kind.NoAnswer
+    ∷ kind.NoDialtone
+    ∷ kind.Custom
+    ∷ kind.Notice
+    ∷ []
+
+-- A number over 13 reads as None.
+abbrev pub kindOf : ℕ → Kind
+kindOf n = getD kinds n kind.None
+
+-- A number over 4,294,967,295 reads as that.
+abbrev pub word : ℕ → ℕ
+word n = min n 4294967295
+
+-- an answer from its five numbers, in the order in which the digester's export leaves them
+abbrev pub answerOf : List ℕ → Answer
+answerOf v = record { kind = kindOf (getD v 0 0); number = word (getD v 1 0); place = getD v 2 0; len = getD v 3 0; consumed = getD v 4 0 }
+
+-- what a slot holds: 0 to 13 a kind, 14 CapacityError; a number over 14 reads as CapacityError too
+abbrev pub heldNumber : Held → ℕ
+heldNumber (Heard k) = kindNumber k
+heldNumber Capacity = 14
+
+abbrev pub heldBy : Bool → ℕ → Held
+heldBy true n = Capacity
+heldBy false n = Heard (kindOf n)
+
+abbrev pub heldOf : ℕ → Held
+heldOf n = heldBy (ltb 13 n) n
+
+-- signalled: 1, free: 0; any number but 0 reads as signalled
+abbrev pub flagNumber : Bool → ℕ
+flagNumber true = 1
+flagNumber false = 0
+
+-- The state is nine numbers: the end (0); of the slot signalled (1), held (2), number (3), stored length (4), lost answers (5); of the queue start (6), count (7), lost notices (8).
+-- Any nine numbers are a state.
+abbrev pub slotOf : List ℕ → Slot
+slotOf v = record { signalled = ltb 0 (getD v 1 0); held = heldOf (getD v 2 0); number = word (getD v 3 0); len = getD v 4 0; lost = word (getD v 5 0) }
+
+abbrev pub queueOf : List ℕ → Queue
+queueOf v = record { start = getD v 6 0; count = getD v 7 0; lost = word (getD v 8 0) }
+
+abbrev pub stateOf : List ℕ → State
+stateOf v = record { end = getD v 0 0; slot = slotOf v; queue = queueOf v }
+
+abbrev pub slotNumbers : Slot → List ℕ
+slotNumbers x = flagNumber (x .signalled) ∷ heldNumber (x .held) ∷ x .number ∷ x .len ∷ x .lost ∷ []
+
+abbrev pub queueNumbers : Queue → List ℕ
+queueNumbers x = x .start ∷ x .count ∷ x .lost ∷ []
+
+abbrev pub stateNumbers : State → List ℕ
+stateNumbers s = s .end ∷ (slotNumbers (s .slot) ++ queueNumbers (s .queue))
+
+-- the nine numbers with another end, another slot or another queue, the others as they stood
+abbrev pub withEnd : List ℕ → ℕ → List ℕ
+withEnd v n = n ∷ getD v 1 0 ∷ getD v 2 0 ∷ getD v 3 0 ∷ getD v 4 0 ∷ getD v 5 0 ∷ getD v 6 0 ∷ getD v 7 0 ∷ getD v 8 0 ∷ []
+
+abbrev pub withSlot : List ℕ → Slot → List ℕ
+withSlot v x = getD v 0 0 ∷ (slotNumbers x ++ (getD v 6 0 ∷ getD v 7 0 ∷ getD v 8 0 ∷ []))
+
+abbrev pub withQueue : List ℕ → Queue → List ℕ
+withQueue v x = getD v 0 0 ∷ getD v 1 0 ∷ getD v 2 0 ∷ getD v 3 0 ∷ getD v 4 0 ∷ getD v 5 0 ∷ queueNumbers x
+
+-- The values v that a call answers stand at the front of the lent array of five; its other numbers stay as they were, with no value all of them.
+abbrev pub laid : List ℕ → List ℕ → List ℕ
+laid [] o = o
+laid (x ∷ v) o = x ∷ getD v 0 (getD o 1 0) ∷ getD v 1 (getD o 2 0) ∷ getD v 2 (getD o 3 0) ∷ getD v 3 (getD o 4 0) ∷ []
+
+-- an answer of the digester: kind, number, place, length, bytes consumed
+abbrev pub answerValues : Answer → List ℕ
+answerValues a = kindNumber (a .kind) ∷ a .number ∷ a .place ∷ a .len ∷ a .consumed ∷ []

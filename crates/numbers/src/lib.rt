@@ -1,0 +1,293 @@
+// What each number of a lent array means: the state as nine numbers, and what a call answers as five.
+// Any nine numbers are a state, and a state that is written reads back as it was.
+ghost use mathlib.Core.Path.{_≡_};
+ghost use mathlib.Core.List.{[], _∷_};
+ghost use Rattle.text.specs.Text.{partAt};
+ghost use Rattle.numbers.specs.Numbers.{kindNumber, kindOf, word, heldNumber, heldOf, flagNumber, answerOf, slotOf, queueOf, stateOf, stateNumbers, withEnd, withSlot, withQueue, laid, answerValues};
+use answers::Answer;
+use answers::Kind;
+use ingress::State;
+use queue::Queue;
+use slot::Held;
+use slot::Slot;
+
+// How many numbers a call may answer, and how many a state has.
+pub const OUT: usize = 5;
+
+pub const NUMBERS: usize = 9;
+
+// The nine numbers of a state: where the bytes in the buffer end;
+pub const END: usize = 0;
+
+// of the slot, whether it is signalled (0: free), what it holds (0 to 13 a kind, 14 CapacityError), the answer's number,
+// the stored payload's length and the lost answers;
+pub const SIGNALLED: usize = 1;
+
+pub const HELD: usize = 2;
+
+pub const NUMBER: usize = 3;
+
+pub const LEN: usize = 4;
+
+pub const SLOT_LOST: usize = 5;
+
+// of the queue, the ring's start, how many records it holds and the lost notices.
+pub const START: usize = 6;
+
+pub const COUNT: usize = 7;
+
+pub const QUEUE_LOST: usize = 8;
+
+// The number of each kind.
+fn kind_number(kind: Kind) -> u64
+    ensures { λ r. ⌜ r ≡ kindNumber kind ⌝ }
+{
+    match kind {
+        Kind::None => 0,
+        Kind::Ok => 1,
+        Kind::Prompt => 2,
+        Kind::Cme => 3,
+        Kind::Cms => 4,
+        Kind::Unknown => 5,
+        Kind::NotAllowed => 6,
+        Kind::Error => 7,
+        Kind::NoCarrier => 8,
+        Kind::Busy => 9,
+        Kind::NoAnswer => 10,
+        Kind::NoDialtone => 11,
+        Kind::Custom => 12,
+        Kind::Notice => 13,
+    }
+}
+
+// The kind of a number; one over 13 reads as None.
+fn kind_of(n: u64) -> Kind
+    ensures { λ r. ⌜ r ≡ kindOf n ⌝ }
+{
+    match n {
+        0 => Kind::None,
+        1 => Kind::Ok,
+        2 => Kind::Prompt,
+        3 => Kind::Cme,
+        4 => Kind::Cms,
+        5 => Kind::Unknown,
+        6 => Kind::NotAllowed,
+        7 => Kind::Error,
+        8 => Kind::NoCarrier,
+        9 => Kind::Busy,
+        10 => Kind::NoAnswer,
+        11 => Kind::NoDialtone,
+        12 => Kind::Custom,
+        13 => Kind::Notice,
+        _ => Kind::None,
+    }
+}
+
+// A number of 32 bits; one over 4,294,967,295 reads as that.
+fn word(n: u64) -> u32
+    ensures { λ r. ⌜ r ≡ word n ⌝ }
+{
+    if 4294967295 < n {
+        return 4294967295;
+    }
+    n as u32
+}
+
+// The number of what a slot holds.
+pub fn held_number(held: Held) -> u64
+    ensures { λ r. ⌜ r ≡ heldNumber held ⌝ }
+{
+    match held {
+        Held::Heard(kind) => kind_number(kind),
+        Held::Capacity => 14,
+    }
+}
+
+// What a slot holds; a number over 13 reads as CapacityError.
+fn held_of(n: u64) -> Held
+    ensures { λ r. ⌜ r ≡ heldOf n ⌝ }
+{
+    if 13 < n {
+        return Held::Capacity;
+    }
+    Held::Heard(kind_of(n))
+}
+
+// 1 for a signalled slot, 0 for a free one.
+fn flag_number(b: bool) -> u64
+    ensures { λ r. ⌜ r ≡ flagNumber b ⌝ }
+{
+    if b {
+        return 1;
+    }
+    0
+}
+
+// An answer from the five numbers that `wx_digest` leaves.
+pub fn answer_of(answer: &[u64; OUT]) -> Answer
+    ensures { λ r. ⌜ r ≡ answerOf (now (answer .entry)) ⌝ }
+{
+    Answer {
+        kind: kind_of(answer[0]),
+        number: word(answer[1]),
+        place: answer[2] as usize,
+        len: answer[3] as usize,
+        consumed: answer[4] as usize,
+    }
+}
+
+// The slot of a state's nine numbers.
+pub fn slot_of(state: &[u64; NUMBERS]) -> Slot
+    ensures { λ r. ⌜ r ≡ slotOf (now (state .entry)) ⌝ }
+{
+    Slot {
+        signalled: 0 < state[SIGNALLED],
+        held: held_of(state[HELD]),
+        number: word(state[NUMBER]),
+        len: state[LEN] as usize,
+        lost: word(state[SLOT_LOST]),
+    }
+}
+
+// The queue of a state's nine numbers.
+pub fn queue_of(state: &[u64; NUMBERS]) -> Queue
+    ensures { λ r. ⌜ r ≡ queueOf (now (state .entry)) ⌝ }
+{
+    Queue {
+        start: state[START] as usize,
+        count: state[COUNT] as usize,
+        lost: word(state[QUEUE_LOST]),
+    }
+}
+
+// The state of nine numbers.
+pub fn state_of(state: &[u64; NUMBERS]) -> State
+    ensures { λ r. ⌜ r ≡ stateOf (now (state .entry)) ⌝ }
+{
+    State {
+        end: state[END] as usize,
+        slot: slot_of(state),
+        queue: queue_of(state),
+    }
+}
+
+// Another end, the other numbers as they stood.
+pub fn put_end(state: &mut [u64; NUMBERS], end: usize)
+    ensures { λ _. ⌜ now (state .exit) ≡ withEnd (now (state .entry)) end ⌝ }
+{
+    *state = [
+        end as u64,
+        state[SIGNALLED],
+        state[HELD],
+        state[NUMBER],
+        state[LEN],
+        state[SLOT_LOST],
+        state[START],
+        state[COUNT],
+        state[QUEUE_LOST],
+    ];
+}
+
+// Another slot, the other numbers as they stood.
+pub fn put_slot(state: &mut [u64; NUMBERS], x: Slot)
+    ensures { λ _. ⌜ now (state .exit) ≡ withSlot (now (state .entry)) x ⌝ }
+{
+    let held = x.held;
+    *state = [
+        state[END],
+        flag_number(x.signalled),
+        held_number(held),
+        x.number as u64,
+        x.len as u64,
+        x.lost as u64,
+        state[START],
+        state[COUNT],
+        state[QUEUE_LOST],
+    ];
+}
+
+// Another queue, the other numbers as they stood.
+pub fn put_queue(state: &mut [u64; NUMBERS], x: Queue)
+    ensures { λ _. ⌜ now (state .exit) ≡ withQueue (now (state .entry)) x ⌝ }
+{
+    *state = [
+        state[END],
+        state[SIGNALLED],
+        state[HELD],
+        state[NUMBER],
+        state[LEN],
+        state[SLOT_LOST],
+        x.start as u64,
+        x.count as u64,
+        x.lost as u64,
+    ];
+}
+
+// A state as its nine numbers.
+pub fn put_state(state: &mut [u64; NUMBERS], s: State)
+    ensures { λ _. ⌜ now (state .exit) ≡ stateNumbers s ⌝ }
+{
+    let slot = s.slot;
+    let held = slot.held;
+    let queue = s.queue;
+    *state = [
+        s.end as u64,
+        flag_number(slot.signalled),
+        held_number(held),
+        slot.number as u64,
+        slot.len as u64,
+        slot.lost as u64,
+        queue.start as u64,
+        queue.count as u64,
+        queue.lost as u64,
+    ];
+}
+
+// One number at the front of what a call answers.
+pub fn lay_one(out: &mut [u64; OUT], a: u64)
+    ensures { λ _. ⌜ now (out .exit) ≡ laid (a ∷ []) (now (out .entry)) ⌝ }
+{
+    *out = [a, out[1], out[2], out[3], out[4]];
+}
+
+// Two numbers.
+pub fn lay_two(out: &mut [u64; OUT], a: u64, b: u64)
+    ensures { λ _. ⌜ now (out .exit) ≡ laid (a ∷ b ∷ []) (now (out .entry)) ⌝ }
+{
+    *out = [a, b, out[2], out[3], out[4]];
+}
+
+// Four numbers.
+pub fn lay_four(out: &mut [u64; OUT], a: u64, b: u64, c: u64, d: u64)
+    ensures { λ _. ⌜ now (out .exit) ≡ laid (a ∷ b ∷ c ∷ d ∷ []) (now (out .entry)) ⌝ }
+{
+    *out = [a, b, c, d, out[4]];
+}
+
+// An answer of the digester: kind, number, place, length, bytes consumed.
+pub fn lay_answer(out: &mut [u64; OUT], a: Answer)
+    ensures { λ _. ⌜ now (out .exit) ≡ laid (answerValues a) (now (out .entry)) ⌝ }
+{
+    let kind = a.kind;
+    *out = [
+        kind_number(kind),
+        a.number as u64,
+        a.place as u64,
+        a.len as u64,
+        a.consumed as u64,
+    ];
+}
+
+// Where a part of a memory begins: at its place, or at the front where it doesn't fit.
+pub fn fitted(s: &[u8], place: usize, len: usize) -> usize
+    ensures { λ r. ⌜ r ≡ partAt (now (s .entry)) place len ⌝ }
+{
+    let size = s.len();
+    if size < len {
+        return 0;
+    }
+    if size - len < place {
+        return 0;
+    }
+    place
+}
