@@ -87,8 +87,8 @@ pub extern "C" fn wx_slot_signal(
 {
     let slot = numbers::slot_of(state);
     match slot.signal(numbers::answer_of(answer), payload, mem) {
-        Turned::Is(x) => {
-            numbers::put_slot(state, x);
+        Turned::Is(next) => {
+            numbers::put_slot(state, next);
             0
         }
         Turned::BadLength => 3,
@@ -126,8 +126,8 @@ pub extern "C" fn wx_slot_reset(state: &mut [u64; NUMBERS], mem: &[u8]) -> u32
     ensures { λ r. ⌜ call r (now (state .exit)) ≡ resetSaid (wasReset (slotOf (now (state .entry))) (now (mem .entry))) (now (state .entry)) ⌝ }
 {
     match numbers::slot_of(state).reset(mem) {
-        Turned::Is(x) => {
-            numbers::put_slot(state, x);
+        Turned::Is(freed) => {
+            numbers::put_slot(state, freed);
             0
         }
         Turned::BadLength => 3,
@@ -171,8 +171,8 @@ pub extern "C" fn wx_queue_put(
     ensures { λ r. ⌜ turn r (now (state .exit)) (now (mem .exit)) ≡ putSaid (putInto ours (queueOf (now (state .entry))) number (now (payload .entry)) (now (mem .entry))) (now (state .entry)) ⌝ }
 {
     match numbers::queue_of(state).put(mem, number, payload) {
-        Put::Is(x) => {
-            numbers::put_queue(state, x);
+        Put::Is(next) => {
+            numbers::put_queue(state, next);
             0
         }
         Put::BadBounds => 3,
@@ -186,8 +186,8 @@ pub extern "C" fn wx_queue_take(state: &mut [u64; NUMBERS], mem: &[u8], out: &mu
     ensures { λ r. ⌜ took r (now (state .exit)) (now (out .exit)) ≡ takeSaid (taken ours (queueOf (now (state .entry))) (now (mem .entry))) (now (state .entry)) (now (out .entry)) ⌝ }
 {
     match numbers::queue_of(state).take(mem) {
-        Taken::Is(x, notice) => {
-            numbers::put_queue(state, x);
+        Taken::Is(rest, notice) => {
+            numbers::put_queue(state, rest);
             numbers::lay_four(
                 out,
                 1,

@@ -175,8 +175,9 @@ pub fn state_of(state: &[u64; NUMBERS]) -> State
 pub fn put_end(state: &mut [u64; NUMBERS], end: usize)
     ensures { λ _. ⌜ now (state .exit) ≡ withEnd (now (state .entry)) end ⌝ }
 {
+    let end = end as u64;
     *state = [
-        end as u64,
+        end,
         state[SIGNALLED],
         state[HELD],
         state[NUMBER],

@@ -11,8 +11,8 @@ queue-of-requires c κs = search needs
 put-requires : tie.Need-put-requires
 put-requires c κs = search needs
 
-enum-known-x : tie.Need-enum-known-x
-enum-known-x c = search needs
+enum-known-next : tie.Need-enum-known-next
+enum-known-next c = search needs
 
 put-queue-requires : tie.Need-put-queue-requires
 put-queue-requires c κs = search needs
@@ -31,7 +31,7 @@ returns c =
     let args = c .before .before .before .before .before .before .before .before .before .before .before .before .before .args in
     let queue-of = c .before .before .before .before .before .before .before .before .before .queue-of in
     let put = c .before .before .before .before .before .before .before .put in
-    let x = c .before .before .before .x in
+    let x = c .before .before .before .next in
     put-is (args .state .now) (args .payload .now) (args .mem .now) (args .number) _ (queue-of .ensures) _ _ (put .ensures) _ (x .given .1) _ (c .put-queue .ensures)
 
 same-length-2 : tie.Need-same-length-2
@@ -60,7 +60,7 @@ wx-queue-put-spec =
     (tie.spec
     queue-of-requires
     put-requires
-    enum-known-x
+    enum-known-next
     put-queue-requires
     enum-told
     enum-told-2

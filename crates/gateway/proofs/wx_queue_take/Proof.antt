@@ -12,8 +12,8 @@ queue-of-requires c κs = search needs
 take-requires : tie.Need-take-requires
 take-requires c κs = search needs
 
-enum-known-x : tie.Need-enum-known-x
-enum-known-x c = search needs
+enum-known-rest : tie.Need-enum-known-rest
+enum-known-rest c = search needs
 
 put-queue-requires : tie.Need-put-queue-requires
 put-queue-requires c κs = search needs
@@ -38,7 +38,7 @@ returns c =
     let args = c .before .before .before .before .before .before .before .before .before .before .before .before .args in
     let queue-of = c .before .before .before .before .before .before .before .before .before .queue-of in
     let take = c .before .before .before .before .before .before .before .before .take in
-    let x = c .before .before .before .before .before .before .x in
+    let x = c .before .before .before .before .before .before .rest in
     let put-queue = c .before .before .before .put-queue in
     take-is (args .state .now) (args .out .now) (args .mem .now) _ (queue-of .ensures) _ (take .ensures) _ (x .given .1) _ (put-queue .ensures) _ (c .lay-four .ensures)
 
@@ -63,7 +63,7 @@ wx-queue-take-spec =
     (tie.spec
     queue-of-requires
     take-requires
-    enum-known-x
+    enum-known-rest
     put-queue-requires
     cast-lay-four
     lay-four-requires

@@ -11,8 +11,8 @@ slot-of-requires c κs = search needs
 reset-requires : tie.Need-reset-requires
 reset-requires c κs = search needs
 
-enum-known-x : tie.Need-enum-known-x
-enum-known-x c = search needs
+enum-known-freed : tie.Need-enum-known-freed
+enum-known-freed c = search needs
 
 put-slot-requires : tie.Need-put-slot-requires
 put-slot-requires c κs = search needs
@@ -25,7 +25,7 @@ returns c =
     let args = c .before .before .before .before .before .before .before .before .before .args in
     let slot-of = c .before .before .before .before .before .before .slot-of in
     let reset = c .before .before .before .before .before .reset in
-    let x = c .before .before .before .x in
+    let x = c .before .before .before .freed in
     reset-is (args .state .now) (args .mem .now) _ (slot-of .ensures) _ (reset .ensures) _ (x .given .1) _ (c .put-slot .ensures)
 
 returns-2 : tie.Need-returns-2
@@ -41,7 +41,7 @@ wx-slot-reset-spec =
     (tie.spec
     slot-of-requires
     reset-requires
-    enum-known-x
+    enum-known-freed
     put-slot-requires
     enum-told
     returns

@@ -14,8 +14,8 @@ answer-of-requires c κs = search needs
 signal-requires : tie.Need-signal-requires
 signal-requires c κs = search needs
 
-enum-known-x : tie.Need-enum-known-x
-enum-known-x c = search needs
+enum-known-next : tie.Need-enum-known-next
+enum-known-next c = search needs
 
 put-slot-requires : tie.Need-put-slot-requires
 put-slot-requires c κs = search needs
@@ -32,7 +32,7 @@ returns c =
     let slot-of = c .before .before .before .before .before .before .before .before .before .before .slot-of in
     let answer-of = c .before .before .before .before .before .before .before .before .before .answer-of in
     let signal = c .before .before .before .before .before .before .before .signal in
-    let x = c .before .before .before .x in
+    let x = c .before .before .before .next in
     signal-is (args .state .now) (args .answer .now) (args .payload .now) (args .mem .now) _ (slot-of .ensures) _ (answer-of .ensures) _ _ (signal .ensures) _ (x .given .1) _ (c .put-slot .ensures)
 
 same-length-2 : tie.Need-same-length-2
@@ -53,7 +53,7 @@ wx-slot-signal-spec =
     slot-of-requires
     answer-of-requires
     signal-requires
-    enum-known-x
+    enum-known-next
     put-slot-requires
     enum-told
     same-length
