@@ -72,7 +72,8 @@ pub extern "C" fn wx_payload(input: &[u8], place: usize, len: usize, out: &mut [
 pub extern "C" fn wx_slot_new(state: &mut [u64; NUMBERS])
     ensures { λ _. ⌜ now (state .exit) ≡ withSlot (now (state .entry)) newSlot ⌝ }
 {
-    numbers::put_slot(state, Slot::new());
+    let slot = Slot::new();
+    numbers::put_slot(state, slot);
 }
 
 // Signals an answer (five numbers as `wx_digest` leaves them) with its payload's bytes to the slot.
@@ -125,7 +126,8 @@ pub extern "C" fn wx_slot_lookup(state: &[u64; NUMBERS], mem: &[u8], out: &mut [
 pub extern "C" fn wx_slot_reset(state: &mut [u64; NUMBERS], mem: &[u8]) -> u32
     ensures { λ r. ⌜ call r (now (state .exit)) ≡ resetSaid (wasReset (slotOf (now (state .entry))) (now (mem .entry))) (now (state .entry)) ⌝ }
 {
-    match numbers::slot_of(state).reset(mem) {
+    let slot = numbers::slot_of(state);
+    match slot.reset(mem) {
         Turned::Is(freed) => {
             numbers::put_slot(state, freed);
             0
@@ -149,7 +151,8 @@ pub extern "C" fn wx_slot_payload(state: &[u64; NUMBERS], mem: &[u8], out: &mut 
 pub extern "C" fn wx_queue_new(state: &mut [u64; NUMBERS])
     ensures { λ _. ⌜ now (state .exit) ≡ withQueue (now (state .entry)) newQueue ⌝ }
 {
-    numbers::put_queue(state, Queue::new());
+    let queue = Queue::new();
+    numbers::put_queue(state, queue);
 }
 
 // How many records a memory of len bytes holds.
@@ -289,6 +292,7 @@ pub extern "C" fn wx_ingress_write(
 pub extern "C" fn wx_ingress_clear(state: &mut [u64; NUMBERS])
     ensures { λ _. ⌜ now (state .exit) ≡ withEnd (now (state .entry)) (cleared (getD (now (state .entry)) 0 0)) ⌝ }
 {
-    let end = state[numbers::END] as usize;
-    numbers::put_end(state, ingress::clear(end));
+    let old = state[numbers::END] as usize;
+    let end = ingress::clear(old);
+    numbers::put_end(state, end);
 }

@@ -14,7 +14,7 @@ put-queue-requires c κs = search needs
 returns : tie.Need-returns
 returns c =
     let args = c .before .before .before .args in
-    c .put-queue .ensures ∙ ap (withQueue (args .state .now)) (c .before .new .ensures)
+    c .put-queue .ensures ∙ ap (withQueue (args .state .now)) (c .before .before .new .ensures)
 
 pub wx-queue-new-spec : {M : Type 1} → statement M
 wx-queue-new-spec = tie.close (tie.spec new-requires put-queue-requires returns)

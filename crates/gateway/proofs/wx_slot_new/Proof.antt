@@ -14,7 +14,7 @@ put-slot-requires c κs = search needs
 returns : tie.Need-returns
 returns c =
     let args = c .before .before .before .args in
-    c .put-slot .ensures ∙ ap (withSlot (args .state .now)) (c .before .new .ensures)
+    c .put-slot .ensures ∙ ap (withSlot (args .state .now)) (c .before .before .new .ensures)
 
 pub wx-slot-new-spec : {M : Type 1} → statement M
 wx-slot-new-spec = tie.close (tie.spec new-requires put-slot-requires returns)
