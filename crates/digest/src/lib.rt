@@ -9,7 +9,7 @@ ghost use Rattle.text.specs.Text.{stands, findIn, partOf, partAt, further};
 ghost use Rattle.lines.specs.Lines.{fixedText};
 ghost use Rattle.parser.specs.Parser.{noticeAt};
 ghost use Rattle.lines.specs.declared.Fixed.the-variants as fixed;
-ghost use Rattle.answers.specs.Answer.{numbered, stored, isFound, placed, answer, nothing, shift};
+ghost use Rattle.answers.specs.Answer.{placed, answer, nothing, shift};
 ghost use Rattle.digest.specs.Digest.{skipped, trimmedAnswer, heard, notices, firstCustom, success, customSuccess, lineSuccess, successes, customPrompts, promptTried, prompts, customError, numericFrom, lineFrom, numericErrors, lineErrors, headTried, errors, byRule, tried, retries, digest, digested, digestChecked, outcome};
 ghost use Rattle.digest.specs.Heard.{HeardIn};
 use answers::Answer;

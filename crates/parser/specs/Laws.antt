@@ -24,7 +24,7 @@ use Rattle.parser.specs.declared.Digits.{Digits}
 use Rattle.parser.specs.declared.Numeric.{Numeric}
 use Rattle.parser.specs.declared.Numeric.the-variants as numeric
 use Rattle.parser.specs.declared.Notice.the-variants as notice
-use Rattle.lines.specs.Lines.{crlf, fixedText}
+use Rattle.lines.specs.Lines.{crlf}
 use Rattle.parser.specs.Parser.{pick, lineEnding, isDigit, valueAfter, value, atMost, digitsAt, ifEnded, endedRun, tailAt, ifHead, numericAt, atFound, numericError, onlyBlanks, promptFrom, customPrompt, wrapped, breaksOff, through, ifColon, ifBare, unlessBroken, noticeText, afterEnding, noticeAt}
 
 -- `lineEnding`

@@ -3,9 +3,8 @@
 // Every function is total: a place past the end holds nothing, and an empty text has a stated answer.
 ghost use mathlib.Core.Path.{_≡_};
 ghost use mathlib.Core.List.{[], _∷_};
-ghost use lib.ListN.{length};
 ghost use Rattle.text.specs.Text.{stands, findIn};
-ghost use Rattle.lines.specs.Lines.{crlf, fixedText};
+ghost use Rattle.lines.specs.Lines.{fixedText};
 ghost use Rattle.parser.specs.Parser.{lineEnding, isDigit, digitsAt, tailAt, numericAt, numericError, promptFrom, customPrompt, wrapped, breaksOff, noticeText, noticeAt};
 use lines::Fixed;
 use text::Blanks;

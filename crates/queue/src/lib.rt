@@ -3,7 +3,6 @@
 // The queue is a struct by value beside the memory; a refusal changes neither.
 ghost use mathlib.Core.Path.{_≡_};
 ghost use Prim.Native.Nat.{_≤_, _<_};
-ghost use lib.ListN.{length};
 ghost use Rattle.queue.specs.Queue.{ours, capacityOf, startIn, inBounds, ringPlace, newQueue, lostOne, after, putInto, outcome, taken, taking};
 
 // How long a record is, how much of that its head, how long the longest payload, and how many records there are at most.

@@ -1,12 +1,11 @@
 -- What lets a search pass over a block: where two of its bytes don't stand, a text doesn't. Rests on text's laws of `stands` and `findIn`. Assumes nothing.
 use mathlib.Core.Path.{_≡_, refl, sym, ap, _∙_}
-use mathlib.Core.Bool.{Bool, true, false, _&&_, _||_}
+use mathlib.Core.Bool.{Bool, true, false, _||_}
 use mathlib.Core.List.{List}
 use Prim.Native.Nat.{ℕ, zero, suc, _+_, _≤_, _<_}
 use native.Mathlib.Nat.{add-zero}
 use native.Mathlib.Omega.{arith}
 use lib.ListN.{length, getD}
-use lib.Dec.{eqb}
 use borrow.Author.Tests.{eq-eqb}
 use Rattle.text.specs.Logic.{false-true, not-true-false}
 use Rattle.text.specs.Text.{stands, findIn}

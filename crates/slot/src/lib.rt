@@ -3,7 +3,7 @@
 // where the stored length is past the memory, and then neither slot nor memory has changed.
 ghost use mathlib.Core.Path.{_≡_};
 ghost use Rattle.text.specs.Text.{partOf, partAt, further};
-ghost use Rattle.slot.specs.Slot.{isResponse, carries, newSlot, lostOne, filled, overflowing, freed, after, signalled, outcome, wasReset, wasRead, reading};
+ghost use Rattle.slot.specs.Slot.{isResponse, carries, newSlot, lostOne, filled, overflowing, after, signalled, outcome, wasReset, wasRead, reading};
 use answers::Answer;
 use answers::Kind;
 

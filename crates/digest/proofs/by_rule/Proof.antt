@@ -4,9 +4,6 @@ use Rattle.table.specs.Table.{entries, tokens}
 use Rattle.digest.specs.Digest.{notices, successes, prompts, errors}
 use borrow.Author.Needs.{needs}
 use Rattle.digest.proofs.by_rule.Statement.{statement}
-use Rattle.table.specs.declared.Mark.the-variants as mark
-use Rattle.lines.specs.declared.Fixed.the-variants as fixed
-use Rattle.digest.specs.declared.Tried.the-variants as tries
 use Rattle.digest.proofs.by_rule.Tie as tie
 
 enum-told : tie.Need-enum-told

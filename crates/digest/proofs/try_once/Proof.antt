@@ -5,9 +5,6 @@ use Rattle.digest.specs.Digest.{tried}
 use Rattle.digest.specs.Laws.{hit, miss}
 use borrow.Author.Needs.{needs}
 use Rattle.digest.proofs.try_once.Statement.{statement}
-use Rattle.table.specs.declared.Mark.the-variants as mark
-use Rattle.lines.specs.declared.Fixed.the-variants as fixed
-use Rattle.digest.specs.declared.Tried.the-variants as tries
 use Rattle.digest.proofs.try_once.Tie as tie
 
 by-rule-requires : tie.Need-by-rule-requires
