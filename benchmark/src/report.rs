@@ -109,7 +109,7 @@ const LEFT: f64 = 340.0;
 const RIGHT: f64 = 880.0;
 const STEP: f64 = 20.0;
 
-/// The ratios on a logarithmic scale: a disc for instructions, a ring for time.
+/// The ratios on a logarithmic scale: a disc for instructions, a ring for time where it was measured.
 fn drawing(rows: &[Row]) -> String {
     let all = || rows.iter().flat_map(|r| [ratio_of(r.instructions), ratio_of(r.nanoseconds)]).flatten();
     let low = all().fold(0.5, f64::min).log10().floor();
@@ -122,12 +122,14 @@ fn drawing(rows: &[Row]) -> String {
          <rect width=\"940\" height=\"{h}\" fill=\"#fff\"/>\n\
          <text x=\"20\" y=\"26\" font-size=\"16\" fill=\"#111\">Cost of a call: ours / atat 0.25.0</text>\n\
          <circle cx=\"26\" cy=\"45\" r=\"5\" fill=\"#1b5e9c\"/><text x=\"38\" y=\"49\" fill=\"#333\">instructions</text>\n\
-         <circle cx=\"128\" cy=\"45\" r=\"4.5\" fill=\"none\" stroke=\"#b3541e\" stroke-width=\"2\"/><text x=\"140\" y=\"49\" fill=\"#333\">time</text>\n\
          <text x=\"{l:.0}\" y=\"49\" text-anchor=\"end\" fill=\"#333\">&#8592; ours is cheaper</text><text x=\"{r:.0}\" y=\"49\" fill=\"#333\">the Rust is cheaper &#8594;</text>\n",
         h = bottom + 36.0,
         l = x(1.0) - 8.0,
         r = x(1.0) + 8.0,
     );
+    if rows.iter().any(|r| r.nanoseconds.is_some()) {
+        out += "<circle cx=\"128\" cy=\"45\" r=\"4.5\" fill=\"none\" stroke=\"#b3541e\" stroke-width=\"2\"/><text x=\"140\" y=\"49\" fill=\"#333\">time</text>\n";
+    }
     for power in low as i32..=high as i32 {
         for digit in 1..=9 {
             let value = f64::from(digit) * 10f64.powi(power);
