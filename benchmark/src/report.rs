@@ -128,7 +128,8 @@ fn drawing(rows: &[Row]) -> String {
         r = x(1.0) + 8.0,
     );
     if rows.iter().any(|r| r.nanoseconds.is_some()) {
-        out += "<circle cx=\"128\" cy=\"45\" r=\"4.5\" fill=\"none\" stroke=\"#b3541e\" stroke-width=\"2\"/><text x=\"140\" y=\"49\" fill=\"#333\">time</text>\n";
+        out +=
+            "<circle cx=\"128\" cy=\"45\" r=\"4.5\" fill=\"none\" stroke=\"#b3541e\" stroke-width=\"2\"/><text x=\"140\" y=\"49\" fill=\"#333\">time</text>\n";
     }
     for power in low as i32..=high as i32 {
         for digit in 1..=9 {
