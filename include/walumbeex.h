@@ -1,8 +1,8 @@
 /* Walumbeex for C: an AT digester, a response slot, a bounded notice queue and the ingress above them.
  *
  * Link with libgateway.a (`rt staticlib gateway`; x86-64, System V calling convention). Each function is proved to equal
- * the call of document 01 behind it: the definitions are in crates/gateway/specs/Gateway.antt, the promises in
- * crates/gateway/src/lib.rt. No function has a condition on its numbers: any number and any array may be handed in.
+ * the call of document 01 behind it: the definitions are in crates/numbers/specs/Numbers.antt (what each number means) and
+ * crates/gateway/specs/Gateway.antt (what a call returns and leaves), the promises in crates/gateway/src/lib.rt. No function has a condition on its numbers: any number and any array may be handed in.
  *
  * What the proofs take from the caller, as for any C function:
  *   - a pointer p with its count n points to n bytes, and is not NULL, also where n is 0;
