@@ -10,22 +10,29 @@ pub data Number : Type 0 where
   none : Number
   number : ℕ → Number
 
--- The number of each kind: a CME or CMS code, a prompt byte, the table number of a notice or custom error; else none.
+-- The kinds with a number: a CME or CMS code, a prompt byte, the table number of a notice or custom error; else none.
+abbrev pub hasNumber : Kind → Bool
+hasNumber None = false
+hasNumber Ok = false
+hasNumber Prompt = true
+hasNumber Cme = true
+hasNumber Cms = true
+hasNumber Unknown = false
+hasNumber NotAllowed = false
+hasNumber Error = false
+hasNumber NoCarrier = false
+hasNumber Busy = false
+hasNumber NoAnswer = false
+hasNumber NoDialtone = false
+hasNumber Custom = true
+hasNumber Notice = true
+
+abbrev pub numberIf : Bool → ℕ → Number
+numberIf true n = number n
+numberIf false n = none
+
 abbrev pub numbered : Kind → ℕ → Number
-numbered None n = none
-numbered Ok n = none
-numbered Prompt n = number n
-numbered Cme n = number n
-numbered Cms n = number n
-numbered Unknown n = none
-numbered NotAllowed n = none
-numbered Error n = none
-numbered NoCarrier n = none
-numbered Busy n = none
-numbered NoAnswer n = none
-numbered NoDialtone n = none
-numbered Custom n = number n
-numbered Notice n = number n
+numbered k n = numberIf (hasNumber k) n
 
 -- no number is stored as 0
 abbrev pub stored : Number → ℕ

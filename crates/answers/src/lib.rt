@@ -1,6 +1,6 @@
 // What was heard, as the digester says it and the slot keeps it: a kind, a number, a payload's place, the bytes consumed.
 ghost use mathlib.Core.Path.{_≡_};
-ghost use Rattle.answers.specs.Answer.{numbered, stored, isFound};
+ghost use Rattle.answers.specs.Answer.{hasNumber, numbered, stored, isFound};
 
 // What was heard. Custom is a custom error; a custom success is an Ok.
 pub enum Kind {
@@ -29,26 +29,36 @@ pub struct Answer {
     pub consumed: usize,
 }
 
+// Has the kind a number? A CME or CMS code, a prompt byte, the table number of a notice or custom error.
+pub fn has_number(kind: Kind) -> bool
+    ensures { λ r. ⌜ r ≡ hasNumber kind ⌝ }
+{
+    match kind {
+        Kind::None => false,
+        Kind::Ok => false,
+        Kind::Prompt => true,
+        Kind::Cme => true,
+        Kind::Cms => true,
+        Kind::Unknown => false,
+        Kind::NotAllowed => false,
+        Kind::Error => false,
+        Kind::NoCarrier => false,
+        Kind::Busy => false,
+        Kind::NoAnswer => false,
+        Kind::NoDialtone => false,
+        Kind::Custom => true,
+        Kind::Notice => true,
+    }
+}
+
 // The number that is stored for a kind: n where it has one, else 0.
 pub fn number_of(kind: Kind, n: u32) -> u32
     ensures { λ r. ⌜ r ≡ stored (numbered kind n) ⌝ }
 {
-    match kind {
-        Kind::None => 0,
-        Kind::Ok => 0,
-        Kind::Prompt => n,
-        Kind::Cme => n,
-        Kind::Cms => n,
-        Kind::Unknown => 0,
-        Kind::NotAllowed => 0,
-        Kind::Error => 0,
-        Kind::NoCarrier => 0,
-        Kind::Busy => 0,
-        Kind::NoAnswer => 0,
-        Kind::NoDialtone => 0,
-        Kind::Custom => n,
-        Kind::Notice => n,
+    if has_number(kind) {
+        return n;
     }
+    0
 }
 
 // Is the answer another than None?

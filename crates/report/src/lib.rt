@@ -120,22 +120,10 @@ fn value(out: &mut [u8], at: usize, kind: Kind, n: u32, p: &[u8]) -> usize
     requires { ⌜ at + (21 + 2 * length (now p)) ≤ length (now out) ⌝ }
     ensures { λ r. ⌜ inked (now (out .exit)) r ≡ ink (now (out .entry)) at (valueOf (numbered kind n) (now (p .entry))) ⌝ }
 {
-    match kind {
-        Kind::None => payload(out, at, p),
-        Kind::Ok => payload(out, at, p),
-        Kind::Prompt => number(out, at, n as u64),
-        Kind::Cme => number(out, at, n as u64),
-        Kind::Cms => number(out, at, n as u64),
-        Kind::Unknown => payload(out, at, p),
-        Kind::NotAllowed => payload(out, at, p),
-        Kind::Error => payload(out, at, p),
-        Kind::NoCarrier => payload(out, at, p),
-        Kind::Busy => payload(out, at, p),
-        Kind::NoAnswer => payload(out, at, p),
-        Kind::NoDialtone => payload(out, at, p),
-        Kind::Custom => number(out, at, n as u64),
-        Kind::Notice => number(out, at, n as u64),
+    if answers::has_number(kind) {
+        return number(out, at, n as u64);
     }
+    payload(out, at, p)
 }
 
 // The line of an answer on s; None prints nothing.

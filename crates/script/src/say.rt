@@ -91,26 +91,6 @@ pub fn kind(out: &mut Memory, at: usize, k: Kind) -> usize {
     }
 }
 
-// Has the kind a number?
-fn is_numbered(k: Kind) -> bool {
-    match k {
-        Kind::None => false,
-        Kind::Ok => false,
-        Kind::Prompt => true,
-        Kind::Cme => true,
-        Kind::Cms => true,
-        Kind::Unknown => false,
-        Kind::NotAllowed => false,
-        Kind::Error => false,
-        Kind::NoCarrier => false,
-        Kind::Busy => false,
-        Kind::NoAnswer => false,
-        Kind::NoDialtone => false,
-        Kind::Custom => true,
-        Kind::Notice => true,
-    }
-}
-
 // A space and a number.
 pub fn and_number(out: &mut Memory, at: usize, n: u64) -> usize {
     let used = words(out, at, b" ");
@@ -120,7 +100,7 @@ pub fn and_number(out: &mut Memory, at: usize, n: u64) -> usize {
 // A kind and its number, `-` for none.
 pub fn kind_number(out: &mut Memory, at: usize, k: Kind, n: u32) -> usize {
     let used = kind(out, at, k);
-    if is_numbered(k) {
+    if answers::has_number(k) {
         return and_number(out, used, n as u64);
     }
     words(out, used, b" -")
