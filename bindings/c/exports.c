@@ -1,0 +1,259 @@
+/* Calls every function of include/walumbeex.h and compares what it answers and leaves: document 01's known examples, its refusals, and that what
+ * must stay stays. The expected numbers are written by hand from document 01.
+ * Each difference is a line on standard error; status 0 where there is none. */
+#include "walumbeex.h"
+
+#include <stdio.h>
+#include <string.h>
+
+/* What stands in an array before a call. */
+#define WAS 77
+
+#define TABLE "UR\7+UUSORD"
+
+static int differences;
+
+static void same(const char *what, uint64_t said, uint64_t expected)
+{
+    if (said == expected)
+        return;
+    differences++;
+    fprintf(stderr, "exports: %s: %llu and not %llu\n", what, (unsigned long long)said, (unsigned long long)expected);
+}
+
+static void same_all(const char *what, const uint64_t *said, const uint64_t *expected, size_t n)
+{
+    char name[100];
+    for (size_t i = 0; i < n; i++) {
+        snprintf(name, sizeof name, "%s, number %zu", what, i);
+        same(name, said[i], expected[i]);
+    }
+}
+
+#define OUT(what, ...) same_all(what, out, (const uint64_t[WX_OUT]){__VA_ARGS__}, WX_OUT)
+#define STATE(what, ...) same_all(what, state, (const uint64_t[WX_NUMBERS]){__VA_ARGS__}, WX_NUMBERS)
+
+static void same_bytes(const char *what, const void *said, const char *expected, size_t n)
+{
+    same(what, memcmp(said, expected, n) != 0, 0);
+}
+
+static void reset_to_was(uint64_t *numbers, size_t n)
+{
+    for (size_t i = 0; i < n; i++)
+        numbers[i] = WAS;
+}
+
+static const struct example {
+    const char *table;
+    size_t table_len;
+    const char *input;
+    size_t input_len;
+    uint64_t kind, number;
+    const char *payload;
+    uint64_t consumed;
+} examples[] = {
+#define EXAMPLE(table, input, kind, number, payload, consumed) \
+    {table, sizeof table - 1, input, sizeof input - 1, kind, number, payload, consumed}
+    EXAMPLE("", "", WX_NONE, 0, "", 0),
+    EXAMPLE("", "   ", WX_NONE, 0, "", 3),
+    EXAMPLE("", "\r\nOK\r\n", WX_OK, 0, "", 6),
+    EXAMPLE("", "\r\nERROR\r\n\r\nOK\r\n", WX_OK, 0, "ERROR", 15),
+    EXAMPLE("", "\r\n+CME ERROR: 65535\r\n", WX_CME, 65535, "", 21),
+    EXAMPLE("", "\r\n+CME ERROR: 65536\r\n", WX_NONE, 0, "", 0),
+    EXAMPLE("", "\r\n+CMS ERROR:\t7\n", WX_CMS, 7, "", 16),
+    EXAMPLE("", ">\r\n", WX_NONE, 0, "", 1),
+    EXAMPLE("", "\r\na>b\r\n>", WX_PROMPT, '>', "", 8),
+    EXAMPLE("", "x\r\n\r\nNA\r\n", WX_NOT_ALLOWED, 0, "", 9),
+    EXAMPLE("", "\r\nok\r\n", WX_NONE, 0, "", 0),
+    EXAMPLE("", "\r\nBUSY\r\n\r\nERROR\r\n", WX_ERROR, 0, "", 17),
+    EXAMPLE(TABLE, "\r\nRING\r\n\r\n+UUSORD: 0,4\r\n", WX_NOTICE, 0, "+UUSORD: 0,4", 24),
+    EXAMPLE(TABLE, "\r\n+UUSO", WX_NONE, 0, "", 0),
+    EXAMPLE(TABLE, "\r\n+UUSORD: >", WX_PROMPT, '>', "", 12),
+};
+
+static void digest(void)
+{
+    uint64_t out[WX_OUT], part[WX_OUT];
+    for (size_t i = 0; i < sizeof examples / sizeof examples[0]; i++) {
+        const struct example *e = &examples[i];
+        const uint8_t *input = (const uint8_t *)e->input;
+        same("digest", wx_digest((const uint8_t *)e->table, e->table_len, input, e->input_len, out), WX_DONE);
+        same("digest, kind", out[0], e->kind);
+        same("digest, number", out[1], e->number);
+        same("digest, payload's length", out[3], strlen(e->payload));
+        same("digest, consumed", out[4], e->consumed);
+        reset_to_was(part, WX_OUT);
+        wx_payload(input, e->input_len, out[2], out[3], part);
+        same("payload, place", part[0], out[2]);
+        same("payload, length", part[1], out[3]);
+        same("payload, the rest", part[2], WAS);
+        same_bytes("payload", input + part[0], e->payload, part[1]);
+    }
+}
+
+static void digest_refusals(void)
+{
+    static const uint8_t longest[WX_LONGEST + 1];
+    static const uint8_t faulty[] = "UR\4RINGUR\1 ", input[] = "\r\nOK\r\n";
+    uint64_t out[WX_OUT];
+    reset_to_was(out, WX_OUT);
+    same("4,097 bytes", wx_digest(faulty, sizeof faulty - 1, longest, sizeof longest, out), WX_TOO_LONG);
+    OUT("4,097 bytes", WAS, WAS, WAS, WAS, WAS);
+    same("a faulty table", wx_digest(faulty, sizeof faulty - 1, input, sizeof input - 1, out), WX_BAD_TABLE);
+    OUT("a faulty table", 1, WAS, WAS, WAS, WAS);
+    same("4,096 bytes", wx_digest(faulty, 0, longest, WX_LONGEST, out), WX_DONE);
+    OUT("4,096 bytes", WX_NONE, 0, 0, 0, 0);
+    reset_to_was(out, WX_OUT);
+    wx_payload(input, 6, 2, 5, out);
+    OUT("a part that doesn't fit", 0, 0, WAS, WAS, WAS);
+    wx_payload(input, 6, SIZE_MAX, SIZE_MAX, out);
+    OUT("a part past all memory", 0, 0, WAS, WAS, WAS);
+    wx_payload(input, 6, 2, 4, out);
+    OUT("a part that just fits", 2, 4, WAS, WAS, WAS);
+}
+
+static void table_check(void)
+{
+    static const uint8_t good[] = "UR\4RINGCS\2GO", faulty[] = "UR\4RINGUR\0";
+    uint64_t out[WX_OUT];
+    reset_to_was(out, WX_OUT);
+    same("the empty table", wx_table_check(good, 0, out), WX_DONE);
+    OUT("the empty table", 0, WAS, WAS, WAS, WAS);
+    same("a table of two", wx_table_check(good, sizeof good - 1, out), WX_DONE);
+    OUT("a table of two", 2, WAS, WAS, WAS, WAS);
+    same("an empty text", wx_table_check(faulty, sizeof faulty - 1, out), WX_BAD_TABLE);
+    OUT("an empty text", 1, WAS, WAS, WAS, WAS);
+}
+
+static void slot(void)
+{
+    uint64_t state[WX_NUMBERS], out[WX_OUT];
+    uint8_t mem[] = {'a', 'b', 'c', 'd'};
+    reset_to_was(state, WX_NUMBERS);
+    reset_to_was(out, WX_OUT);
+    wx_slot_new(state);
+    STATE("a new slot", WAS, 0, WX_OK, 0, 0, 0, WAS, WAS, WAS);
+    same("a look at a free slot", wx_slot_lookup(state, mem, sizeof mem, out), WX_DONE);
+    OUT("a look at a free slot", 0, WAS, WAS, WAS, WAS);
+
+    static const uint64_t ok[WX_OUT] = {WX_OK, 0, 2, 3, 9}, cme[WX_OUT] = {WX_CME, 10, 0, 0, 9}, none[WX_OUT] = {WX_NONE};
+    same("a signal", wx_slot_signal(state, ok, (const uint8_t *)"xyz", 3, mem, sizeof mem), WX_DONE);
+    STATE("a signal", WAS, 1, WX_OK, 0, 3, 0, WAS, WAS, WAS);
+    same_bytes("a signal, memory", mem, "xyzd", 4);
+    same("a signal that is lost", wx_slot_signal(state, cme, (const uint8_t *)"", 0, mem, sizeof mem), WX_DONE);
+    same("a signal of None", wx_slot_signal(state, none, (const uint8_t *)"", 0, mem, sizeof mem), WX_DONE);
+    STATE("a signal that is lost", WAS, 1, WX_OK, 0, 3, 1, WAS, WAS, WAS);
+    same("a look", wx_slot_lookup(state, mem, sizeof mem, out), WX_DONE);
+    OUT("a look", 1, WX_OK, 0, 3, WAS);
+    reset_to_was(out, WX_OUT);
+    wx_slot_payload(state, mem, sizeof mem, out);
+    OUT("the stored payload", 0, 3, WAS, WAS, WAS);
+    same("a reset", wx_slot_reset(state, mem, sizeof mem), WX_DONE);
+    STATE("a reset", WAS, 0, WX_OK, 0, 3, 1, WAS, WAS, WAS);
+    same("a long Ok", wx_slot_signal(state, ok, (const uint8_t *)"12345", 5, mem, sizeof mem), WX_DONE);
+    STATE("a long Ok", WAS, 1, WX_CAPACITY, 0, 0, 1, WAS, WAS, WAS);
+    same_bytes("a long Ok, memory", mem, "xyzd", 4);
+
+    state[WX_LEN] = 5;
+    reset_to_was(out, WX_OUT);
+    same("a length past the memory, look", wx_slot_lookup(state, mem, sizeof mem, out), WX_BAD_STATE);
+    OUT("a length past the memory, look", WAS, WAS, WAS, WAS, WAS);
+    same("a length past the memory, reset", wx_slot_reset(state, mem, sizeof mem), WX_BAD_STATE);
+    same("a length past the memory, signal", wx_slot_signal(state, ok, (const uint8_t *)"x", 1, mem, sizeof mem), WX_BAD_STATE);
+    STATE("a length past the memory", WAS, 1, WX_CAPACITY, 0, 5, 1, WAS, WAS, WAS);
+    wx_slot_payload(state, mem, sizeof mem, out);
+    OUT("a length past the memory, payload", 0, 0, WAS, WAS, WAS);
+}
+
+static void queue(void)
+{
+    uint64_t state[WX_NUMBERS], out[WX_OUT];
+    uint8_t mem[WX_RECORD] = {0}, longer[WX_LONGEST_NOTICE + 1] = {0};
+    same("capacity of 131", wx_queue_capacity(131), 0);
+    same("capacity of 264", wx_queue_capacity(264), 2);
+    same("capacity of all memory", wx_queue_capacity(SIZE_MAX), WX_RECORDS);
+    reset_to_was(state, WX_NUMBERS);
+    reset_to_was(out, WX_OUT);
+    wx_queue_new(state);
+    STATE("a new queue", WAS, WAS, WAS, WAS, WAS, WAS, 0, 0, 0);
+    same("a put", wx_queue_put(state, mem, sizeof mem, 5, (const uint8_t *)"RING", 4), WX_DONE);
+    STATE("a put", WAS, WAS, WAS, WAS, WAS, WAS, 0, 1, 0);
+    same_bytes("a put, memory", mem, "UR\5\4RING", 9);
+    same("a full queue", wx_queue_put(state, mem, sizeof mem, 6, (const uint8_t *)"BUSY", 4), WX_FULL);
+    same("a long notice", wx_queue_put(state, mem, sizeof mem, 6, longer, sizeof longer), WX_DONE);
+    STATE("a long notice", WAS, WAS, WAS, WAS, WAS, WAS, 0, 1, 1);
+    same("a take", wx_queue_take(state, mem, sizeof mem, out), WX_DONE);
+    OUT("a take", 1, 5, 4, 4, WAS);
+    reset_to_was(out, WX_OUT);
+    same("an empty queue", wx_queue_take(state, mem, sizeof mem, out), WX_DONE);
+    OUT("an empty queue", 0, WAS, WAS, WAS, WAS);
+    STATE("an empty queue", WAS, WAS, WAS, WAS, WAS, WAS, 0, 0, 1);
+    state[WX_START] = 1;
+    same("a start past the ring, take", wx_queue_take(state, mem, sizeof mem, out), WX_BAD_STATE);
+    same("a start past the ring, put", wx_queue_put(state, mem, sizeof mem, 5, (const uint8_t *)"RING", 4), WX_BAD_STATE);
+    STATE("a start past the ring", WAS, WAS, WAS, WAS, WAS, WAS, 1, 0, 1);
+}
+
+static void ingress(void)
+{
+    static const uint8_t table[] = TABLE, answer[] = "AT+CSQ\r\r\n+CSQ: 17,99\r\n\r\nOK\r\n";
+    static const uint8_t notices[] = "\r\n+UUSORD: 1\r\n\r\n+UUSORD: 2\r\n", faulty[] = "??";
+    static uint8_t too_long[WX_LONGEST + 1];
+    uint64_t state[WX_NUMBERS], out[WX_OUT];
+    uint8_t buf[64] = {0}, slot_mem[32] = {0}, queue_mem[WX_RECORD] = {0};
+#define MEMORIES buf, sizeof buf, slot_mem, sizeof slot_mem, queue_mem, sizeof queue_mem, out
+#define WITH_TABLE table, sizeof table - 1
+    reset_to_was(state, WX_NUMBERS);
+    wx_slot_new(state);
+    wx_queue_new(state);
+    wx_ingress_clear(state);
+    STATE("a first state", 0, 0, WX_OK, 0, 0, 0, 0, 0, 0);
+    reset_to_was(out, WX_OUT);
+    same("a write", wx_ingress_write(state, answer, sizeof answer - 1, WITH_TABLE, MEMORIES), WX_DONE);
+    OUT("a write", sizeof answer - 1, WAS, WAS, WAS, WAS);
+    STATE("a write", 0, 1, WX_OK, 0, 11, 0, 0, 0, 0);
+    same_bytes("a write, the slot's memory", slot_mem, "+CSQ: 17,99", 11);
+
+    same("a full queue", wx_ingress_write(state, notices, sizeof notices - 1, WITH_TABLE, MEMORIES), WX_FULL);
+    OUT("a full queue", sizeof notices - 1, WAS, WAS, WAS, WAS);
+    STATE("a full queue", 14, 1, WX_OK, 0, 11, 0, 0, 1, 0);
+    same_bytes("a full queue, the buffer", buf, "\r\n+UUSORD: 2\r\n", 14);
+    same("still full", wx_ingress_advance(state, 0, WITH_TABLE, MEMORIES), WX_FULL);
+    same("the first notice", wx_queue_take(state, queue_mem, sizeof queue_mem, out), WX_DONE);
+    OUT("the first notice", 1, 0, 4, 10, WAS);
+    same_bytes("the first notice", queue_mem + 4, "+UUSORD: 1", 10);
+    same("going on", wx_ingress_advance(state, 0, WITH_TABLE, MEMORIES), WX_DONE);
+    STATE("going on", 0, 1, WX_OK, 0, 11, 0, 0, 1, 0);
+    same_bytes("the second notice", queue_mem + 4, "+UUSORD: 2", 10);
+
+    memcpy(buf, "\r\nNO", 4);
+    same("an advance", wx_ingress_advance(state, 4, WITH_TABLE, MEMORIES), WX_DONE);
+    STATE("an advance", 4, 1, WX_OK, 0, 11, 0, 0, 1, 0);
+    reset_to_was(out, WX_OUT);
+    same("a commit over the room", wx_ingress_advance(state, 61, WITH_TABLE, MEMORIES), WX_NO_ROOM);
+    same("a buffer of 4,097 bytes",
+         wx_ingress_write(state, answer, 1, WITH_TABLE, too_long, sizeof too_long, slot_mem, sizeof slot_mem, queue_mem, sizeof queue_mem, out),
+         WX_TOO_LONG);
+    OUT("refused", WAS, WAS, WAS, WAS, WAS);
+    same("a faulty table", wx_ingress_write(state, answer, 1, faulty, 2, MEMORIES), WX_BAD_TABLE);
+    OUT("a faulty table", 0, WAS, WAS, WAS, WAS);
+    STATE("refused", 4, 1, WX_OK, 0, 11, 0, 0, 1, 0);
+    state[WX_END] = 65;
+    same("an end past the buffer", wx_ingress_advance(state, 0, WITH_TABLE, MEMORIES), WX_BAD_STATE);
+    wx_ingress_clear(state);
+    STATE("a clear", 0, 1, WX_OK, 0, 11, 0, 0, 1, 0);
+}
+
+int main(void)
+{
+    table_check();
+    digest();
+    digest_refusals();
+    slot();
+    queue();
+    ingress();
+    if (differences == 0)
+        puts("exports: every function of walumbeex.h answered as document 01 says");
+    return differences != 0;
+}
