@@ -98,20 +98,25 @@ fn show(table: &[u8], input: &[u8]) {
     }
 }
 
+// Under the empty table.
+fn show_alone(input: &[u8]) {
+    show(b"", input);
+}
+
 // The examples under the empty table.
 fn show_plain() {
-    show(b"", b"");
-    show(b"", b"   ");
-    show(b"", b"\r\nOK\r\n");
-    show(b"", b"\r\nERROR\r\n\r\nOK\r\n");
-    show(b"", b"\r\n+CME ERROR: 65535\r\n");
-    show(b"", b"\r\n+CME ERROR: 65536\r\n");
-    show(b"", b"\r\n+CMS ERROR:\t7\n");
-    show(b"", b">\r\n");
-    show(b"", b"\r\na>b\r\n>");
-    show(b"", b"x\r\n\r\nNA\r\n");
-    show(b"", b"\r\nok\r\n");
-    show(b"", b"\r\nBUSY\r\n\r\nERROR\r\n");
+    show_alone(b"");
+    show_alone(b"   ");
+    show_alone(b"\r\nOK\r\n");
+    show_alone(b"\r\nERROR\r\n\r\nOK\r\n");
+    show_alone(b"\r\n+CME ERROR: 65535\r\n");
+    show_alone(b"\r\n+CME ERROR: 65536\r\n");
+    show_alone(b"\r\n+CMS ERROR:\t7\n");
+    show_alone(b">\r\n");
+    show_alone(b"\r\na>b\r\n>");
+    show_alone(b"x\r\n\r\nNA\r\n");
+    show_alone(b"\r\nok\r\n");
+    show_alone(b"\r\nBUSY\r\n\r\nERROR\r\n");
 }
 
 fn main() {

@@ -136,6 +136,30 @@ pub struct Said {
     pub at: usize,
 }
 
+// What was done, in words, and the state that it left.
+fn did(s: State, words: &[u8], out: &mut Memory, at: usize) -> Said {
+    Said {
+        state: s,
+        at: say::words(out, at, words),
+    }
+}
+
+// A refusal by its number, with the state as it stood or as it was left.
+fn refused(s: State, n: u64, out: &mut Memory, at: usize) -> Said {
+    Said {
+        state: s,
+        at: say::refusal(out, at, n),
+    }
+}
+
+// Refusal 2 with the record's number.
+fn bad_table(s: State, k: usize, out: &mut Memory, at: usize) -> Said {
+    Said {
+        state: s,
+        at: say::refusal_of_record(out, at, k),
+    }
+}
+
 // The bytes that a write took.
 fn took(out: &mut Memory, at: usize, n: usize) -> usize {
     let used = say::words(out, at, b"took ");
@@ -158,18 +182,9 @@ fn do_write(
             state: s,
             at: took(out, at, n),
         },
-        Written::TooLong => Said {
-            state: now,
-            at: say::refusal(out, at, 1),
-        },
-        Written::BadTable(k) => Said {
-            state: now,
-            at: say::refusal_of_record(out, at, k),
-        },
-        Written::BadState => Said {
-            state: now,
-            at: say::refusal(out, at, 3),
-        },
+        Written::TooLong => refused(now, 1, out, at),
+        Written::BadTable(k) => bad_table(now, k, out, at),
+        Written::BadState => refused(now, 3, out, at),
         Written::Full(s, n) => {
             let used = say::words(out, at, b"refused 5 ");
             Said {
@@ -192,30 +207,12 @@ fn do_advance(
     at: usize,
 ) -> Said {
     match ingress::advance(now, n, table, buf, slot_mem, queue_mem) {
-        Advanced::Is(s) => Said {
-            state: s,
-            at: say::words(out, at, b"advanced"),
-        },
-        Advanced::TooLong => Said {
-            state: now,
-            at: say::refusal(out, at, 1),
-        },
-        Advanced::BadTable(k) => Said {
-            state: now,
-            at: say::refusal_of_record(out, at, k),
-        },
-        Advanced::BadState => Said {
-            state: now,
-            at: say::refusal(out, at, 3),
-        },
-        Advanced::NoRoom => Said {
-            state: now,
-            at: say::refusal(out, at, 4),
-        },
-        Advanced::Full(s) => Said {
-            state: s,
-            at: say::refusal(out, at, 5),
-        },
+        Advanced::Is(s) => did(s, b"advanced", out, at),
+        Advanced::TooLong => refused(now, 1, out, at),
+        Advanced::BadTable(k) => bad_table(now, k, out, at),
+        Advanced::BadState => refused(now, 3, out, at),
+        Advanced::NoRoom => refused(now, 4, out, at),
+        Advanced::Full(s) => refused(s, 5, out, at),
     }
 }
 
@@ -248,23 +245,14 @@ fn do_clear(now: State, out: &mut Memory, at: usize) -> Said {
         slot: slot,
         queue: queue,
     };
-    Said {
-        state: cleared,
-        at: say::words(out, at, b"done"),
-    }
+    did(cleared, b"done", out, at)
 }
 
 // What a reset or a signal left.
 fn said_turn(now: State, t: Turned, out: &mut Memory, at: usize) -> Said {
     match t {
-        Turned::Is(x) => Said {
-            state: with_slot(now, x),
-            at: say::words(out, at, b"done"),
-        },
-        Turned::BadLength => Said {
-            state: now,
-            at: say::refusal(out, at, 3),
-        },
+        Turned::Is(x) => did(with_slot(now, x), b"done", out, at),
+        Turned::BadLength => refused(now, 3, out, at),
     }
 }
 
@@ -309,14 +297,8 @@ fn do_take(now: State, queue_mem: &[u8], out: &mut Memory, at: usize) -> Said {
                 at: say::hex(out, apart, payload),
             }
         }
-        Taken::Nothing(q) => Said {
-            state: with_queue(now, q),
-            at: say::words(out, at, b"nothing"),
-        },
-        Taken::Bad => Said {
-            state: now,
-            at: say::refusal(out, at, 3),
-        },
+        Taken::Nothing(q) => did(with_queue(now, q), b"nothing", out, at),
+        Taken::Bad => refused(now, 3, out, at),
     }
 }
 
@@ -337,14 +319,8 @@ fn do_look(now: State, slot_mem: &[u8], out: &mut Memory, at: usize) -> Said {
             state: with_slot(now, x),
             at: say_held(x, slot_mem, out, at),
         },
-        Looked::Nothing(x) => Said {
-            state: with_slot(now, x),
-            at: say::words(out, at, b"nothing"),
-        },
-        Looked::BadLength => Said {
-            state: now,
-            at: say::refusal(out, at, 3),
-        },
+        Looked::Nothing(x) => did(with_slot(now, x), b"nothing", out, at),
+        Looked::BadLength => refused(now, 3, out, at),
     }
 }
 
