@@ -1,6 +1,4 @@
 -- `wx_queue_new` meets its contract: it equals `Queue::new`. Assumes nothing.
-use mathlib.Core.Path.{ap, _∙_}
-use Rattle.numbers.specs.Numbers.{withQueue}
 use borrow.Author.Needs.{needs}
 use Rattle.gateway.proofs.wx_queue_new.Statement.{statement}
 use Rattle.gateway.proofs.wx_queue_new.Tie as tie
@@ -12,9 +10,7 @@ put-queue-requires : tie.Need-put-queue-requires
 put-queue-requires c κs = search needs
 
 returns : tie.Need-returns
-returns c =
-    let args = c .before .before .before .args in
-    c .put-queue .ensures ∙ ap (withQueue (args .state .now)) (c .before .before .new .ensures)
+returns c = rw (c .put-queue .ensures, c .before .before .new .ensures)
 
 pub wx-queue-new-spec : {M : Type 1} → statement M
 wx-queue-new-spec = tie.close (tie.spec new-requires put-queue-requires returns)

@@ -1,6 +1,4 @@
 -- `wx_slot_new` meets its contract: it equals `Slot::new`. Assumes nothing.
-use mathlib.Core.Path.{ap, _∙_}
-use Rattle.numbers.specs.Numbers.{withSlot}
 use borrow.Author.Needs.{needs}
 use Rattle.gateway.proofs.wx_slot_new.Statement.{statement}
 use Rattle.gateway.proofs.wx_slot_new.Tie as tie
@@ -12,9 +10,7 @@ put-slot-requires : tie.Need-put-slot-requires
 put-slot-requires c κs = search needs
 
 returns : tie.Need-returns
-returns c =
-    let args = c .before .before .before .args in
-    c .put-slot .ensures ∙ ap (withSlot (args .state .now)) (c .before .before .new .ensures)
+returns c = rw (c .put-slot .ensures, c .before .before .new .ensures)
 
 pub wx-slot-new-spec : {M : Type 1} → statement M
 wx-slot-new-spec = tie.close (tie.spec new-requires put-slot-requires returns)
