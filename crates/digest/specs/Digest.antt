@@ -27,8 +27,6 @@ use Rattle.digest.specs.declared.Occurs.{Occurs}
 use Rattle.digest.specs.declared.Occurs.the-variants as occurs
 use Rattle.digest.specs.declared.Digested.{Digested}
 use Rattle.digest.specs.declared.Digested.the-variants as says
-use Rattle.digest.specs.declared.Rule.{Rule}
-use Rattle.digest.specs.declared.Rule.the-variants as rule
 use Rattle.digest.specs.declared.Tried.{Tried}
 use Rattle.digest.specs.declared.Tried.the-variants.{Done, Next}
 use Rattle.answers.specs.Answer.{isFound, answer, nothing, shift}
@@ -172,19 +170,13 @@ errors l s e =
     orElse (customError (firstCustom l s e))
     (orElse (numericErrors s e) (orElse (lineErrors s e) (headTried (stands (fixedText fixed.Na) s e) e)))
 
--- rules 2 to 5, each on the records with its mark
-abbrev pub byRule : Rule → List Token → List ℕ → ℕ → Tried
-byRule rule.Notices ts s e = notices (ofMark mark.Notice 0 ts) s e
-byRule rule.Successes ts s e = successes (ofMark mark.Success 0 ts) s e
-byRule rule.Prompts ts s e = prompts (ofMark mark.Prompt 0 ts) s e
-byRule rule.Errors ts s e = errors (ofMark mark.Error 0 ts) s e
-
--- and in their order
+-- rules 2 to 5 in their order, each on the records with its mark
 unfoldable pub tried : List Token → List ℕ → ℕ → Tried
 unfolding orElse notices successes prompts errors
 tried ts s e =
-    orElse (byRule rule.Notices ts s e)
-    (orElse (byRule rule.Successes ts s e) (orElse (byRule rule.Prompts ts s e) (byRule rule.Errors ts s e)))
+    orElse (notices (ofMark mark.Notice 0 ts) s e)
+    (orElse (successes (ofMark mark.Success 0 ts) s e)
+    (orElse (prompts (ofMark mark.Prompt 0 ts) s e) (errors (ofMark mark.Error 0 ts) s e)))
 
 -- Rule 6. If buf starts with CRLF and has more than 4 bytes, the digester calls itself on what follows those two bytes.
 unfoldable pub retries : List ℕ → ℕ → Bool

@@ -15,14 +15,14 @@ use Rattle.text.specs.declared.Span.{Span}
 use Rattle.text.specs.declared.Found.{Found}
 use Rattle.text.specs.declared.Found.the-variants.{At, Nothing}
 use Rattle.table.specs.Table.{tokenOf, Entry, entryOf, textOf, nextOf, entries}
-use Rattle.table.specs.Laws.{next-nothing, next-first, text-length}
+use Rattle.table.specs.Laws.{next-nothing, next-first, entries-past, text-length, text-part}
 use Rattle.table.specs.declared.Mark.{Mark}
 use Rattle.table.specs.declared.Mark.the-variants as mark
 use Rattle.table.specs.declared.Record.{Record}
 use Rattle.table.specs.declared.Next.{Next}
 use Rattle.table.specs.declared.Next.the-variants as next
 use Rattle.lines.specs.Lines.{crlf, fixedText}
-use Rattle.parser.specs.Parser.{numericError, customPrompt, wrapped, noticeAt}
+use Rattle.parser.specs.Parser.{customPrompt, wrapped, noticeAt}
 use Rattle.lines.specs.Laws.{fixed-some}
 use Rattle.parser.specs.Laws.{notice-bounds}
 use Rattle.lines.specs.declared.Fixed.{Fixed}
@@ -39,8 +39,8 @@ use Rattle.digest.specs.declared.Occurs.{Occurs}
 use Rattle.digest.specs.declared.Occurs.the-variants as occurs
 use Rattle.digest.specs.declared.Tried.{Tried}
 use Rattle.digest.specs.declared.Tried.the-variants as tries
-use Rattle.answers.specs.Answer.{numbered, stored, kindFound, placed, answer, nothing, shift}
-use Rattle.digest.specs.Digest.{orElse, foundOr, skipped, trimmedAnswer, heard, notices, occursOr, firstCustom, success, customSuccess, lineSuccess, promptTried, customPrompts, customError, numericTried, lineTried, headTried, numericFrom, lineFrom, retries, after}
+use Rattle.answers.specs.Answer.{numbered, stored, kindFound, isFound, placed, answer, nothing, shift}
+use Rattle.digest.specs.Digest.{orElse, foundOr, skipped, trimmedAnswer, heard, notices, occursOr, firstCustom, success, customSuccess, lineSuccess, promptTried, customPrompts, customError, numericTried, lineTried, headTried, lineFrom, retries, ifFound}
 
 -- A chain of rules: u is what the first rule t gave. It answered; or it didn't, and the rest r decides.
 pub hit : (t r u : Tried) (a : Answer) → u ≡ t → u ≡ tries.Done a → tries.Done a ≡ orElse t r
@@ -50,6 +50,19 @@ hit t r u a p q = ap (λ (x : Tried). orElse x r) (sym q ∙ p)
 pub miss : (t r u : Tried) → u ≡ t → u ≡ tries.Next → r ≡ orElse t r
 unfolding orElse
 miss t r u p q = ap (λ (x : Tried). orElse x r) (sym q ∙ p)
+
+-- A chain in which no rule answered, taken apart and put together.
+pub next-both : (t r : Tried) → orElse t r ≡ tries.Next → (t ≡ tries.Next) × (r ≡ tries.Next)
+unfolding orElse
+next-both (tries.Done a) r h = let z : _≡_ {A = ℕ} 0 1 = cc in absurd (omega arith)
+next-both tries.Next r h = (refl, h)
+
+pub both-next : (t r : Tried) → t ≡ tries.Next → r ≡ tries.Next → orElse t r ≡ tries.Next
+unfolding orElse
+both-next t r p q = ap (λ (x : Tried). orElse x r) p ∙ q
+
+pub done-next : (a : Answer) {t : Tried} → t ≡ tries.Done a → t ≡ tries.Next → ⊥
+done-next a h g = let z : _≡_ {A = ℕ} 0 1 = cc in omega arith
 
 -- answers
 -- the only kind that isn't found is None
@@ -141,7 +154,10 @@ module _ (s : List ℕ) (e n : ℕ) (x : List ℕ) (r : Notice) (p : r ≡ notic
   pub ended-room : (end : ℕ) → r ≡ notice.Ended end → (e ≤ end) × (end ≤ length s)
   ended-room end q = notice-bounds x s e end (sym p ∙ q)
 
--- The three loops over the table: the rule on all records with the mark is the rule on those from `at` on.
+-- The three loops over the table: the rule on all records with the mark is the rule on those from `at` on. A record's text is lent from the table.
+abbrev partIn : List ℕ → Record → List ℕ
+partIn t r = take (r .place + r .len - r .place) (drop (r .place) t)
+
 module _ (m : Mark) (t : List ℕ) (at n : ℕ) (q : Next) (p : q ≡ nextOf m t at n) where
   no-more : q ≡ next.Nothing → entries m t at n ≡ []
   no-more e = next-nothing m t at n q p e
@@ -153,17 +169,29 @@ module _ (m : Mark) (t : List ℕ) (at n : ℕ) (q : Next) (p : q ≡ nextOf m t
     one-more : entries m t at n ≡ entryOf (tokenOf t r) k ∷ entries m t (r .place + r .len) (k + 1)
     one-more = next-first m t at n q p r k e .is
 
+    text-is : partIn t r ≡ textOf t r
+    text-is = text-part t r (next-room .1)
+
+-- an empty table has no record
+pub none-first : (m : Mark) (t s : List ℕ) (e : ℕ) → length t ≡ 0 → occurs.Nothing ≡ firstCustom (entries m t 0 0) s e
+unfolding firstCustom
+none-first m t s e h = sym (ap (λ (l : List Entry). firstCustom l s e) (entries-past m t 0 0 (omega arith)))
+
+pub none-prompts : (t s : List ℕ) (e : ℕ) → length t ≡ 0 → tries.Next ≡ customPrompts (entries mark.Prompt t 0 0) s e
+unfolding customPrompts
+none-prompts t s e h = sym (ap (λ (l : List Entry). customPrompts l s e) (entries-past mark.Prompt t 0 0 (omega arith)))
+
 module _ (t s : List ℕ) (e at n : ℕ) (w : notices (entries mark.Notice t 0 0) s e ≡ notices (entries mark.Notice t at n) s e) (q : Next) (p : q ≡ nextOf mark.Notice t at n) where
   pub notices-end : q ≡ next.Nothing → tries.Next ≡ notices (entries mark.Notice t 0 0) s e
   unfolding notices
   notices-end z = sym (w ∙ ap (λ (l : List Entry). notices l s e) (no-more mark.Notice t at n q p z))
 
-  module _ (r : Record) (k : ℕ) (z : q ≡ next.Is r k) (x : List ℕ) (v : x ≡ textOf t r) (u : Tried) (y : u ≡ heard (noticeAt x s e) k s e) where
+  module _ (r : Record) (k : ℕ) (z : q ≡ next.Is r k) (u : Tried) (y : u ≡ heard (noticeAt (partIn t r) s e) k s e) where
     notices-one : notices (entries mark.Notice t 0 0) s e ≡ orElse u (notices (entries mark.Notice t (r .place + r .len) (k + 1)) s e)
     unfolding notices entryOf tokenOf
     notices-one =
         w ∙ ap (λ (l : List Entry). notices l s e) (one-more mark.Notice t at n q p r k z)
-        ∙ ap (λ (b : Tried). orElse b (notices (entries mark.Notice t (r .place + r .len) (k + 1)) s e)) (sym (y ∙ ap (λ (b : List ℕ). heard (noticeAt b s e) k s e) v))
+        ∙ ap (λ (b : Tried). orElse b (notices (entries mark.Notice t (r .place + r .len) (k + 1)) s e)) (sym (y ∙ ap (λ (b : List ℕ). heard (noticeAt b s e) k s e) (text-is mark.Notice t at n q p r k z)))
 
     pub notices-hit : (a : Answer) → u ≡ tries.Done a → tries.Done a ≡ notices (entries mark.Notice t 0 0) s e
     unfolding orElse
@@ -178,12 +206,12 @@ module _ (m : Mark) (t s : List ℕ) (e at n : ℕ) (w : firstCustom (entries m 
   unfolding firstCustom
   custom-end z = sym (w ∙ ap (λ (l : List Entry). firstCustom l s e) (no-more m t at n q p z))
 
-  module _ (r : Record) (k : ℕ) (z : q ≡ next.Is r k) (x : List ℕ) (v : x ≡ textOf t r) (u : Found) (y : u ≡ findIn (wrapped x) s e) where
+  module _ (r : Record) (k : ℕ) (z : q ≡ next.Is r k) (u : Found) (y : u ≡ findIn (wrapped (partIn t r)) s e) where
     custom-one : firstCustom (entries m t 0 0) s e ≡ occursOr u (entryOf (tokenOf t r) k) (firstCustom (entries m t (r .place + r .len) (k + 1)) s e)
     unfolding firstCustom entryOf tokenOf
     custom-one =
         w ∙ ap (λ (l : List Entry). firstCustom l s e) (one-more m t at n q p r k z)
-        ∙ ap (λ (b : Found). occursOr b (entryOf (tokenOf t r) k) (firstCustom (entries m t (r .place + r .len) (k + 1)) s e)) (sym (y ∙ ap (λ (b : List ℕ). findIn (wrapped b) s e) v))
+        ∙ ap (λ (b : Found). occursOr b (entryOf (tokenOf t r) k) (firstCustom (entries m t (r .place + r .len) (k + 1)) s e)) (sym (y ∙ ap (λ (b : List ℕ). findIn (wrapped b) s e) (text-is m t at n q p r k z)))
 
     pub custom-hit : (place : ℕ) → u ≡ At place → occurs.At k (r .len) place ≡ firstCustom (entries m t 0 0) s e
     unfolding occursOr entryOf tokenOf
@@ -198,13 +226,13 @@ module _ (t s : List ℕ) (e at n : ℕ) (w : customPrompts (entries mark.Prompt
   unfolding customPrompts
   prompts-end z = sym (w ∙ ap (λ (l : List Entry). customPrompts l s e) (no-more mark.Prompt t at n q p z))
 
-  module _ (r : Record) (k : ℕ) (z : q ≡ next.Is r k) (x : List ℕ) (v : x ≡ textOf t r) (b : Bool) (f : b ≡ customPrompt x s e) (u : Tried) (y : u ≡ promptTried b (r .prompt) s) where
+  module _ (r : Record) (k : ℕ) (z : q ≡ next.Is r k) (b : Bool) (f : b ≡ customPrompt (partIn t r) s e) (u : Tried) (y : u ≡ promptTried b (r .prompt) s) where
     prompts-one : customPrompts (entries mark.Prompt t 0 0) s e ≡ orElse u (customPrompts (entries mark.Prompt t (r .place + r .len) (k + 1)) s e)
     unfolding customPrompts entryOf tokenOf
     prompts-one =
         w ∙ ap (λ (l : List Entry). customPrompts l s e) (one-more mark.Prompt t at n q p r k z)
         ∙ ap (λ (c : Tried). orElse c (customPrompts (entries mark.Prompt t (r .place + r .len) (k + 1)) s e))
-        (sym (y ∙ ap (λ (c : Bool). promptTried c (r .prompt) s) (f ∙ ap (λ (l : List ℕ). customPrompt l s e) v)))
+        (sym (y ∙ ap (λ (c : Bool). promptTried c (r .prompt) s) (f ∙ ap (λ (l : List ℕ). customPrompt l s e) (text-is mark.Prompt t at n q p r k z))))
 
     pub prompts-hit : (a : Answer) → u ≡ tries.Done a → tries.Done a ≡ customPrompts (entries mark.Prompt t 0 0) s e
     unfolding orElse
@@ -276,15 +304,55 @@ module _ (l : Fixed) (s : List ℕ) (e : ℕ) (r : Found) (p : r ≡ findIn (fix
   unfolding lineFrom lineTried
   line-from-none c q = ap (lineTried c l) (sym q ∙ p)
 
--- a numeric error
-module _ (c : Kind) (h : Fixed) (s : List ℕ) (e : ℕ) (r : Numeric) (p : r ≡ numericError (fixedText h) s e) where
-  pub numeric-from-is : (d : Digits) → r ≡ numeric.Is d → (a : Answer) → a ≡ answer c (d .code) 0 0 (d .end) → tries.Done a ≡ numericFrom c h s e
-  unfolding numericFrom numericTried
-  numeric-from-is d q a w = ap tries.Done w ∙ ap (numericTried c) (sym q ∙ p)
+-- What a rule that gave no answer looked for is nowhere.
+pub occurs-none : (f : Found) (x : Entry) (r : Occurs) → occursOr f x r ≡ occurs.Nothing → (f ≡ Nothing) × (r ≡ occurs.Nothing)
+unfolding occursOr
+occurs-none (At k) x r h = let z : _≡_ {A = ℕ} 0 1 = cc in absurd (omega arith)
+occurs-none Nothing x r h = (refl, h)
 
-  pub numeric-from-none : r ≡ numeric.Nothing → tries.Next ≡ numericFrom c h s e
-  unfolding numericFrom numericTried
-  numeric-from-none q = ap (numericTried c) (sym q ∙ p)
+pub error-nowhere : (r : Occurs) → customError r ≡ tries.Next → r ≡ occurs.Nothing
+unfolding customError
+error-nowhere (occurs.At n len k) h = absurd (done-next (answer kind.Custom n (k + 2) len (k + (len + 4))) refl h)
+error-nowhere occurs.Nothing h = refl
+
+module _ (s : List ℕ) (e : ℕ) where
+  pub success-nowhere : (r : Occurs) → customSuccess r s e ≡ tries.Next → r ≡ occurs.Nothing
+  unfolding customSuccess success
+  success-nowhere (occurs.At n len k) h = absurd (done-next (trimmedAnswer kind.Ok 0 s e k (k + (len + 4))) refl h)
+  success-nowhere occurs.Nothing h = refl
+
+  pub line-success-nowhere : (l : Fixed) (r : Found) → lineSuccess l r s e ≡ tries.Next → r ≡ Nothing
+  unfolding lineSuccess success
+  line-success-nowhere l (At k) h = absurd (done-next (trimmedAnswer kind.Ok 0 s e k (k + length (fixedText l))) refl h)
+  line-success-nowhere l Nothing h = refl
+
+  pub line-nowhere : (c : Kind) (l : Fixed) → lineFrom c l s e ≡ tries.Next → findIn (fixedText l) s e ≡ Nothing
+  unfolding lineFrom
+  line-nowhere c l h = go (findIn (fixedText l) s e) h
+    where
+      go : (r : Found) → lineTried c l r ≡ tries.Next → r ≡ Nothing
+      go (At k) i = absurd (unfold lineTried in done-next (answer c 0 0 0 (k + length (fixedText l))) refl i)
+      go Nothing i = refl
+
+  pub prompt-nowhere : (b : Bool) (c : ℕ) → promptTried b c s ≡ tries.Next → b ≡ false
+  unfolding promptTried
+  prompt-nowhere true c h = absurd (done-next (answer kind.Prompt c 0 0 (length s)) refl h)
+  prompt-nowhere false c h = refl
+
+pub numeric-nowhere : (c : Kind) (r : Numeric) → numericTried c r ≡ tries.Next → r ≡ numeric.Nothing
+unfolding numericTried
+numeric-nowhere c (numeric.Is d) h = absurd (done-next (answer c (d .code) 0 0 (d .end)) refl h)
+numeric-nowhere c numeric.Nothing h = refl
+
+-- a numeric error
+module _ (c : Kind) (n r : Numeric) (p : r ≡ n) where
+  pub numeric-hit : (d : Digits) → r ≡ numeric.Is d → (a : Answer) → a ≡ answer c (d .code) 0 0 (d .end) → tries.Done a ≡ numericTried c n
+  unfolding numericTried
+  numeric-hit d q a w = ap tries.Done w ∙ ap (numericTried c) (sym q ∙ p)
+
+  pub numeric-miss : r ≡ numeric.Nothing → tries.Next ≡ numericTried c n
+  unfolding numericTried
+  numeric-miss q = ap (numericTried c) (sym q ∙ p)
 
 -- a prompt, and NA at the head
 pub prompt-hit : (b : Bool) (c : ℕ) (s : List ℕ) → b ≡ true → (a : Answer) → a ≡ answer kind.Prompt c 0 0 (length s) → tries.Done a ≡ promptTried b c s
@@ -308,6 +376,15 @@ module _ (s : List ℕ) (e : ℕ) (b : Bool) (p : b ≡ stands (fixedText fixed.
   na-miss q = ap (λ (c : Bool). headTried c e) (sym q ∙ p)
 
 -- rule 6
+module _ (r : Answer) (e : ℕ) (b : Bool) (p : b ≡ isFound r) where
+  pub again-lost : b ≡ false → (a : Answer) → a ≡ nothing e → a ≡ ifFound (isFound r) e r
+  unfolding ifFound
+  again-lost q a w = w ∙ ap (λ (c : Bool). ifFound c e r) (sym q ∙ p)
+
+  pub again-found : b ≡ true → (a : Answer) → a ≡ shift (e + 2) r → a ≡ ifFound (isFound r) e r
+  unfolding ifFound
+  again-found q a w = w ∙ ap (λ (c : Bool). ifFound c e r) (sym q ∙ p)
+
 module _ (s : List ℕ) (e : ℕ) where
   pub retries-off : stands crlf s e ≡ false → false ≡ retries s e
   unfolding retries

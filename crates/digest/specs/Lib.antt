@@ -5,5 +5,7 @@ pub mod Examples
 pub mod Laws
 pub mod Step
 pub mod Position
+pub mod Hints
+pub mod Levels
 pub mod Theorem
 pub mod Retry

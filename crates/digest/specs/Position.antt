@@ -273,12 +273,14 @@ unfolding ifHead shiftNumeric
 head-moved d true r = refl
 head-moved d false r = refl
 
-pub numeric-moved : (h s : List ℕ) (d : ℕ) → numericAt h s d ≡ shiftNumeric d (numericAt h (drop d s) 0)
+pub numeric-moved-on : (h s : List ℕ) (d p : ℕ) → numericAt h s (d + p) ≡ shiftNumeric d (numericAt h (drop d s) p)
 unfolding numericAt
-numeric-moved h s d =
-    let e : d + length h ≡ d + (0 + length h) = omega arith in
-    let f : stands h s d ≡ stands h (drop d s) 0 = ap (stands h s) (sym (add-zero d)) ∙ sym (stands-drop h s d 0) in
-    rw (e, tail-moved s d (0 + length h), f) (head-moved d (stands h (drop d s) 0) (tailAt (drop d s) (0 + length h)))
+numeric-moved-on h s d p =
+    let e : d + p + length h ≡ d + (p + length h) = omega arith in
+    rw (e, tail-moved s d (p + length h), ← stands-drop h s d p) (head-moved d (stands h (drop d s) p) (tailAt (drop d s) (p + length h)))
+
+pub numeric-moved : (h s : List ℕ) (d : ℕ) → numericAt h s d ≡ shiftNumeric d (numericAt h (drop d s) 0)
+numeric-moved h s d = ap (numericAt h s) (sym (add-zero d)) ∙ numeric-moved-on h s d 0
 
 -- the value of a run is that of its digits alone
 value-run-after : (b : Bool) (c x : ℕ) (l : List ℕ) → isDigit x ≡ b → value (c * 10 + (x - 48)) l ≡ value (c * 10 + (x - 48)) (take (lead isDigit l) l) → valueAfter b c (value (c * 10 + (x - 48)) l) ≡ value c (take (leadAfter b (lead isDigit l)) (x ∷ l))

@@ -238,7 +238,7 @@ digest-within ts = by-length (λ s. Within (length s) (digest ts s)) one
         rw (digest-step ts s)
         (after-within s (digest ts) e (tried ts s e) (skipped-le s) (tried-within s e (skipped-le s) ts) (λ q. ih (drop (e + 2) s) (rest-shorter s e q)))
 
--- The four ways out of the recursive function: e is what rule 1 skips, r what the level gave.
+-- The three ways out of a level: e is what rule 1 skips, r what the level gave.
 module _ (ts : List Token) (s : List ℕ) (e : ℕ) (v : e ≡ skipped s) (r : Tried) (p : r ≡ tried ts s e) where
   step-at : (t : Tried) → r ≡ t → after s (digest ts) e t ≡ digest ts s
   step-at t q = ap (after s (digest ts) e) (sym q ∙ p) ∙ ap (λ (n : ℕ). after s (digest ts) n (tried ts s n)) v ∙ sym (digest-step ts s)
@@ -266,13 +266,9 @@ module _ (ts : List Token) (s : List ℕ) (e : ℕ) (v : e ≡ skipped s) (r : T
       again-is : again true e a ≡ digest ts s
       again-is = ap (again true e) of-rest ∙ (rw z at at-next)
 
-      pub digest-lost : (y : Bool) → y ≡ isFound a → y ≡ false → (d : Answer) → d ≡ nothing e → d ≡ digest ts s
-      unfolding again ifFound
-      digest-lost y k x d m = m ∙ ap (λ (n : Bool). ifFound n e a) (sym x ∙ k) ∙ again-is
-
-      pub digest-found : (y : Bool) → y ≡ isFound a → y ≡ true → (d : Answer) → d ≡ shift (e + 2) a → d ≡ digest ts s
-      unfolding again ifFound
-      digest-found y k x d m = m ∙ ap (λ (n : Bool). ifFound n e a) (sym x ∙ k) ∙ again-is
+      pub digest-again : (d : Answer) → d ≡ ifFound (isFound a) e a → d ≡ digest ts s
+      unfolding again
+      digest-again d m = m ∙ again-is
 
       pub retry-within : length s ≤ 4096 → (a .place + (e + 2) ≤ 4096) × (a .consumed + (e + 2) ≤ 4096)
       retry-within h =

@@ -47,7 +47,7 @@ use Rattle.answers.specs.Answer.{kindFound, isFound, answer, nothing, shift}
 use Rattle.digest.specs.Digest.{orElse, foundOr, skipped, trimmedAnswer, heard, notices, occursOr, firstCustom, success, customSuccess, lineSuccess, successes, promptTried, customPrompts, prompts, customError, numericTried, lineTried, headTried, numericFrom, lineFrom, numericErrors, lineErrors, errors, tried, retries, ifFound, again, after, digest, underTable, unlessLong, digested, outcome, unlessOver, digestChecked}
 use Rattle.digest.specs.Finished.{Some, All, LineStart, atCrlf, onlyOne, NoticeEnd, bare, colon, NoticeEnded, Unfinished, NumericEnded, FirstAlone, EndsIn, nine, heads, Line, Item, Holds}
 use Rattle.digest.specs.Finished as items
-use Rattle.digest.specs.Laws.{skipped-le, retries-on}
+use Rattle.digest.specs.Laws.{next-both, done-next, occurs-none, success-nowhere, error-nowhere, line-success-nowhere, line-nowhere, prompt-nowhere, skipped-le, retries-on}
 use Rattle.digest.specs.Heard.{Where, Heard}
 use Rattle.digest.specs.Step.{by-length, rest-shorter, digest-step, Within, placed-le, tried-within, digest-within}
 use Rattle.digest.specs.Position.{shiftNotice, notice-moved, ended-is, unfinished-is, ended-told, unfinished-told, alone-is, alone-told, prompt-moved, ends-is, ends-told, custom-moved, shiftNumeric, numeric-moved, numeric-is, numeric-told}
@@ -75,18 +75,10 @@ some-texts P R f (x ∷ l) w (inl h) = f x (w .0) h
 some-texts P R f (x ∷ l) w (inr h) = some-texts P R f l (w .1) h
 
 -- a chain of rules taken apart
-next-both : (t r : Tried) → orElse t r ≡ tries.Next → (t ≡ tries.Next) × (r ≡ tries.Next)
-unfolding orElse
-next-both (tries.Done a) r h = let z : _≡_ {A = ℕ} 0 1 = cc in absurd (omega arith)
-next-both tries.Next r h = (refl, h)
-
 done-one : (t r : Tried) (a : Answer) → orElse t r ≡ tries.Done a → (t ≡ tries.Done a) ⊎ ((t ≡ tries.Next) × (r ≡ tries.Done a))
 unfolding orElse
 done-one (tries.Done b) r a h = inl h
 done-one tries.Next r a h = inr (refl, h)
-
-pub done-next : (a : Answer) {t : Tried} → t ≡ tries.Done a → t ≡ tries.Next → ⊥
-done-next a h g = let z : _≡_ {A = ℕ} 0 1 = cc in omega arith
 
 -- An LF behind the line ending: no notice is unfinished there, since neither its text nor the CR behind it has one.
 module _ (u : List ℕ) where
@@ -526,50 +518,20 @@ module _ (ts : List Token) (good : Texts ts) (s : List ℕ) (e : ℕ) where
   no-text t h g = false-true (stands-here t s e ∙ g) (found-none t s e h e (omega arith))
 
   no-success-line : (l : Fixed) → lineSuccess l (findIn (fixedText l) s e) s e ≡ tries.Next → stands (fixedText l) (drop e s) 0 ≡ true → ⊥
-  no-success-line l h g = go (findIn (fixedText l) s e) refl h
-    where
-      go : (r : Found) → findIn (fixedText l) s e ≡ r → lineSuccess l r s e ≡ tries.Next → ⊥
-      go (At k) q i =
-          let a = trimmedAnswer kind.Ok 0 s e k (k + length (fixedText l)) in
-          let z : lineSuccess l (At k) s e ≡ tries.Done a = unfold lineSuccess success in refl in
-          done-next a z i
-      go Nothing q i = no-text (fixedText l) q g
+  no-success-line l h g = no-text (fixedText l) (line-success-nowhere s e l (findIn (fixedText l) s e) h) g
 
   no-line : (c : Kind) (l : Fixed) → lineFrom c l s e ≡ tries.Next → stands (fixedText l) (drop e s) 0 ≡ true → ⊥
-  unfolding lineFrom
-  no-line c l h g = go (findIn (fixedText l) s e) refl h
-    where
-      go : (r : Found) → findIn (fixedText l) s e ≡ r → lineTried c l r ≡ tries.Next → ⊥
-      go (At k) q i =
-          let a = answer c 0 0 0 (k + length (fixedText l)) in
-          let z : lineTried c l (At k) ≡ tries.Done a = unfold lineTried in refl in
-          done-next a z i
-      go Nothing q i = no-text (fixedText l) q g
+  no-line c l h g = no-text (fixedText l) (line-nowhere s e c l h) g
 
   no-head : headTried (stands (fixedText fixed.Na) s e) e ≡ tries.Next → stands (fixedText fixed.Na) (drop e s) 0 ≡ true → ⊥
   unfolding headTried
   no-head h g = done-next (answer kind.NotAllowed 0 0 0 (e + 6)) (ap (λ (b : Bool). headTried b e) (stands-here (fixedText fixed.Na) s e ∙ g)) h
-
-  pub occurs-none : (f : Found) (x : Entry) (r : Occurs) → occursOr f x r ≡ occurs.Nothing → (f ≡ Nothing) × (r ≡ occurs.Nothing)
-  unfolding occursOr
-  occurs-none (At k) x r h = let z : _≡_ {A = ℕ} 0 1 = cc in absurd (omega arith)
-  occurs-none Nothing x r h = (refl, h)
 
   no-custom : (l : List Entry) → firstCustom l s e ≡ occurs.Nothing → Some (λ x. stands (wrapped (x .text)) (drop e s) 0 ≡ true) l → ⊥
   unfolding firstCustom
   no-custom [] h g = g
   no-custom (x ∷ l) h (inl w) = no-text (wrapped (x .text)) (occurs-none (findIn (wrapped (x .text)) s e) x (firstCustom l s e) h .0) w
   no-custom (x ∷ l) h (inr w) = no-custom l (occurs-none (findIn (wrapped (x .text)) s e) x (firstCustom l s e) h .1) w
-
-  success-none : (r : Occurs) → customSuccess r s e ≡ tries.Next → r ≡ occurs.Nothing
-  unfolding customSuccess success
-  success-none (occurs.At n len k) h = absurd (done-next (trimmedAnswer kind.Ok 0 s e k (k + (len + 4))) refl h)
-  success-none occurs.Nothing h = refl
-
-  error-none : (r : Occurs) → customError r ≡ tries.Next → r ≡ occurs.Nothing
-  unfolding customError
-  error-none (occurs.At n len k) h = absurd (done-next (answer kind.Custom n (k + 2) len (k + (len + 4))) refl h)
-  error-none occurs.Nothing h = refl
 
   no-numeric : (c : Kind) (h : Fixed) (n : ℕ) → numericFrom c h s e ≡ tries.Next → NumericEnded (fixedText h) (drop e s) n → ⊥
   unfolding numericFrom numericError
@@ -580,10 +542,8 @@ module _ (ts : List Token) (good : Texts ts) (s : List ℕ) (e : ℕ) where
       let i : numericTried c (atFound (fixedText h) s (findIn (fixedText h) s e)) ≡ tries.Done (answer c (d .code) 0 0 (d .end)) = ap (λ (f : Found). numericTried c (atFound (fixedText h) s f)) q ∙ (unfold atFound in ap (numericTried c) r) ∙ (unfold numericTried in refl) in
       done-next (answer c (d .code) 0 0 (d .end)) i g
 
-  pub no-prompt : (b : Bool) (c : ℕ) → promptTried b c s ≡ tries.Next → b ≡ true → ⊥
-  unfolding promptTried
-  no-prompt true c h g = done-next (answer kind.Prompt c 0 0 (length s)) refl h
-  no-prompt false c h g = false-true g refl
+  no-prompt : (b : Bool) (c : ℕ) → promptTried b c s ≡ tries.Next → b ≡ true → ⊥
+  no-prompt b c h g = false-true g (prompt-nowhere s e b c h)
 
   pub no-customs : (l : List Entry) → EntryTexts l → customPrompts l s e ≡ tries.Next → Some (λ x. EndsIn (x .text) (drop e s)) l → ⊥
   unfolding customPrompts
@@ -636,13 +596,13 @@ module _ (ts : List Token) (good : Texts ts) (s : List ℕ) (e : ℕ) where
       let t = next-both (lineFrom kind.NoAnswer fixed.NoAnswer s e) _ (r .1) in
       record {
         heardNone = a .0;
-        customOk = success-none (firstCustom (ofMark mark.Success 0 ts) s e) (d .0);
+        customOk = success-nowhere s e (firstCustom (ofMark mark.Success 0 ts) s e) (d .0);
         ok = f .0;
         connect = f .1;
         customs = g .0;
         greater = i .0;
         atSign = i .1;
-        customBad = error-none (firstCustom (ofMark mark.Error 0 ts) s e) (j .0);
+        customBad = error-nowhere (firstCustom (ofMark mark.Error 0 ts) s e) (j .0);
         cme = l .0;
         cms = m .0;
         modem = m .1;

@@ -124,6 +124,9 @@ pub fn find_fixed(buf: &[u8], from: usize, fixed: Fixed) -> Found
 pub fn find_crlf(buf: &[u8], from: usize) -> Found
     ensures { λ r. ⌜ r ≡ findIn crlf (now (buf .entry)) from ⌝ }
 {
+    if text::matches_at(buf, from, &CRLF) {
+        return Found::At(from);
+    }
     if buf.len() < seek::SHORT {
         return text::find(buf, from, &CRLF);
     }

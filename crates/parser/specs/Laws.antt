@@ -25,7 +25,7 @@ use Rattle.parser.specs.declared.Numeric.{Numeric}
 use Rattle.parser.specs.declared.Numeric.the-variants as numeric
 use Rattle.parser.specs.declared.Notice.the-variants as notice
 use Rattle.lines.specs.Lines.{crlf}
-use Rattle.parser.specs.Parser.{pick, lineEnding, isDigit, valueAfter, value, atMost, digitsAt, ifEnded, endedRun, tailAt, ifHead, numericAt, atFound, numericError, onlyBlanks, promptFrom, customPrompt, wrapped, breaksOff, through, ifColon, ifBare, unlessBroken, noticeText, afterEnding, noticeAt}
+use Rattle.parser.specs.Parser.{pick, lineEnding, isDigit, valueAfter, value, atMost, digitsAt, ifEnded, endedRun, tailAt, ifHead, numericAt, atFound, numericError, customPrompt, wrapped, breaksOff, through, ifColon, ifBare, unlessBroken, noticeText, afterEnding, noticeAt}
 
 -- `lineEnding`
 module _ (s : List ℕ) (p : ℕ) where
@@ -151,7 +151,7 @@ module _ (s : List ℕ) (p a : ℕ) (u : a ≡ past (isBlank blanks.Run) s p) (r
       unfolding ifEnded
       tail-is z = rw (lt-ltb 0 n (omega arith)) at at-ending
 
--- `numericAt` and `numericError`
+-- `numericAt`
 module _ (h s : List ℕ) where
   pub numeric-off : (p : ℕ) → stands h s p ≡ false → numeric.Nothing ≡ numericAt h s p
   unfolding numericAt ifHead
@@ -161,28 +161,7 @@ module _ (h s : List ℕ) where
   unfolding numericAt ifHead
   numeric-tail p e = rw e
 
-  module _ (e : ℕ) (r : Found) (q : r ≡ findIn h s e) where
-    pub error-none : r ≡ Nothing → numeric.Nothing ≡ numericError h s e
-    unfolding numericError atFound
-    error-none w = ap (atFound h s) (sym w ∙ q)
-
-    pub error-at : (p : ℕ) → r ≡ At p → numericAt h s p ≡ numericError h s e
-    unfolding numericError atFound
-    error-at p w = ap (atFound h s) (sym w ∙ q)
-
--- prompts
-module _ (b : ℕ) (s : List ℕ) (e : ℕ) (r : Found) (q : r ≡ findIn (b ∷ []) s e) where
-  pub prompt-none : r ≡ Nothing → false ≡ promptFrom b s e
-  unfolding promptFrom onlyBlanks
-  prompt-none w = ap (onlyBlanks s) (sym w ∙ q)
-
-  pub prompt-at : (p : ℕ) → r ≡ At p → p + 1 ≤ length s
-  prompt-at p w = stands-fits (b ∷ []) s p (omega arith) (found-at (b ∷ []) s e p (sym q ∙ w) .here)
-
-  pub prompt-is : (p : ℕ) → r ≡ At p → (n : ℕ) → n ≡ past (isBlank blanks.Run) s (p + 1) → leb (length s) n ≡ promptFrom b s e
-  unfolding promptFrom onlyBlanks
-  prompt-is p w n v = ap (leb (length s)) v ∙ ap (onlyBlanks s) (sym w ∙ q)
-
+-- custom prompts
 module _ (x s : List ℕ) (e : ℕ) where
   pub custom-past : length s < e → eqb (length x) 0 ≡ customPrompt x s e
   unfolding customPrompt keep

@@ -5,7 +5,7 @@ ghost use mathlib.Core.Path.{_≡_};
 ghost use mathlib.Core.List.{[], _∷_};
 ghost use Rattle.text.specs.Text.{stands, findIn};
 ghost use Rattle.lines.specs.Lines.{fixedText};
-ghost use Rattle.parser.specs.Parser.{lineEnding, isDigit, digitsAt, tailAt, numericAt, numericError, promptFrom, customPrompt, wrapped, breaksOff, noticeText, noticeAt};
+ghost use Rattle.parser.specs.Parser.{lineEnding, isDigit, digitsAt, tailAt, numericAt, customPrompt, wrapped, breaksOff, noticeText};
 use lines::Fixed;
 use text::Blanks;
 use text::Found;
@@ -112,18 +112,8 @@ pub fn numeric_at(buf: &[u8], place: usize, head: Fixed) -> Numeric
     tail_at(buf, tail)
 }
 
-// The numeric error at its head's first place at or after `from`; at no later one.
-pub fn numeric_error(buf: &[u8], from: usize, head: Fixed) -> Numeric
-    ensures { λ r. ⌜ r ≡ numericError (fixedText head) (now (buf .entry)) from ⌝ }
-{
-    let Found::At(place) = lines::find_fixed(buf, from, head) else {
-        return Numeric::Nothing;
-    };
-    numeric_at(buf, place, head)
-}
-
 // The byte's first place at or after `from`.
-fn find_byte(buf: &[u8], from: usize, byte: u8) -> Found
+pub fn find_byte(buf: &[u8], from: usize, byte: u8) -> Found
     ensures { λ r. ⌜ r ≡ findIn (byte ∷ []) (now (buf .entry)) from ⌝ }
 {
     let one = [byte];
@@ -131,17 +121,6 @@ fn find_byte(buf: &[u8], from: usize, byte: u8) -> Found
         return text::find(buf, from, &one);
     }
     seek::find(buf, from, &one, 0, 0)
-}
-
-// A prompt: has the first such byte at or after `from` only run blanks after it?
-pub fn prompt_from(buf: &[u8], from: usize, byte: u8) -> bool
-    ensures { λ r. ⌜ r ≡ promptFrom byte (now (buf .entry)) from ⌝ }
-{
-    let Found::At(place) = find_byte(buf, from, byte) else {
-        return false;
-    };
-    let end = text::skip(Blanks::Run, buf, place + 1);
-    buf.len() <= end
 }
 
 // A custom prompt: do the bytes from `from` on, without trailing run blanks, end in the text?
@@ -215,8 +194,8 @@ fn breaks_off(buf: &[u8], at: usize, x: &[u8]) -> bool
     text::matches_at(buf, at + x.len(), b"\r")
 }
 
-// The text from `at` on: then either CRLF, or `:` and everything through the next CRLF.
-fn notice_text(buf: &[u8], at: usize, x: &[u8]) -> Notice
+// A notice of rule 2 from its text on, which is to stand at `at`: then either CRLF, or `:` and everything through the next CRLF.
+pub fn notice_text(buf: &[u8], at: usize, x: &[u8]) -> Notice
     ensures { λ r. ⌜ r ≡ noticeText (now (x .entry)) (now (buf .entry)) at ⌝ }
 {
     if breaks_off(buf, at, x) {
@@ -236,15 +215,4 @@ fn notice_text(buf: &[u8], at: usize, x: &[u8]) -> Notice
         Found::At(k) => Notice::Ended(k + 2),
         Found::Nothing => Notice::Nothing,
     }
-}
-
-// A notice with this text that begins at `place`: CRLF (or one LF), then the text and what ends it.
-pub fn notice_at(buf: &[u8], place: usize, x: &[u8]) -> Notice
-    ensures { λ r. ⌜ r ≡ noticeAt (now (x .entry)) (now (buf .entry)) place ⌝ }
-{
-    let ending = line_ending(buf, place);
-    if ending == 0 {
-        return Notice::Nothing;
-    }
-    notice_text(buf, place + ending, x)
 }

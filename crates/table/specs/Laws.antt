@@ -1,16 +1,16 @@
--- Laws of the token table: the ways out of each reader, the two loops over the records, and what a good table's tokens are.
+-- Laws of the token table: the ways out of each reader, a text by its two ends, the loops over the records, the records with a mark, and what a good table's tokens are.
 -- Assumes nothing.
 use mathlib.Core.Path.{_≡_, refl, sym, ap, _∙_}
-use mathlib.Core.Bool.{Bool, true, false, not}
-use mathlib.Core.List.{List, [], _∷_}
-use Prim.Native.Nat.{ℕ, zero, suc, _+_, _-_, _≤_, _<_}
+use mathlib.Core.Bool.{Bool, true, false, not, _&&_, and-true, and-false, and-assoc, and-self-left}
+use mathlib.Core.List.{List, [], _∷_, _++_}
+use Prim.Native.Nat.{ℕ, zero, suc, _+_, _-_, _*_, _≤_, _<_}
 use native.Mathlib.Numerals.{add-one}
 use native.Mathlib.Nat.{not-suc-le-zero, le-of-suc-le-suc}
 use native.Mathlib.Omega.{arith}
-use lib.ListN.{length, getD, drop, length-drop, drop-of-length-le}
-use lib.Seq.{drop-cons, length-take-le}
+use lib.ListN.{length, getD, take, drop, length-drop, take-append-drop}
+use lib.Seq.{take-suc, take-add, take-all, getD-drop, length-take-le}
 use lib.Dec.{eqb, leb, ltb}
-use borrow.Author.Tests.{lt-ltb, le-ltb, le-leb, lt-leb, eq-eqb, ne-eqb, ltb-true, leb-true, eqb-false, not-true}
+use borrow.Author.Tests.{lt-ltb, le-ltb, le-leb, lt-leb, eq-eqb, ne-eqb, ltb-true, leb-true, eqb-true, eqb-false, not-true}
 use Rattle.text.specs.Bytes.{bytes}
 use Rattle.text.specs.Logic.{and-both}
 use Rattle.text.specs.Text.{among, blanks, isBlank, stands}
@@ -26,7 +26,7 @@ use Rattle.table.specs.declared.Next.{Next}
 use Rattle.table.specs.declared.Next.the-variants as next
 use Rattle.table.specs.declared.Checked.{Checked}
 use Rattle.table.specs.declared.Checked.the-variants as checks
-use Rattle.table.specs.Table.{isPlain, allPlain, isText, orFaulty, textAt, promptAt, ifMark, marked, unlessEnd, recordAt, textOf, endOf, goodIf, goodAt, noMore, thenRule, rulingBy, ruling, outcome, thenRead, nthFrom, sameMark, hereOrNext, thenNext, nextBy, nextOf, Token, tokenOf, thenTokens, tokensBy, tokens, Entry, entryOf, consIf, ofMark, entries}
+use Rattle.table.specs.Table.{isPlain, allPlain, isText, orFaulty, textAt, promptAt, ifMark, marked, unlessEnd, recordAt, textOf, endOf, goodIf, goodAt, noMore, thenRule, rulingBy, ruling, outcome, thenRead, nthFrom, markNumber, sameMark, hereOrNext, thenNext, nextBy, nextOf, Token, tokenOf, thenTokens, tokensBy, tokens, Entry, entryOf, consIf, ofMark, entries}
 
 -- The check's promise determines its answer.
 pub outcome-one : (r q : Checked) → outcome r ≡ outcome q → r ≡ q
@@ -35,16 +35,32 @@ outcome-one (checks.Good n) (checks.Faulty m) e = let z : _≡_ {A = ℕ} 0 1 = 
 outcome-one (checks.Faulty n) (checks.Good m) e = let z : _≡_ {A = ℕ} 0 1 = cc in absurd (omega arith)
 outcome-one (checks.Faulty n) (checks.Faulty m) e = cc
 
--- `isPlain`
-pub plain-low : (b : ℕ) → b < 0x20 → false ≡ isPlain b
-unfolding isPlain
-plain-low b h = rw (lt-leb 0x20 b h)
+-- `allPlain` of a part, byte by byte, and of a text by its two ends, which meet or overlap
+all-append : (s u : List ℕ) → allPlain (s ++ u) ≡ allPlain s && allPlain u
+unfolding allPlain
+all-append [] u = refl
+all-append (x ∷ s) u = rw (all-append s u, and-assoc (isPlain x) (allPlain s) (allPlain u))
 
-pub plain-from : (b : ℕ) → 0x20 ≤ b → leb b 0x7E ≡ isPlain b
-unfolding isPlain
-plain-from b h = rw (le-leb 0x20 b h)
+all-split : (k : ℕ) (t : List ℕ) → allPlain t ≡ allPlain (take k t) && allPlain (drop k t)
+all-split k t = ap allPlain (sym (take-append-drop k t)) ∙ all-append (take k t) (drop k t)
 
--- `isText`: each test passed on the way to the loop over its bytes
+pub part-more : (t : List ℕ) (at j : ℕ) → at + j < length t → allPlain (take j (drop at t)) && isPlain (getD t (at + j) 0) ≡ allPlain (take (j + 1) (drop at t))
+unfolding allPlain
+part-more t at j h =
+    let l : j < length (drop at t) = rw length-drop (omega arith) in
+    rw (add-one, take-suc (drop at t) j 0 l, all-append, getD-drop, and-true)
+
+pub ends-all : (t : List ℕ) (w : ℕ) → w ≤ length t → length t ≤ 2 * w → allPlain (take w t) && allPlain (take w (drop (length t - w) t)) ≡ allPlain t
+ends-all t w h g =
+    let a = length t - w in
+    let b = w - a in
+    let d = drop a t in
+    let e : w ≡ a + b = omega arith in
+    let front : take w t ≡ take a t ++ take b d = ap (λ (k : ℕ). take k t) e ∙ take-add a b t in
+    let rear : take w d ≡ d = take-all w d (rw length-drop (omega arith)) in
+    rw (front, rear, all-append (take a t) (take b d), all-split a t, all-split b d, and-assoc, and-self-left)
+
+-- `isText` by its tests: the length, the bytes, the first and the last
 module _ (t : List ℕ) where
   pub text-empty : length t ≡ 0 → false ≡ isText t
   unfolding isText
@@ -56,18 +72,17 @@ module _ (t : List ℕ) where
     text-long h = rw (le-leb 1 (length t) (omega arith), lt-leb (length t) 32 h)
 
     module _ (b : length t ≤ 32) where
+      pub text-unplain : allPlain t ≡ false → false ≡ isText t
+      unfolding isText
+      text-unplain h = rw (le-leb 1 (length t) (omega arith), le-leb (length t) 32 b, h, and-false, and-false)
+
       pub text-first : getD t 0 0 ≡ 32 → false ≡ isText t
       unfolding isText
       text-first h = rw (le-leb 1 (length t) (omega arith), le-leb (length t) 32 b, eq-eqb (getD t 0 0) 32 h)
 
-      module _ (c : (getD t 0 0 ≡ 32 → ⊥)) where
-        pub text-last : getD t (length t - 1) 0 ≡ 32 → false ≡ isText t
-        unfolding isText
-        text-last h = rw (le-leb 1 (length t) (omega arith), le-leb (length t) 32 b, ne-eqb (getD t 0 0) 32 c, eq-eqb (getD t (length t - 1) 0) 32 h)
-
-        pub text-plain : (getD t (length t - 1) 0 ≡ 32 → ⊥) → isText t ≡ allPlain t
-        unfolding isText
-        text-plain h = rw (le-leb 1 (length t) (omega arith), le-leb (length t) 32 b, ne-eqb (getD t 0 0) 32 c, ne-eqb (getD t (length t - 1) 0) 32 h)
+      pub text-last : allPlain t ≡ true → (getD t 0 0 ≡ 32 → ⊥) → not (eqb (getD t (length t - 1) 0) 32) ≡ isText t
+      unfolding isText
+      text-last e h = rw (le-leb 1 (length t) (omega arith), le-leb (length t) 32 b, ne-eqb (getD t 0 0) 32 h, e, and-true)
 
   -- what a good text is
   pub text-says : isText t ≡ true → ((1 ≤ length t) × (length t ≤ 32)) × (((getD t 0 0 ≡ 32 → ⊥) × (getD t (length t - 1) 0 ≡ 32 → ⊥)) × (allPlain t ≡ true))
@@ -81,18 +96,6 @@ module _ (t : List ℕ) where
 
   pub text-some : isText t ≡ true → 1 ≤ length t
   text-some e = text-says e .0 .0
-
-  pub all-more : (i : ℕ) → i < length t → isPlain (getD t i 0) ≡ true → allPlain (drop i t) ≡ allPlain (drop (i + 1) t)
-  unfolding allPlain
-  all-more i h e = rw (add-one, drop-cons t i 0 h, e)
-
-  pub all-stop : (i : ℕ) → i < length t → isPlain (getD t i 0) ≡ false → allPlain (drop i t) ≡ false
-  unfolding allPlain
-  all-stop i h e = rw (drop-cons t i 0 h, e)
-
-  pub all-end : (i : ℕ) → length t ≤ i → allPlain (drop i t) ≡ true
-  unfolding allPlain
-  all-end i h = rw (drop-of-length-le t h)
 
 -- each byte of a good text is one of 0x20 to 0x7E, and its last is no run blank
 plain-each : (t : List ℕ) → allPlain t ≡ true → (j : ℕ) → j < length t → isPlain (getD t j 0) ≡ true
@@ -232,6 +235,11 @@ pub text-length : (t : List ℕ) (r : Record) → r .place + r .len ≤ length t
 unfolding textOf
 text-length t r h = ap length (sym (part-is t (r .place) (r .len) h)) ∙ length-take-le (r .len) (drop (r .place) t) (rw length-drop (omega arith))
 
+-- and it is that part of the table
+pub text-part : (t : List ℕ) (r : Record) → r .place + r .len ≤ length t → take (r .place + r .len - r .place) (drop (r .place) t) ≡ textOf t r
+unfolding textOf
+text-part t r h = let l : r .place + r .len - r .place ≡ r .len = omega arith in ap (λ (n : ℕ). take n (drop (r .place) t)) l ∙ part-is t (r .place) (r .len) h
+
 -- a table is refused with 2 alone
 abbrev numberOf : Outcome ℕ → ℕ
 numberOf (answered n) = 2
@@ -334,10 +342,10 @@ module _ (t : List ℕ) (at : ℕ) (q : Read) (p : q ≡ recordAt t at) where
   unfolding goodAt goodIf
   good-end e = ap (goodIf t) (sym e ∙ p)
 
-  module _ (r : Record) (e : q ≡ Is r) (x : List ℕ) (v : x ≡ textOf t r) (b : Bool) (w : b ≡ isText x) where
+  module _ (r : Record) (e : q ≡ Is r) (b : Bool) (w : b ≡ isText (take (r .place + r .len - r .place) (drop (r .place) t))) where
     at-text : orFaulty b (Is r) ≡ goodAt t at
     unfolding goodAt goodIf
-    at-text = ap (λ (c : Bool). orFaulty c (Is r)) (w ∙ ap isText v) ∙ ap (goodIf t) (sym e ∙ p)
+    at-text = ap (λ (c : Bool). orFaulty c (Is r)) (w ∙ ap isText (text-part t r (record-inside t at q r p e))) ∙ ap (goodIf t) (sym e ∙ p)
 
     pub good-bad : b ≡ false → Faulty ≡ goodAt t at
     unfolding orFaulty
@@ -381,21 +389,11 @@ module _ (m : Mark) (t : List ℕ) (at n place k : ℕ) (w : nextOf m t at n ≡
       unfolding hereOrNext
       next-more z = rw z at at-record
 
--- What `nextOf` says of the records with the mark: with none the list is empty; else the record found is its first, and the rest is what follows it.
-pub record NextIs (m : Mark) (t : List ℕ) (at n : ℕ) (r : Record) (k : ℕ) : Type 0 where
-  pub from : n ≤ k
-  pub few : k < 64
-  pub inside : r .place + r .len ≤ length t
-  pub is : entries m t at n ≡ entryOf (tokenOf t r) k ∷ entries m t (r .place + r .len) (k + 1)
-
-abbrev NextSays : Mark → List ℕ → ℕ → ℕ → Next → Type 0
-NextSays m t at n (next.Is r k) = NextIs m t at n r k
-NextSays m t at n next.Nothing = entries m t at n ≡ []
-
+-- the records with a mark, by the record that begins at `at`
 module _ (m : Mark) (t : List ℕ) where
-  later : (at n : ℕ) (r : Record) (q : Next) → n < 64 → entries m t at n ≡ entries m t (r .place + r .len) (n + 1) → NextSays m t (r .place + r .len) (n + 1) q → NextSays m t at n q
-  later at n r (next.Is x k) h e w = record { from = omega (arith, w .from); few = w .few; inside = w .inside; is = e ∙ w .is }
-  later at n r next.Nothing h e w = e ∙ w
+  entries-over : (at n : ℕ) → 64 - n ≡ 0 → entries m t at n ≡ []
+  unfolding entries tokensBy ofMark
+  entries-over at n e = ap (λ (x : ℕ). ofMark m n (tokensBy x t at)) e
 
   entries-at : (at n f : ℕ) → 64 - n ≡ suc f → (q : Read) → recordAt t at ≡ q → entries m t at n ≡ ofMark m n (thenTokens t q (λ p. tokensBy f t p))
   unfolding entries tokensBy
@@ -407,6 +405,43 @@ module _ (m : Mark) (t : List ℕ) where
       let g : f ≡ 64 - (n + 1) = omega arith in
       entries-at at n f e (Is r) p ∙ ap (λ (x : ℕ). ofMark m n (tokenOf t r ∷ tokensBy x t (r .place + r .len))) g
 
+  -- at or past the table's end there is none
+  pub entries-past : (at n : ℕ) → length t ≤ at → entries m t at n ≡ []
+  unfolding thenTokens ofMark
+  entries-past at n h = go (64 - n) refl
+    where
+      go : (f : ℕ) → 64 - n ≡ f → entries m t at n ≡ []
+      go zero e = entries-over at n e
+      go (suc f) e = entries-at at n f e End (sym (read-end t at h))
+
+other-mark : (a m o : Mark) → sameMark a m ≡ true → sameMark m o ≡ false → sameMark a o ≡ false
+other-mark a m o p q = rw (eqb-true (markNumber a) (markNumber m) p) q
+
+-- What `nextOf` says of the records with the mark: with none the list is empty; else the record found is its first, and the rest is what follows it.
+-- Where it is the very next record, those with any other mark are what follows it too.
+pub record NextIs (m : Mark) (t : List ℕ) (at n : ℕ) (r : Record) (k : ℕ) : Type 0 where
+  pub from : n ≤ k
+  pub few : k < 64
+  pub inside : r .place + r .len ≤ length t
+  pub is : entries m t at n ≡ entryOf (tokenOf t r) k ∷ entries m t (r .place + r .len) (k + 1)
+  pub others : k ≡ n → (o : Mark) → sameMark m o ≡ false → entries o t at n ≡ entries o t (r .place + r .len) (k + 1)
+
+abbrev NextSays : Mark → List ℕ → ℕ → ℕ → Next → Type 0
+NextSays m t at n (next.Is r k) = NextIs m t at n r k
+NextSays m t at n next.Nothing = entries m t at n ≡ []
+
+module _ (m : Mark) (t : List ℕ) where
+  later : (at n : ℕ) (r : Record) (q : Next) → n < 64 → entries m t at n ≡ entries m t (r .place + r .len) (n + 1) → NextSays m t (r .place + r .len) (n + 1) q → NextSays m t at n q
+  later at n r (next.Is x k) h e w =
+      record {
+        from = omega (arith, w .from);
+        few = w .few;
+        inside = w .inside;
+        is = e ∙ w .is;
+        others = λ z. absurd (omega (arith, w .from));
+      }
+  later at n r next.Nothing h e w = e ∙ w
+
   module _ (at n f : ℕ) (e : 64 - n ≡ suc f) (ih : (p : ℕ) → NextSays m t p (n + 1) (nextBy f m t p (n + 1))) where
     on-mark : (r : Record) → recordAt t at ≡ Is r → (b : Bool) → sameMark (r .mark) m ≡ b → NextSays m t at n (hereOrNext b r n (nextBy f m t (r .place + r .len) (n + 1)))
     unfolding hereOrNext consIf
@@ -415,20 +450,21 @@ module _ (m : Mark) (t : List ℕ) where
           from = omega arith;
           few = omega arith;
           inside = record-inside t at (recordAt t at) r refl p;
-          is = entries-is at n f e r p ∙ rw v;
+          is = entries-is m t at n f e r p ∙ rw v;
+          others = λ z o d. entries-is o t at n f e r p ∙ rw (other-mark (r .mark) m o v d);
         }
     on-mark r p false v =
-        later at n r (nextBy f m t (r .place + r .len) (n + 1)) (omega arith) (entries-is at n f e r p ∙ rw v) (ih (r .place + r .len))
+        later at n r (nextBy f m t (r .place + r .len) (n + 1)) (omega arith) (entries-is m t at n f e r p ∙ rw v) (ih (r .place + r .len))
 
     on-read : (q : Read) → recordAt t at ≡ q → NextSays m t at n (thenNext m q n (λ p. nextBy f m t p (n + 1)))
     unfolding thenNext endOf thenTokens ofMark
     on-read (Is r) p = on-mark r p (sameMark (r .mark) m) refl
-    on-read Faulty p = entries-at at n f e Faulty p
-    on-read End p = entries-at at n f e End p
+    on-read Faulty p = entries-at m t at n f e Faulty p
+    on-read End p = entries-at m t at n f e End p
 
   by-records : (f at n : ℕ) → 64 - n ≡ f → NextSays m t at n (nextBy f m t at n)
-  unfolding nextBy entries tokensBy ofMark
-  by-records zero at n e = ap (λ (x : ℕ). ofMark m n (tokensBy x t at)) e
+  unfolding nextBy
+  by-records zero at n e = entries-over m t at n e
   by-records (suc f) at n e = on-read at n f e (λ p. by-records f p (n + 1) (omega arith)) (recordAt t at) refl
 
   next-says : (at n : ℕ) → NextSays m t at n (nextOf m t at n)

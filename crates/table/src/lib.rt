@@ -1,9 +1,10 @@
 // The token table of document 01 as it lies in memory: what atat's user hands over as a Parser and three functions is a slice of records here.
 // A record is a two-byte mark, for CP one prompt byte, a length byte and the text. It is known by its number, from 0.
-// Every function is total. `check` alone judges a table; the readers take the records as they lie, up to the first that can't be read.
+// Every public function is total. `check` alone judges a table; the readers take the records as they lie, up to the first that can't be read.
 ghost use mathlib.Core.Path.{_≡_};
-ghost use Rattle.text.specs.Text.{partAt, further};
-ghost use Rattle.table.specs.Table.{isPlain, isText, textAt, promptAt, recordAt, textOf, goodAt, ruling, outcome, markNumber, sameMark, nextOf, nthFrom};
+ghost use Prim.Native.Nat.{_+_, _*_, _≤_};
+ghost use lib.ListN.{length, take, drop};
+ghost use Rattle.table.specs.Table.{allPlain, isText, textAt, promptAt, recordAt, goodAt, ruling, outcome, markNumber, sameMark, nextOf, nthFrom};
 
 // What a record stands for: UR, CS, CE, CP.
 pub enum Mark {
@@ -37,17 +38,51 @@ pub enum Checked {
 // At most so many records.
 pub const MOST: usize = 64;
 
-// Is the byte one of 0x20 to 0x7E?
-fn is_plain(b: u8) -> bool
-    ensures { λ r. ⌜ r ≡ isPlain b ⌝ }
+// Are the w bytes from `at` on plain, 0x20 to 0x7E? It goes through all of them, so that a processor may take many at once.
+fn part_plain(t: &[u8], at: usize, w: usize) -> bool
+    requires { ⌜ at + w ≤ length (now t) ⌝ }
+    ensures { λ r. ⌜ r ≡ allPlain (take w (drop at (now (t .entry)))) ⌝ }
 {
-    if b < 0x20 {
-        return false;
+    let mut all = true;
+    let mut j = 0;
+    while j < w {
+        all = all & ((0x20 <= t[at + j]) & (t[at + j] <= 0x7E));
+        j += 1;
     }
-    b <= 0x7E
+    all
+}
+
+// Are t's bytes plain? Its first w and its last w are all there are.
+fn ends_plain(t: &[u8], w: usize) -> bool
+    requires { ⌜ (w ≤ length (now t)) × (length (now t) ≤ 2 * w) ⌝ }
+    ensures { λ r. ⌜ r ≡ allPlain (now (t .entry)) ⌝ }
+{
+    part_plain(t, 0, w) & part_plain(t, t.len() - w, w)
+}
+
+// Are t's bytes plain? The widths are numbers, so that each is compiled for itself, without a loop.
+fn all_plain(t: &[u8]) -> bool
+    requires { ⌜ (1 ≤ length (now t)) × (length (now t) ≤ 32) ⌝ }
+    ensures { λ r. ⌜ r ≡ allPlain (now (t .entry)) ⌝ }
+{
+    let n = t.len();
+    if 16 <= n {
+        return ends_plain(t, 16);
+    }
+    if 8 <= n {
+        return ends_plain(t, 8);
+    }
+    if 4 <= n {
+        return ends_plain(t, 4);
+    }
+    if 2 <= n {
+        return ends_plain(t, 2);
+    }
+    ends_plain(t, 1)
 }
 
 // A text has 1 to 32 bytes, each 0x20 to 0x7E, the first and the last no space.
+// These two are asked last: a byte that was read alone before isn't taken together with others.
 fn is_text(t: &[u8]) -> bool
     ensures { λ r. ⌜ r ≡ isText (now (t .entry)) ⌝ }
 {
@@ -58,20 +93,13 @@ fn is_text(t: &[u8]) -> bool
     if 32 < n {
         return false;
     }
+    if !all_plain(t) {
+        return false;
+    }
     if t[0] == b' ' {
         return false;
     }
-    if t[n - 1] == b' ' {
-        return false;
-    }
-    let mut i = 0;
-    while i < n {
-        if !is_plain(t[i]) {
-            return false;
-        }
-        i += 1;
-    }
-    true
+    t[n - 1] != b' '
 }
 
 fn wide(b: u8) -> usize
@@ -133,21 +161,15 @@ pub fn record_at(t: &[u8], at: usize) -> Read
     Read::Faulty
 }
 
-// A record's text as a part of the table; the empty front part where the record doesn't lie in this table.
-pub fn text_of(t: &[u8], r: Record) -> &[u8]
-    ensures { λ x. ⌜ now x ≡ textOf (now (t .entry)) r ⌝ }
-    ensures lies { λ x. ⌜ x .ptr ≡ further (t .entry .ptr) (partAt (now (t .entry)) (r .place) (r .len)) ⌝ }
-{
-    text::part(t, r.place, r.len)
-}
-
 // The record that begins at `at`, faulty also where its text breaks a rule.
 fn good_at(t: &[u8], at: usize) -> Read
     ensures { λ r. ⌜ r ≡ goodAt (now (t .entry)) at ⌝ }
 {
     match record_at(t, at) {
         Read::Is(r) => {
-            if !is_text(text_of(t, r)) {
+            let place = r.place;
+            let end = place + r.len;
+            if !is_text(&t[place..end]) {
                 return Read::Faulty;
             }
             Read::Is(r)

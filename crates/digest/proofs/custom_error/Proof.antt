@@ -1,12 +1,17 @@
--- `custom_error` meets its contract: where the line occurs it lies in the input. Assumes nothing.
-use Prim.Native.Nat.{_-_}
-use Rattle.table.specs.Table.{entries}
-use Rattle.digest.specs.Laws.{occurs-room, custom-error-is, custom-error-none}
-use borrow.Author.Needs.{needs}
+-- `custom_error` meets its contract: an empty table has no record, and where the line occurs it lies in the input.
+use mathlib.Core.Path.{refl}
 use native.Mathlib.Omega.{arith}
-use Rattle.digest.proofs.custom_error.Statement.{statement}
+use Rattle.table.specs.Table.{entries}
 use Rattle.table.specs.declared.Mark.the-variants as mark
+use Rattle.digest.specs.Laws.{none-first, occurs-room, custom-error-is, custom-error-none}
+use borrow.Author.Needs.{needs}
+use Rattle.digest.proofs.custom_error.Statement.{statement}
 use Rattle.digest.proofs.custom_error.Tie as tie
+
+returns : tie.Need-returns
+returns c =
+    let args = c .before .before .before .args in
+    custom-error-none (entries mark.Error (args .table .now) 0 0) (args .s .now) (args .e) _ (none-first mark.Error (args .table .now) (args .s .now) (args .e) (omega arith)) refl
 
 first-custom-requires : tie.Need-first-custom-requires
 first-custom-requires c κs = search needs
@@ -16,19 +21,19 @@ enum-known-n c = search needs
 
 add-made : tie.Need-add-made
 add-made c =
-    let args = c .before .before .before .before .before .before .args in
+    let args = c .before .before .before .before .before .before .before .args in
     let first-custom = c .before .before .before .first-custom in
     record { fits = omega (arith, occurs-room (entries mark.Error (args .table .now) 0 0) (args .s .now) (args .e) _ (first-custom .ensures) _ _ _ (c .before .n .given .1)) }
 
 add-made-2 : tie.Need-add-made-2
 add-made-2 c =
-    let args = c .before .before .before .before .before .before .args in
+    let args = c .before .before .before .before .before .before .before .args in
     let first-custom = c .before .before .before .first-custom in
     record { fits = omega (arith, occurs-room (entries mark.Error (args .table .now) 0 0) (args .s .now) (args .e) _ (first-custom .ensures) _ _ _ (c .before .n .given .1)) }
 
 add-made-3 : tie.Need-add-made-3
 add-made-3 c =
-    let args = c .before .before .before .before .before .before .args in
+    let args = c .before .before .before .before .before .before .before .args in
     let first-custom = c .before .before .before .first-custom in
     record { fits = omega (arith, occurs-room (entries mark.Error (args .table .now) 0 0) (args .s .now) (args .e) _ (first-custom .ensures) _ _ _ (c .before .n .given .1)) }
 
@@ -38,16 +43,16 @@ made-requires c κs = search needs
 enum-told : tie.Need-enum-told
 enum-told c = search needs
 
-returns : tie.Need-returns
-returns c =
-    let args = c .before .before .before .before .before .before .before .args in
+returns-2 : tie.Need-returns-2
+returns-2 c =
+    let args = c .before .before .before .before .before .before .before .before .args in
     let first-custom = c .before .before .before .before .first-custom in
     let n = c .before .before .n in
     custom-error-is (entries mark.Error (args .table .now) 0 0) (args .s .now) (args .e) _ (first-custom .ensures) _ _ _ (n .given .1) _ (c .made .ensures)
 
-returns-2 : tie.Need-returns-2
-returns-2 c =
-    let args = c .before .before .before .before .before .args in
+returns-3 : tie.Need-returns-3
+returns-3 c =
+    let args = c .before .before .before .before .before .before .args in
     let first-custom = c .before .before .first-custom in
     custom-error-none (entries mark.Error (args .table .now) 0 0) (args .s .now) (args .e) _ (first-custom .ensures) (c .enum-told .given .1)
 
@@ -55,6 +60,7 @@ pub custom-error-spec : {M : Type 1} → statement M
 custom-error-spec =
     tie.close
     (tie.spec
+    returns
     first-custom-requires
     enum-known-n
     add-made
@@ -62,5 +68,5 @@ custom-error-spec =
     add-made-3
     made-requires
     enum-told
-    returns
-    returns-2)
+    returns-2
+    returns-3)

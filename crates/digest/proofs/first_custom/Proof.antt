@@ -1,11 +1,11 @@
--- `first_custom` meets its contract: the first of all the records is the first of those from `at` on. The measure is the records that may still come. Assumes nothing.
+-- `first_custom` meets its contract: the first of all the records is the first of those from `at` on. The measure is the records that may still come.
 use mathlib.Core.Path.{_≡_, refl}
+use native.Mathlib.Omega.{arith}
+use borrow.Author.Needs.{needs}
 use Prim.Native.Nat.{_-_}
 use Rattle.table.specs.Table.{entries}
 use Rattle.digest.specs.Digest.{firstCustom}
 use Rattle.digest.specs.Laws.{next-room, custom-end, custom-hit, custom-more}
-use borrow.Author.Needs.{needs}
-use native.Mathlib.Omega.{arith}
 use Rattle.digest.proofs.first_custom.Statement.{statement}
 use Rattle.digest.proofs.first_custom.Tie as tie
 
@@ -34,8 +34,37 @@ returns c =
 enum-known-r : tie.Need-enum-known-r Inv-loop μ-loop
 enum-known-r c = search needs
 
-text-of-requires : tie.Need-text-of-requires Inv-loop μ-loop
-text-of-requires c κs = search needs
+add-end : tie.Need-add-end Inv-loop μ-loop
+add-end c =
+    let args = c .before .before .before .before .before .before .before .before .args in
+    let loop = c .before .before .before .before .before .loop in
+    let next-of = c .before .before .before .before .next-of in
+    let r = c .before .before .r in
+    record { fits = omega (arith, next-room (args .mark) (args .table .now) (loop .at) (loop .n) _ (next-of .ensures) _ _ (r .given .1)) }
+
+sub-x : tie.Need-sub-x Inv-loop μ-loop
+sub-x c =
+    let args = c .before .before .before .before .before .before .before .before .args in
+    let loop = c .before .before .before .before .before .loop in
+    let next-of = c .before .before .before .before .next-of in
+    let r = c .before .before .r in
+    omega (arith, next-room (args .mark) (args .table .now) (loop .at) (loop .n) _ (next-of .ensures) _ _ (r .given .1))
+
+part-x-start : tie.Need-part-x-start Inv-loop μ-loop
+part-x-start c =
+    let args = c .before .before .before .before .before .before .before .before .args in
+    let loop = c .before .before .before .before .before .loop in
+    let next-of = c .before .before .before .before .next-of in
+    let r = c .before .before .r in
+    omega (arith, next-room (args .mark) (args .table .now) (loop .at) (loop .n) _ (next-of .ensures) _ _ (r .given .1))
+
+part-x-end : tie.Need-part-x-end Inv-loop μ-loop
+part-x-end c =
+    let args = c .before .before .before .before .before .before .before .before .args in
+    let loop = c .before .before .before .before .before .loop in
+    let next-of = c .before .before .before .before .next-of in
+    let r = c .before .before .r in
+    omega (arith, next-room (args .mark) (args .table .now) (loop .at) (loop .n) _ (next-of .ensures) _ _ (r .given .1))
 
 find-custom-requires : tie.Need-find-custom-requires Inv-loop μ-loop
 find-custom-requires c κs = search needs
@@ -43,34 +72,25 @@ find-custom-requires c κs = search needs
 enum-known-place : tie.Need-enum-known-place Inv-loop μ-loop
 enum-known-place c = search needs
 
-cast-t13 : tie.Need-cast-t13 Inv-loop μ-loop
-cast-t13 c =
-    let args = c .before .before .before .before .before .before .before .before .before .before .before .before .args in
-    let loop = c .before .before .before .before .before .before .before .before .before .loop in
-    let next-of = c .before .before .before .before .before .before .before .before .next-of in
-    let r = c .before .before .before .before .before .before .r in
+cast-t18 : tie.Need-cast-t18 Inv-loop μ-loop
+cast-t18 c =
+    let args = c .before .before .before .before .before .before .before .before .before .before .before .before .before .args in
+    let loop = c .before .before .before .before .before .before .before .before .before .before .loop in
+    let next-of = c .before .before .before .before .before .before .before .before .before .next-of in
+    let r = c .before .before .before .before .before .before .before .r in
     record { fits = omega (arith, next-room (args .mark) (args .table .now) (loop .at) (loop .n) _ (next-of .ensures) _ _ (r .given .1)) }
 
 returns-2 : tie.Need-returns-2 Inv-loop μ-loop
 returns-2 c =
-    let args = c .before .before .before .before .before .before .before .before .before .before .before .before .args in
-    let loop = c .before .before .before .before .before .before .before .before .before .loop in
-    let next-of = c .before .before .before .before .before .before .before .before .next-of in
-    let r = c .before .before .before .before .before .before .r in
-    let text-of = c .before .before .before .before .text-of in
+    let args = c .before .before .before .before .before .before .before .before .before .before .before .before .before .args in
+    let loop = c .before .before .before .before .before .before .before .before .before .before .loop in
+    let next-of = c .before .before .before .before .before .before .before .before .before .next-of in
+    let r = c .before .before .before .before .before .before .before .r in
     let find-custom = c .before .before .before .find-custom in
-    custom-hit _ (args .table .now) (args .s .now) (args .e) (loop .at) (loop .n) (loop .inv) _ (next-of .ensures) _ _ (r .given .1) _ (text-of .ensures .0) _ (find-custom .ensures) _ (c .before .place .given .1)
+    custom-hit _ (args .table .now) (args .s .now) (args .e) (loop .at) (loop .n) (loop .inv) _ (next-of .ensures) _ _ (r .given .1) _ (find-custom .ensures) _ (c .before .place .given .1)
 
 enum-told-2 : tie.Need-enum-told-2 Inv-loop μ-loop
 enum-told-2 c = search needs
-
-add-at : tie.Need-add-at Inv-loop μ-loop
-add-at c =
-    let args = c .before .before .before .before .before .before .before .before .before .before .before .before .args in
-    let loop = c .before .before .before .before .before .before .before .before .before .loop in
-    let next-of = c .before .before .before .before .before .before .before .before .next-of in
-    let r = c .before .before .before .before .before .before .r in
-    record { fits = omega (arith, next-room (args .mark) (args .table .now) (loop .at) (loop .n) _ (next-of .ensures) _ _ (r .given .1)) }
 
 add-n : tie.Need-add-n Inv-loop μ-loop
 add-n c =
@@ -94,9 +114,8 @@ loop-again c =
     let loop = c .before .before .before .before .before .before .before .before .before .loop in
     let next-of = c .before .before .before .before .before .before .before .before .next-of in
     let r = c .before .before .before .before .before .before .r in
-    let text-of = c .before .before .before .before .text-of in
-    let find-custom = c .before .before .before .find-custom in
-    custom-more _ (args .table .now) (args .s .now) (args .e) (loop .at) (loop .n) (loop .inv) _ (next-of .ensures) _ _ (r .given .1) _ (text-of .ensures .0) _ (find-custom .ensures) (c .before .enum-told2 .given .1)
+    let find-custom = c .before .before .find-custom in
+    custom-more _ (args .table .now) (args .s .now) (args .e) (loop .at) (loop .n) (loop .inv) _ (next-of .ensures) _ _ (r .given .1) _ (find-custom .ensures) (c .enum-told2 .given .1)
 
 pub first-custom-spec : {M : Type 1} → statement M
 first-custom-spec =
@@ -109,13 +128,15 @@ first-custom-spec =
     enum-told
     returns
     enum-known-r
-    text-of-requires
+    add-end
+    sub-x
+    part-x-start
+    part-x-end
     find-custom-requires
     enum-known-place
-    cast-t13
+    cast-t18
     returns-2
     enum-told-2
-    add-at
     add-n
     loop-less
     loop-again)

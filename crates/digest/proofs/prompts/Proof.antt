@@ -1,80 +1,66 @@
--- `prompts` meets its contract: the rule's three parts in its order. Assumes nothing.
-use mathlib.Core.Path.{ap, _∙_}
-use Prim.Native.Nat.{_-_}
-use Rattle.digest.specs.Digest.{prompts, promptTried}
+-- `prompts` meets its contract: the two in their order, with what their hints say.
+use mathlib.Core.Path.{sym, ap, _∙_}
+use Rattle.digest.specs.declared.First.the-variants as first
+use Rattle.digest.specs.Hints.{hintTried}
 use Rattle.digest.specs.Laws.{hit, miss}
-use mathlib.Core.Bool.{Bool}
+use Rattle.digest.specs.Levels.{hint-is, hint-next, known-prompts}
 use borrow.Author.Needs.{needs}
 use Rattle.digest.proofs.prompts.Statement.{statement}
 use Rattle.digest.proofs.prompts.Tie as tie
 
-custom-prompts-requires : tie.Need-custom-prompts-requires
-custom-prompts-requires c κs = search needs
+first-from-requires : tie.Need-first-from-requires
+first-from-requires c κs = search needs
 
 enum-known-a : tie.Need-enum-known-a
 enum-known-a c = search needs
 
-returns : tie.Need-returns
-unfolding prompts
-returns c =
-    let custom-prompts = c .before .before .before .custom-prompts in
-    hit _ _ _ _ (custom-prompts .ensures) (c .before .a .given .1)
+enum-known-greater : tie.Need-enum-known-greater
+enum-known-greater c = search needs
 
-enum-told : tie.Need-enum-told
-enum-told c = search needs
-
-prompt-from-requires : tie.Need-prompt-from-requires
-prompt-from-requires c κs = search needs
-
-prompt-tried-requires : tie.Need-prompt-tried-requires
-prompt-tried-requires c κs = search needs
+first-from-requires-2 : tie.Need-first-from-requires-2
+first-from-requires-2 c κs = search needs
 
 enum-known-a-2 : tie.Need-enum-known-a-2
 enum-known-a-2 c = search needs
 
+enum-known-sign : tie.Need-enum-known-sign
+enum-known-sign c = search needs
+
+returns : tie.Need-returns
+returns c =
+    let args = c .before .before .before .before .before .args in
+    let pre = c .before .before .before .before .before .pre in
+    let first-from = c .before .before .before .first-from in
+    (hit _ _ _ _ (hint-is first.Greater (args .s .now) (args .e) _ (pre .0) (pre .1 first.Greater) _ (first-from .ensures)) (ap hintTried (c .before .a .given .1)), tt)
+
 returns-2 : tie.Need-returns-2
-unfolding prompts
 returns-2 c =
-    let args = c .before .before .before .before .before .before .before .before .before .before .args in
-    let custom-prompts = c .before .before .before .before .before .before .before .custom-prompts in
-    let enum-told = c .before .before .before .before .before .enum-told in
-    let prompt-from = c .before .before .before .before .prompt-from in
-    let prompt-tried = c .before .before .before .prompt-tried in
-    hit _ _ _ _ (prompt-tried .ensures ∙ ap (λ (x : Bool). promptTried x 62 (args .s .now)) (prompt-from .ensures)) (c .before .a2 .given .1) ∙ miss _ _ _ (custom-prompts .ensures) (enum-told .given .1)
-
-enum-told-2 : tie.Need-enum-told-2
-enum-told-2 c = search needs
-
-prompt-from-requires-2 : tie.Need-prompt-from-requires-2
-prompt-from-requires-2 c κs = search needs
-
-prompt-tried-requires-2 : tie.Need-prompt-tried-requires-2
-prompt-tried-requires-2 c κs = search needs
+    let args = c .before .before .before .before .before .before .before .before .before .args in
+    let pre = c .before .before .before .before .before .before .before .before .before .pre in
+    let first-from = c .before .before .before .before .before .before .before .first-from in
+    let greater = c .before .before .before .before .before .greater in
+    let first-from2 = c .before .before .before .first-from2 in
+    (sym (ap hintTried (c .before .a2 .given .1)) ∙ hint-is first.Sign (args .s .now) (args .e) _ (pre .0) (pre .1 first.Sign) _ (first-from2 .ensures) ∙ miss _ _ _ (hint-is first.Greater (args .s .now) (args .e) _ (pre .0) (pre .1 first.Greater) _ (first-from .ensures)) (ap hintTried (greater .given .1)), tt)
 
 returns-3 : tie.Need-returns-3
-unfolding prompts
 returns-3 c =
-    let args = c .before .before .before .before .before .before .before .before .before .before .before .args in
-    let custom-prompts = c .before .before .before .before .before .before .before .before .custom-prompts in
-    let enum-told = c .before .before .before .before .before .before .enum-told in
-    let prompt-from = c .before .before .before .before .before .prompt-from in
-    let prompt-tried = c .before .before .before .before .prompt-tried in
-    let enum-told2 = c .before .before .enum-told2 in
-    (c .prompt-tried2 .ensures ∙ ap (λ (x : Bool). promptTried x 64 (args .s .now)) (c .before .prompt-from2 .ensures)) ∙ miss _ _ _ (prompt-tried .ensures ∙ ap (λ (x : Bool). promptTried x 62 (args .s .now)) (prompt-from .ensures)) (enum-told2 .given .1) ∙ miss _ _ _ (custom-prompts .ensures) (enum-told .given .1)
+    let args = c .before .before .before .before .before .before .before .before .before .args in
+    let pre = c .before .before .before .before .before .before .before .before .before .pre in
+    let first-from = c .before .before .before .before .before .before .before .first-from in
+    let greater = c .before .before .before .before .before .greater in
+    let first-from2 = c .before .before .before .first-from2 in
+    (sym (ap hintTried (c .before .sign .given .1)) ∙ hint-is first.Sign (args .s .now) (args .e) _ (pre .0) (pre .1 first.Sign) _ (first-from2 .ensures) ∙ miss _ _ _ (hint-is first.Greater (args .s .now) (args .e) _ (pre .0) (pre .1 first.Greater) _ (first-from .ensures)) (ap hintTried (greater .given .1)), known-prompts (args .s .now) (args .e) (args .hints) (pre .1) _ _ (hint-next first.Greater (args .s .now) (args .e) _ (pre .0) (pre .1 first.Greater) _ (first-from .ensures) _ (greater .given .1)) (hint-next first.Sign (args .s .now) (args .e) _ (pre .0) (pre .1 first.Sign) _ (first-from2 .ensures) _ (c .before .sign .given .1)))
 
 pub prompts-spec : {M : Type 1} → statement M
 prompts-spec =
     tie.close
     (tie.spec
-    custom-prompts-requires
+    first-from-requires
     enum-known-a
-    returns
-    enum-told
-    prompt-from-requires
-    prompt-tried-requires
+    enum-known-greater
+    first-from-requires-2
     enum-known-a-2
+    enum-known-sign
+    returns
     returns-2
-    enum-told-2
-    prompt-from-requires-2
-    prompt-tried-requires-2
     returns-3)

@@ -1,8 +1,8 @@
--- `good_at` meets its contract: a record is good where it can be read and its text keeps the rules. Assumes nothing.
-use Prim.Native.Nat.{_-_}
+-- `good_at` meets its contract: a record that can be read lies in its table, and is good where its text keeps the rules. Assumes nothing.
 use borrow.Author.Tests.{not-true, not-false}
-use Rattle.table.specs.Laws.{good-faulty, good-end, good-bad, good-good}
+use Rattle.table.specs.Laws.{record-inside, good-faulty, good-end, good-bad, good-good}
 use borrow.Author.Needs.{needs}
+use native.Mathlib.Omega.{arith}
 use Rattle.table.proofs.good_at.Statement.{statement}
 use Rattle.table.proofs.good_at.Tie as tie
 
@@ -12,18 +12,33 @@ record-at-requires c κs = search needs
 enum-known-r : tie.Need-enum-known-r
 enum-known-r c = search needs
 
-text-of-requires : tie.Need-text-of-requires
-text-of-requires c κs = search needs
+add-end : tie.Need-add-end
+add-end c =
+    let args = c .before .before .before .before .before .before .args in
+    let record-at = c .before .before .before .before .record-at in
+    let r = c .before .before .r in
+    record { fits = omega (arith, record-inside (args .t .now) (args .at) _ _ (record-at .ensures) (r .given .1)) }
+
+sub-is-text : tie.Need-sub-is-text
+sub-is-text c = search needs
+
+part-is-text-start : tie.Need-part-is-text-start
+part-is-text-start c = search needs
+
+part-is-text-end : tie.Need-part-is-text-end
+part-is-text-end c =
+    let record-at = c .before .before .before .before .record-at in
+    let r = c .before .before .r in
+    record-inside _ _ _ _ (record-at .ensures) (r .given .1)
 
 is-text-requires : tie.Need-is-text-requires
 is-text-requires c κs = search needs
 
 returns : tie.Need-returns
 returns c =
-    let record-at = c .before .before .before .before .before .before .record-at in
-    let r = c .before .before .before .before .r in
-    let text-of = c .before .before .text-of in
-    good-bad _ _ _ (record-at .ensures) _ (r .given .1) _ (text-of .ensures .0) _ (c .before .is-text .ensures) (not-true _ (c .if1 .taken))
+    let record-at = c .before .before .before .before .before .before .before .record-at in
+    let r = c .before .before .before .before .before .r in
+    good-bad _ _ _ (record-at .ensures) _ (r .given .1) _ (c .before .is-text .ensures) (not-true _ (c .if1 .taken))
 
 enum-told : tie.Need-enum-told
 enum-told c = search needs
@@ -33,10 +48,9 @@ enum-told-2 c = search needs
 
 returns-2 : tie.Need-returns-2
 returns-2 c =
-    let record-at = c .before .before .before .before .before .before .record-at in
-    let r = c .before .before .before .before .r in
-    let text-of = c .before .before .text-of in
-    good-good _ _ _ (record-at .ensures) _ (r .given .1) _ (text-of .ensures .0) _ (c .before .is-text .ensures) (not-false _ (c .if1 .left))
+    let record-at = c .before .before .before .before .before .before .before .record-at in
+    let r = c .before .before .before .before .before .r in
+    good-good _ _ _ (record-at .ensures) _ (r .given .1) _ (c .before .is-text .ensures) (not-false _ (c .if1 .left))
 
 returns-3 : tie.Need-returns-3
 returns-3 c =
@@ -54,7 +68,10 @@ good-at-spec =
     (tie.spec
     record-at-requires
     enum-known-r
-    text-of-requires
+    add-end
+    sub-is-text
+    part-is-text-start
+    part-is-text-end
     is-text-requires
     returns
     enum-told
