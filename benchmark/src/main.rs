@@ -1,8 +1,9 @@
 //! The proved digester and ingress beside those of atat 0.25.0, on the same inputs, in one program.
 //!
-//! `count` runs each workload once between the two marks that icount.c looks for, ours and then the Rust's, and prints its name, and `count vast` the vast one;
-//! `time` prints median nanoseconds; `report` makes the table and the drawing of both. Before any workload is measured the two sides' answers to it are compared; of
-//! the vast one, what the counted calls answer.
+//! `count` runs each workload once between the two marks that icount.c looks for, ours and then the Rust's, and prints its name, and `count vast` the vast
+//! one; `count growth` does so with ours alone, at a length and at twice that, and `judge` fails where that grew too fast; `time` prints median nanoseconds;
+//! `report` makes the page and the drawing of all. Before any workload is measured the two sides' answers to it are compared; of the vast one, what the counted
+//! calls answer.
 
 mod heard;
 mod measure;
@@ -14,6 +15,7 @@ mod theirs;
 mod workloads;
 
 use atat::{AtDigester, Digester, Parser};
+use growth::{patterns, shapes::SHAPES, Growth};
 use measure::Pair;
 use sides::Ears;
 use std::hint::black_box;
@@ -52,11 +54,7 @@ fn pair_under<P: Parser + 'static>(w: &Workload, table: Vec<u8>, mut digester: A
         Way::Digest => {
             same(w, ours::heard(&table, input), theirs::heard(&mut digester, input))?;
             Ok(Pair {
-                ours: Box::new(move || {
-                    let mut out = [0; 5];
-                    black_box(ours::digest(&table, black_box(input), &mut out));
-                    black_box(out);
-                }),
+                ours: ours::digesting(table, input),
                 theirs: Box::new(move || {
                     black_box(digester.digest(black_box(input)));
                 }),
@@ -66,14 +64,7 @@ fn pair_under<P: Parser + 'static>(w: &Workload, table: Vec<u8>, mut digester: A
             let mut ours = ours::Ingress::new(&table);
             let mut theirs = theirs::Ingress::<P>::new();
             same(w, sides::outcome(&mut ours, input, n), sides::outcome(&mut theirs, input, n))?;
-            Ok(Pair {
-                ours: Box::new(move || {
-                    black_box(sides::exchange(&mut ours, black_box(input), n));
-                }),
-                theirs: Box::new(move || {
-                    black_box(sides::exchange(&mut theirs, black_box(input), n));
-                }),
-            })
+            Ok(Pair { ours: sides::exchanging(ours, input, n), theirs: sides::exchanging(theirs, input, n) })
         }
         Way::Signal => {
             let mut ours = ours::Ingress::new(&table);
@@ -112,6 +103,42 @@ fn count_vast(w: &Workload) -> Result<(), String> {
     same(w, ours_said, theirs_said)
 }
 
+/// How our work grows: runs each shape and each pattern at a length and at twice that between the marks, and prints its name, the way and the length.
+fn count_growth() -> Result<(), String> {
+    for shape in SHAPES {
+        count_digests(shape.name, &[], shape.input)?;
+        for len in growth::STREAM {
+            let input = paged(&(shape.input)(len));
+            let mut ours = ours::Ingress::new(&[]);
+            let (taken, ..) = sides::outcome(&mut ours, input, 1);
+            assert_eq!(taken, len, "our ingress has no room for \"{}\"", shape.name);
+            println!("{}\tstream\t{len}", shape.name);
+            measure::marked(&mut *sides::exchanging(ours, input, 1));
+        }
+    }
+    let table: Vec<u8> = patterns::RECORDS.iter().flat_map(|(mark, text)| records(mark, &[text])).collect();
+    for pattern in patterns::all() {
+        count_digests(&pattern.to_string(), if pattern.has_table { &table } else { &[] }, |len| pattern.input(len))?;
+    }
+    Ok(())
+}
+
+/// Two digests that are answered by different rules say nothing of how work grows: their answers are compared. So no call between the marks is the first, which
+/// may have names to look up.
+fn count_digests(name: &str, table: &[u8], input: impl Fn(usize) -> Vec<u8>) -> Result<(), String> {
+    let [once, twice] = growth::DIGEST.map(|len| {
+        let input = paged(&input(len));
+        let heard = ours::heard(table, input);
+        println!("{name}\tdigest\t{len}");
+        measure::marked(&mut *ours::digesting(table.to_vec(), input));
+        (heard.kind, heard.number)
+    });
+    if once != twice {
+        return Err(format!("the answers to {name} are of two kinds\n  at a length: {once:?}\n  at twice that: {twice:?}"));
+    }
+    Ok(())
+}
+
 fn run(words: &[&str]) -> Result<(), String> {
     match words {
         ["count"] => {
@@ -127,6 +154,7 @@ fn run(words: &[&str]) -> Result<(), String> {
             }
             Ok(())
         }
+        ["count", "growth"] => count_growth(),
         ["count", "vast"] => workloads::all().iter().filter(|w| w.is_vast).try_for_each(count_vast),
         ["time"] => {
             for w in workloads::all() {
@@ -135,8 +163,9 @@ fn run(words: &[&str]) -> Result<(), String> {
             }
             Ok(())
         }
-        ["report", counts, times, about, folder] => report::write(counts, times, about, folder),
-        _ => Err("usage: benchmark count [vast] | time | report COUNTS TIMES ABOUT FOLDER".to_owned()),
+        ["judge", growth] => Growth::read(&report::read(growth)?)?.judge(),
+        ["report", counts, growth, times, about, folder] => report::write(counts, growth, times, about, folder),
+        _ => Err("usage: benchmark count [growth | vast] | judge GROWTH | time | report COUNTS GROWTH TIMES ABOUT FOLDER".to_owned()),
     }
 }
 

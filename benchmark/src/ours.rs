@@ -3,6 +3,7 @@
 use crate::heard::{Heard, Held};
 use crate::sides::Ears;
 use crate::{BUFFER, QUEUE, SLOT};
+use std::hint::black_box;
 
 extern "C" {
     fn wx_digest(table: *const u8, table_len: usize, input: *const u8, input_len: usize, out: *mut [u64; 5]) -> u32;
@@ -33,6 +34,15 @@ extern "C" {
 pub fn digest(table: &[u8], input: &[u8], out: &mut [u64; 5]) -> u32 {
     // SAFETY: each pointer and length is a slice's own, and `out` is a lent array of five.
     unsafe { wx_digest(table.as_ptr(), table.len(), input.as_ptr(), input.len(), out) }
+}
+
+/// A digest, ready to be called.
+pub fn digesting(table: Vec<u8>, input: &'static [u8]) -> Box<dyn FnMut()> {
+    Box::new(move || {
+        let mut out = [0; 5];
+        black_box(digest(&table, black_box(input), &mut out));
+        black_box(out);
+    })
 }
 
 /// What is heard in the input, in the crate's types.

@@ -1,6 +1,7 @@
-//! The table and the drawing, from what was counted and timed.
+//! The page and the drawing, from what was counted and timed.
 
 use crate::workloads;
+use growth::{thousands, Growth};
 use std::collections::HashMap;
 use std::fmt::Write;
 use std::fs;
@@ -14,11 +15,14 @@ struct Row {
     samples: usize,
 }
 
-/// Reads COUNTS (workload, side and instructions by tabs) and TIMES (workload, ours, the Rust's and samples), prints the table, and writes it with the text
-/// of ABOUT into FOLDER/BENCHMARKS.md and the ratios into FOLDER/benchmarks.svg.
-pub fn write(counts: &str, times: &str, about: &str, folder: &str) -> Result<(), String> {
-    let read = |path: &str| fs::read_to_string(path).map_err(|e| format!("{path} can't be read: {e}"));
-    let (counts, times, about) = (read(counts)?, read(times)?, read(about)?);
+pub fn read(path: &str) -> Result<String, String> {
+    fs::read_to_string(path).map_err(|e| format!("{path} can't be read: {e}"))
+}
+
+/// Reads COUNTS (workload, side and instructions by tabs), GROWTH (name, way, length and instructions) and TIMES (workload, ours, the Rust's and samples),
+/// prints the table, and writes it with the text of ABOUT and with how work grows into FOLDER/BENCHMARKS.md and the ratios into FOLDER/benchmarks.svg.
+pub fn write(counts: &str, growth: &str, times: &str, about: &str, folder: &str) -> Result<(), String> {
+    let (counts, growth, times, about) = (read(counts)?, Growth::read(&read(growth)?)?, read(times)?, read(about)?);
     let mut counted: HashMap<(&str, &str), f64> = HashMap::new();
     for line in counts.lines() {
         let [name, side, n] = line.split('\t').collect::<Vec<_>>()[..] else {
@@ -47,21 +51,8 @@ pub fn write(counts: &str, times: &str, about: &str, folder: &str) -> Result<(),
     let empty = counted.get(&("an empty call", "ours")).copied().unwrap_or(0.0);
     print!("{}", plain(&rows));
     let save = |name: &str, text: String| fs::write(format!("{folder}/{name}"), text).map_err(|e| format!("{folder}/{name} can't be written: {e}"));
-    save("BENCHMARKS.md", page(&rows, empty, &about))?;
+    save("BENCHMARKS.md", page(&rows, empty, &growth, &about))?;
     save("benchmarks.svg", drawing(&rows))
-}
-
-/// A number with its thousands apart.
-fn thousands(n: f64) -> String {
-    let digits = format!("{n:.0}");
-    let mut out = String::new();
-    for (i, c) in digits.chars().enumerate() {
-        if i > 0 && (digits.len() - i) % 3 == 0 {
-            out.push(',');
-        }
-        out.push(c);
-    }
-    out
 }
 
 fn ratio_of(pair: Option<(f64, f64)>) -> Option<f64> {
@@ -86,7 +77,7 @@ fn plain(rows: &[Row]) -> String {
     out
 }
 
-fn page(rows: &[Row], empty: f64, about: &str) -> String {
+fn page(rows: &[Row], empty: f64, growth: &Growth, about: &str) -> String {
     let mut out = String::from("# Benchmarks: ours beside atat 0.25.0\n\n");
     out += "`./bench` writes this page. Ratios are ours / the Rust's: below 1 ours is cheaper, above 1 the Rust is.\n\n![the ratios](benchmarks.svg)\n\n";
     out += about;
@@ -102,6 +93,7 @@ fn page(rows: &[Row], empty: f64, about: &str) -> String {
         let _ = writeln!(out, "| {} | {a} | {b} | {} | {c} | {d} | {} | {} |", r.name, ratio(r.instructions), ratio(r.nanoseconds), r.samples);
     }
     let _ = writeln!(out, "\nA call that does nothing counts {empty:.0} instructions; they are in every figure.");
+    out += &growth.section();
     out
 }
 

@@ -1,6 +1,7 @@
 //! What both sides can do with a stream, and the two ways of calling that are measured.
 
 use crate::heard::Held;
+use std::hint::black_box;
 
 pub trait Ears {
     /// Drops what is in the buffer.
@@ -35,6 +36,13 @@ pub fn exchange<E: Ears>(ears: &mut E, stream: &[u8], piece: usize) -> usize {
     let taken = write_all(ears, stream, piece);
     ears.reset();
     taken
+}
+
+/// An exchange, ready to be called.
+pub fn exchanging<E: Ears + 'static>(mut ears: E, stream: &'static [u8], piece: usize) -> Box<dyn FnMut()> {
+    Box::new(move || {
+        black_box(exchange(&mut ears, black_box(stream), piece));
+    })
 }
 
 /// What came of an exchange: bytes taken, the answer, bytes left in the buffer.

@@ -48,7 +48,7 @@ notices! {
     "+UUSOCO" "+UUSORF" "+UUSOSTAT" "+UUSORD"
 }
 
-/// A table of records: mark, length, text.
+/// A table of records: mark (a custom prompt's with its byte), length, text.
 pub fn records(mark: &str, texts: &[&str]) -> Vec<u8> {
     let mut table = Vec::new();
     for text in texts {

@@ -1,5 +1,7 @@
 //! What is measured: inputs under a table, and streams through an ingress.
 
+use growth::shapes::{joined, lines, over_and_over, OK, SHAPES};
+
 /// The table of a workload, on both sides.
 #[derive(Clone, Copy, PartialEq, Eq)]
 pub enum Table {
@@ -36,26 +38,7 @@ pub const LONG: usize = 4096;
 const ANSWER: &[u8] = b"\r\n+CSQ: 17,99\r\n\r\nOK\r\n";
 const EXCHANGE: &[u8] = b"AT+CSQ\r\r\n+CSQ: 17,99\r\n\r\nOK\r\n";
 const NOTICE: &[u8] = b"\r\n+UUSORD: 0,4\r\n";
-const OK: &[u8] = b"\r\nOK\r\n";
 const VAST: &str = "listing of 4,096 bytes, byte by byte";
-
-/// A text over and over, as many bytes as are asked for; the last may be cut.
-fn over_and_over(text: &[u8], len: usize) -> Vec<u8> {
-    text.iter().copied().cycle().take(len).collect()
-}
-
-fn joined(parts: &[&[u8]]) -> Vec<u8> {
-    parts.concat()
-}
-
-/// Lines of an answer, then `end`, `len` bytes in all: the first line is as much longer as is needed.
-fn lines(end: &[u8], len: usize) -> Vec<u8> {
-    let line = b"\r\n+CSQ: 17,99\r\n";
-    let room = len - end.len();
-    let (n, over) = (room / line.len(), room % line.len());
-    let first = joined(&[b"\r\n+CSQ: ", &vec![b'1'; over], &line[8..]]);
-    joined(&[&first, &over_and_over(line, (n - 1) * line.len()), end])
-}
 
 /// The workloads, in the order of the table.
 pub fn all() -> Vec<Workload> {
@@ -90,17 +73,9 @@ pub fn all() -> Vec<Workload> {
     add(group, "notice, table of 1", Table::One, digest, NOTICE.to_vec());
     add(group, "notice, table of 56", Table::Many, digest, NOTICE.to_vec());
 
-    let group = "4,096 bytes";
-    let letters = |n| over_and_over(b"abcdefghijklmnopqrstuvwxyz", n);
-    add(group, "one long line, OK", empty, digest, joined(&[b"\r\n", &letters(LONG - 10), b"\r\n", OK]));
-    add(group, "one long line, no CRLF before it, OK", empty, digest, joined(&[&letters(LONG - 6), OK]));
-    add(group, "many lines, OK", empty, digest, lines(OK, LONG));
-    add(group, "many lines, OK not yet ended", empty, digest, lines(&OK[..5], LONG));
-    add(group, "no CR", empty, digest, letters(LONG));
-    add(group, "spaces", empty, digest, vec![b' '; LONG]);
-    add(group, "CRLFs", empty, digest, over_and_over(b"\r\n", LONG));
-    add(group, "CRLF +CME ERROR over and over", empty, digest, over_and_over(b"\r\n+CME ERROR", LONG));
-    add(group, "CRLF +CME ERROR: over and over", empty, digest, over_and_over(b"\r\n+CME ERROR:", LONG));
+    for shape in SHAPES {
+        add("4,096 bytes", shape.name, empty, digest, (shape.input)(LONG));
+    }
 
     let group = "ingress";
     add(group, "typical exchange, one piece", empty, Way::Pieces(usize::MAX), EXCHANGE.to_vec());

@@ -18,8 +18,8 @@ use Rattle.parser.specs.Parser.{promptFrom, onlyBlanks, atFound}
 use Rattle.answers.specs.declared.Kind.the-variants as kind
 use Rattle.digest.specs.declared.Tried.{Tried}
 use Rattle.digest.specs.declared.Tried.the-variants as tries
-use Rattle.digest.specs.declared.Heard.{Heard}
-use Rattle.digest.specs.declared.Heard.the-variants as heards
+use Rattle.digest.specs.declared.Noticed.{Noticed}
+use Rattle.digest.specs.declared.Noticed.the-variants as noticed
 use Rattle.digest.specs.declared.First.{First}
 use Rattle.digest.specs.declared.First.the-variants as first
 use Rattle.digest.specs.declared.Hinted.{Hinted}
@@ -85,9 +85,9 @@ abbrev pub levelTried : Level → Tried
 levelTried (level.Done a) = tries.Done a
 levelTried (level.Next h) = tries.Next
 
-abbrev pub heardTried : Heard → Tried
-heardTried (heards.Done a) = tries.Done a
-heardTried (heards.Next b) = tries.Next
+abbrev pub noticedTried : Noticed → Tried
+noticedTried (noticed.Done a) = tries.Done a
+noticedTried (noticed.Next b) = tries.Next
 
 -- the hint of each of the five, and what the five say
 abbrev pub hintOf : Hints → First → ℕ
@@ -113,11 +113,11 @@ abbrev pub allIdle : Hints → ℕ → Bool
 allIdle h left = leb (h .greater) left && (leb (h .sign) left && (leb (h .cme) left && (leb (h .cms) left && leb (h .modem) left)))
 
 -- `>`, then `@`; and those with the numeric errors behind them
-abbrev pub prompted : List ℕ → ℕ → Tried
-prompted s e = orElse (given first.Greater s e) (given first.Sign s e)
+abbrev pub promptBytes : List ℕ → ℕ → Tried
+promptBytes s e = orElse (given first.Greater s e) (given first.Sign s e)
 
 abbrev pub firsts : List ℕ → ℕ → Tried
-firsts s e = orElse (prompted s e) (numericErrors s e)
+firsts s e = orElse (promptBytes s e) (numericErrors s e)
 
 -- What looks for a line, or an end, in all of buf: where it doesn't answer from e on, it doesn't from anywhere behind it either.
 pub record Gone (ts : List Token) (s : List ℕ) (e : ℕ) : Type 0 where
@@ -138,6 +138,6 @@ abbrev pub SameCustoms : List ℕ → List ℕ → Type 0
 SameCustoms t u = (m : Mark) → sameMark mark.Notice m ≡ false → ofMark m 0 (tokens t) ≡ ofMark m 0 (tokens u)
 
 -- the table has none, where the notices say so
-abbrev pub HeardAll : List ℕ → Heard → Type 0
-HeardAll t (heards.Done a) = Unit {0}
-HeardAll t (heards.Next others) = Unless others (SameCustoms [] t)
+abbrev pub OthersTold : List ℕ → Noticed → Type 0
+OthersTold t (noticed.Done a) = Unit {0}
+OthersTold t (noticed.Next others) = Unless others (SameCustoms [] t)

@@ -35,8 +35,8 @@ use Rattle.answers.specs.declared.Answer.{Answer}
 use Rattle.digest.specs.declared.Occurs.the-variants as occurs
 use Rattle.digest.specs.declared.Tried.{Tried}
 use Rattle.digest.specs.declared.Tried.the-variants as tries
-use Rattle.digest.specs.declared.Heard.{Heard}
-use Rattle.digest.specs.declared.Heard.the-variants as heards
+use Rattle.digest.specs.declared.Noticed.{Noticed}
+use Rattle.digest.specs.declared.Noticed.the-variants as noticed
 use Rattle.digest.specs.declared.First.{First}
 use Rattle.digest.specs.declared.First.the-variants as first
 use Rattle.digest.specs.declared.Hinted.{Hinted}
@@ -47,7 +47,7 @@ use Rattle.digest.specs.declared.Level.the-variants as level
 use Rattle.digest.specs.Digest.{orElse, occursOr, firstCustom, notices, lineSuccess, successes, promptTried, customPrompts, prompts, customError, numericTried, numericFrom, lineFrom, numericErrors, lineErrors, headTried, errors, tried}
 use Rattle.digest.specs.Laws.{next-both, both-next, occurs-none, error-nowhere, success-nowhere, line-success-nowhere, line-nowhere, prompt-nowhere, numeric-nowhere, line-success-none, line-from-none, custom-success-none, custom-error-none, prompt-miss}
 use Rattle.digest.specs.Position.{prompt-moved, custom-moved, shiftNumeric, numeric-moved-on}
-use Rattle.digest.specs.Hints.{given, sought, decided, Idle, orHint, foundHint, unlessIdle, firstFrom, hintTried, levelTried, hintOf, Known, LevelKnown, unknown, allIdle, prompted, firsts, Gone, GoneAll, Unless, SameCustoms, HeardAll}
+use Rattle.digest.specs.Hints.{given, sought, decided, Idle, orHint, foundHint, unlessIdle, firstFrom, hintTried, levelTried, hintOf, Known, LevelKnown, unknown, allIdle, promptBytes, firsts, Gone, GoneAll, Unless, SameCustoms, OthersTold}
 
 or-assoc : (a b c : Tried) → orElse a (orElse b c) ≡ orElse (orElse a b) c
 unfolding orElse
@@ -197,7 +197,7 @@ module _ (s : List ℕ) (e : ℕ) (h : Hints) (w : Known s e h) where
       let k = and-both (leb (h .cme) n) _ (j .1) in
       let o = and-both (leb (h .cms) n) (leb (h .modem) n) (k .1) in
       sym
-      (both-next (prompted s e) _ (both-next (given first.Greater s e) (given first.Sign s e) (here first.Greater (i .0)) (here first.Sign (j .0)))
+      (both-next (promptBytes s e) _ (both-next (given first.Greater s e) (given first.Sign s e) (here first.Greater (i .0)) (here first.Sign (j .0)))
       (both-next (given first.Cme s e) _ (here first.Cme (k .0)) (both-next (given first.Cms s e) (given first.Modem s e) (here first.Cms (o .0)) (here first.Modem (o .1)))))
     where
       here : (x : First) → leb (hintOf h x) (length s - e) ≡ true → given x s e ≡ tries.Next
@@ -363,18 +363,18 @@ handed ts s e k h l i r q w z =
 -- The retry lemma: where they are gone, a level can only answer a notice, one of the five, or NA.
 pub level-again : (t s : List ℕ) (e : ℕ) → Gone (tokens t) s e → orElse (notices (entries mark.Notice t 0 0) s e) (orElse (firsts s e) (headTried (stands (fixedText fixed.Na) s e) e)) ≡ tried (tokens t) s e
 unfolding entries tokens tried prompts errors orElse
-level-again t s e w = rw (w .success, w .prompt, w .custom, w .error, or-assoc (prompted s e) (numericErrors s e) (headTried (stands (fixedText fixed.Na) s e) e))
+level-again t s e w = rw (w .success, w .prompt, w .custom, w .error, or-assoc (promptBytes s e) (numericErrors s e) (headTried (stands (fixedText fixed.Na) s e) e))
 
 -- The level's chain, the custom prompts apart from the two others.
-pub level-first : (t s : List ℕ) (e : ℕ) → orElse (notices (entries mark.Notice t 0 0) s e) (orElse (successes (ofMark mark.Success 0 (tokens t)) s e) (orElse (customPrompts (ofMark mark.Prompt 0 (tokens t)) s e) (orElse (prompted s e) (errors (ofMark mark.Error 0 (tokens t)) s e)))) ≡ tried (tokens t) s e
+pub level-first : (t s : List ℕ) (e : ℕ) → orElse (notices (entries mark.Notice t 0 0) s e) (orElse (successes (ofMark mark.Success 0 (tokens t)) s e) (orElse (customPrompts (ofMark mark.Prompt 0 (tokens t)) s e) (orElse (promptBytes s e) (errors (ofMark mark.Error 0 (tokens t)) s e)))) ≡ tried (tokens t) s e
 unfolding entries tokens tried prompts
-level-first t s e = rw (or-assoc (customPrompts (ofMark mark.Prompt 0 (tokens t)) s e) (prompted s e) (errors (ofMark mark.Error 0 (tokens t)) s e))
+level-first t s e = rw (or-assoc (customPrompts (ofMark mark.Prompt 0 (tokens t)) s e) (promptBytes s e) (errors (ofMark mark.Error 0 (tokens t)) s e))
 
 pub unless-not : (b : Bool) (P : Type 0) → Unless b P → b ≡ false → P
 unless-not b P w q = rw q at w
 
-pub heard-all : (t : List ℕ) (r : Heard) → HeardAll t r → (b : Bool) → r ≡ heards.Next b → Unless b (SameCustoms [] t)
-heard-all t r w b q = rw q at w
+pub others-told : (t : List ℕ) (r : Noticed) → OthersTold t r → (b : Bool) → r ≡ noticed.Next b → Unless b (SameCustoms [] t)
+others-told t r w b q = rw q at w
 
 -- Rules 3 to 5 under two tables that have the same records but for the notices.
 module _ (t v : List ℕ) (w : SameCustoms t v) (s : List ℕ) (e : ℕ) where

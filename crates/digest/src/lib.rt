@@ -14,7 +14,7 @@ ghost use Rattle.lines.specs.declared.Fixed.the-variants as fixed;
 ghost use Rattle.answers.specs.Answer.{placed, answer, nothing, shift, isFound};
 ghost use Rattle.digest.specs.Digest.{skipped, trimmedAnswer, heard, notices, firstCustom, success, customSuccess, lineSuccess, successes, customPrompts, promptTried, customError, numericTried, lineFrom, numericErrors, lineErrors, headTried, errors, tried, retries, ifFound, digest, digested, digestChecked, outcome};
 ghost use Rattle.digest.specs.Heard.{HeardIn};
-ghost use Rattle.digest.specs.Hints.{sought, decided, firstFrom, heardTried, levelTried, prompted, firsts, Known, LevelKnown, unknown, allIdle, Gone, GoneAll, Unless, SameCustoms, HeardAll};
+ghost use Rattle.digest.specs.Hints.{sought, decided, firstFrom, noticedTried, levelTried, promptBytes, firsts, Known, LevelKnown, unknown, allIdle, Gone, GoneAll, Unless, SameCustoms, OthersTold};
 use answers::Answer;
 use answers::Kind;
 use lines::Fixed;
@@ -33,7 +33,7 @@ pub enum Tried {
 }
 
 // What the notices give: an answer, or whether the table may have other records than notices.
-pub enum Heard {
+pub enum Noticed {
     Done(Answer),
     Next(bool),
 }
@@ -162,10 +162,10 @@ fn one_notice(s: &[u8], e: usize, ending: usize, x: &[u8], n: u32) -> Tried
 }
 
 // Rule 2: notices, in table order. The walk sees on its way whether there are other records.
-fn notices(table: &[u8], s: &[u8], e: usize) -> Heard
+fn notices(table: &[u8], s: &[u8], e: usize) -> Noticed
     requires { ⌜ e ≤ length (now s) ⌝ }
-    ensures is { λ r. ⌜ heardTried r ≡ notices (entries mark.Notice (now (table .entry)) 0 0) (now (s .entry)) e ⌝ }
-    ensures others { λ r. ⌜ HeardAll (now (table .entry)) r ⌝ }
+    ensures is { λ r. ⌜ noticedTried r ≡ notices (entries mark.Notice (now (table .entry)) 0 0) (now (s .entry)) e ⌝ }
+    ensures others { λ r. ⌜ OthersTold (now (table .entry)) r ⌝ }
 {
     let ending = parser::line_ending(s, e);
     let mut at = 0;
@@ -174,14 +174,14 @@ fn notices(table: &[u8], s: &[u8], e: usize) -> Heard
     loop {
         match table::next_of(table, Mark::Notice, at, n) {
             Next::Nothing => {
-                return Heard::Next(others | (at < table.len()));
+                return Noticed::Next(others | (at < table.len()));
             }
             Next::Is(r, k) => {
                 let start = r.place;
                 let end = start + r.len;
                 let x = &table[start..end];
                 if let Tried::Done(a) = one_notice(s, e, ending, x, k as u32) {
-                    return Heard::Done(a);
+                    return Noticed::Done(a);
                 }
                 others = others | (n < k);
                 at = end;
@@ -417,10 +417,10 @@ fn first_from(rule: First, s: &[u8], e: usize, d: usize) -> Hinted
     }
 }
 
-// Rule 4 behind the custom prompts: `>`, then `@`.
-fn prompts(s: &[u8], e: usize, hints: Hints) -> Level
+// Rule 4 behind the custom prompts: the bytes `>`, then `@`.
+fn prompt_bytes(s: &[u8], e: usize, hints: Hints) -> Level
     requires { ⌜ (e ≤ length (now s)) × Known (now s) e hints ⌝ }
-    ensures is { λ r. ⌜ levelTried r ≡ prompted (now (s .entry)) e ⌝ }
+    ensures is { λ r. ⌜ levelTried r ≡ promptBytes (now (s .entry)) e ⌝ }
     ensures known { λ r. ⌜ LevelKnown (now (s .entry)) e r ⌝ }
 {
     match first_from(First::Greater, s, e, hints.greater) {
@@ -516,8 +516,8 @@ fn try_first(table: &[u8], s: &[u8], e: usize) -> Level
     ensures known { λ r. ⌜ LevelKnown (now (s .entry)) e r ⌝ }
 {
     match notices(table, s, e) {
-        Heard::Done(a) => Level::Done(a),
-        Heard::Next(others) => {
+        Noticed::Done(a) => Level::Done(a),
+        Noticed::Next(others) => {
             let custom = customs(table, others);
             if let Tried::Done(a) = successes(custom, s, e) {
                 return Level::Done(a);
@@ -525,7 +525,7 @@ fn try_first(table: &[u8], s: &[u8], e: usize) -> Level
             if let Tried::Done(a) = custom_prompts(custom, s, e) {
                 return Level::Done(a);
             }
-            match prompts(s, e, unknown()) {
+            match prompt_bytes(s, e, unknown()) {
                 Level::Done(a) => Level::Done(a),
                 Level::Next(known) => errors(custom, s, e, known),
             }
@@ -551,7 +551,7 @@ fn firsts(s: &[u8], e: usize, hints: Hints) -> Level
     if idle(hints, s.len() - e) {
         return Level::Next(hints);
     }
-    match prompts(s, e, hints) {
+    match prompt_bytes(s, e, hints) {
         Level::Done(a) => Level::Done(a),
         Level::Next(known) => numeric_errors(s, e, known),
     }
@@ -563,7 +563,7 @@ fn try_again(table: &[u8], s: &[u8], e: usize, hints: Hints) -> Level
     ensures is { λ r. ⌜ levelTried r ≡ tried (tokens (now (table .entry))) (now (s .entry)) e ⌝ }
     ensures known { λ r. ⌜ LevelKnown (now (s .entry)) e r ⌝ }
 {
-    if let Heard::Done(a) = notices(table, s, e) {
+    if let Noticed::Done(a) = notices(table, s, e) {
         return Level::Done(a);
     }
     match firsts(s, e, hints) {

@@ -19,8 +19,8 @@ returns c =
     let pre = c .before .before .before .pre in
     (all-idle (args .s .now) (args .e) (args .hints) (pre .1) (pre .0) _ (c .before .idle .ensures) (c .if1 .taken), pre .1)
 
-prompts-requires : tie.Need-prompts-requires
-prompts-requires c κs = search needs
+prompt-bytes-requires : tie.Need-prompt-bytes-requires
+prompt-bytes-requires c κs = search needs
 
 enum-known-a : tie.Need-enum-known-a
 enum-known-a c = search needs
@@ -31,19 +31,19 @@ enum-known-known c = search needs
 numeric-errors-requires : tie.Need-numeric-errors-requires
 numeric-errors-requires c κs =
     let pre = c .before .before .before .before .before .before .before .pre in
-    let prompts = c .before .before .before .prompts in
-    (pre .0, level-known _ _ _ (prompts .ensures .1) _ (c .before .known .given .1))
+    let prompt-bytes = c .before .before .before .prompt-bytes in
+    (pre .0, level-known _ _ _ (prompt-bytes .ensures .1) _ (c .before .known .given .1))
 
 returns-2 : tie.Need-returns-2
 returns-2 c =
-    let prompts = c .before .before .before .prompts in
-    (hit _ _ _ _ (prompts .ensures .0) (ap levelTried (c .before .a .given .1)), tt)
+    let prompt-bytes = c .before .before .before .prompt-bytes in
+    (hit _ _ _ _ (prompt-bytes .ensures .0) (ap levelTried (c .before .a .given .1)), tt)
 
 returns-3 : tie.Need-returns-3
 returns-3 c =
-    let prompts = c .before .before .before .before .prompts in
+    let prompt-bytes = c .before .before .before .before .prompt-bytes in
     let known = c .before .before .known in
-    (c .numeric-errors .ensures .0 ∙ miss _ _ _ (prompts .ensures .0) (ap levelTried (known .given .1)), c .numeric-errors .ensures .1)
+    (c .numeric-errors .ensures .0 ∙ miss _ _ _ (prompt-bytes .ensures .0) (ap levelTried (known .given .1)), c .numeric-errors .ensures .1)
 
 pub firsts-spec : {M : Type 1} → statement M
 firsts-spec =
@@ -52,7 +52,7 @@ firsts-spec =
     sub-idle
     idle-requires
     returns
-    prompts-requires
+    prompt-bytes-requires
     enum-known-a
     enum-known-known
     numeric-errors-requires

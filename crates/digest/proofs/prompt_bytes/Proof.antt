@@ -1,12 +1,12 @@
--- `prompts` meets its contract: the two in their order, with what their hints say.
+-- `prompt_bytes` meets its contract: the two in their order, with what their hints say.
 use mathlib.Core.Path.{sym, ap, _∙_}
 use Rattle.digest.specs.declared.First.the-variants as first
 use Rattle.digest.specs.Hints.{hintTried}
 use Rattle.digest.specs.Laws.{hit, miss}
 use Rattle.digest.specs.Levels.{hint-is, hint-next, known-prompts}
 use borrow.Author.Needs.{needs}
-use Rattle.digest.proofs.prompts.Statement.{statement}
-use Rattle.digest.proofs.prompts.Tie as tie
+use Rattle.digest.proofs.prompt_bytes.Statement.{statement}
+use Rattle.digest.proofs.prompt_bytes.Tie as tie
 
 first-from-requires : tie.Need-first-from-requires
 first-from-requires c κs = search needs
@@ -51,8 +51,8 @@ returns-3 c =
     let first-from2 = c .before .before .before .first-from2 in
     (sym (ap hintTried (c .before .sign .given .1)) ∙ hint-is first.Sign (args .s .now) (args .e) _ (pre .0) (pre .1 first.Sign) _ (first-from2 .ensures) ∙ miss _ _ _ (hint-is first.Greater (args .s .now) (args .e) _ (pre .0) (pre .1 first.Greater) _ (first-from .ensures)) (ap hintTried (greater .given .1)), known-prompts (args .s .now) (args .e) (args .hints) (pre .1) _ _ (hint-next first.Greater (args .s .now) (args .e) _ (pre .0) (pre .1 first.Greater) _ (first-from .ensures) _ (greater .given .1)) (hint-next first.Sign (args .s .now) (args .e) _ (pre .0) (pre .1 first.Sign) _ (first-from2 .ensures) _ (c .before .sign .given .1)))
 
-pub prompts-spec : {M : Type 1} → statement M
-prompts-spec =
+pub prompt-bytes-spec : {M : Type 1} → statement M
+prompt-bytes-spec =
     tie.close
     (tie.spec
     first-from-requires

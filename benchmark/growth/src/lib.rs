@@ -1,0 +1,149 @@
+//! How our work grows: the inputs that show it, at a length and at twice that, and what is made of the instructions counted on them.
+//!
+//! It is a crate of its own so that nothing of it is compiled together with the calls that are measured: as a part of their crate it made the Rust's figures
+//! with the table of 56 greater by 14 per cent, and left ours as they were.
+
+pub mod patterns;
+pub mod shapes;
+
+use patterns::{Pattern, RECORDS};
+use shapes::SHAPES;
+use std::collections::HashMap;
+use std::fmt::Write;
+
+/// A length and twice that, in bytes: of a digest, and of a stream, on whose every byte all that is there is digested again.
+pub const DIGEST: [usize; 2] = [2048, 4096];
+pub const STREAM: [usize; 2] = [512, 1024];
+
+/// So many times the work is what a digest may take for twice the input.
+const LIMIT: f64 = 2.2;
+/// How many of the patterns are shown.
+const SHOWN: usize = 10;
+
+/// A number with its thousands apart.
+pub fn thousands(n: f64) -> String {
+    let digits = format!("{n:.0}");
+    let mut out = String::new();
+    for (i, c) in digits.chars().enumerate() {
+        if i > 0 && (digits.len() - i) % 3 == 0 {
+            out.push(',');
+        }
+        out.push(c);
+    }
+    out
+}
+
+/// Instructions at a length and at twice that.
+#[derive(Clone, Copy)]
+struct Grown {
+    once: f64,
+    twice: f64,
+}
+
+impl Grown {
+    fn ratio(self) -> f64 {
+        self.twice / self.once
+    }
+
+    /// Is this digest over the limit? One that takes no more instructions than it has bytes is not, whatever the ratio: so little work is decided by the last
+    /// few bytes, which are searched one by one.
+    fn is_excess(self) -> bool {
+        self.twice > DIGEST[1] as f64 && self.ratio() > LIMIT
+    }
+
+    /// The cells of a table.
+    fn cells(self) -> String {
+        format!("{} | {} | {:.2}", thousands(self.once), thousands(self.twice), self.ratio())
+    }
+}
+
+/// What was counted.
+pub struct Growth {
+    /// Of each shape its name, its digests and its streams.
+    shapes: Vec<(&'static str, Grown, Grown)>,
+    patterns: Vec<(Pattern, Grown)>,
+}
+
+impl Growth {
+    /// Reads lines of four parts by tabs: the name of a shape or pattern, `digest` or `stream`, its length in bytes, the instructions.
+    pub fn read(counts: &str) -> Result<Self, String> {
+        let mut counted: HashMap<(&str, &str, &str), f64> = HashMap::new();
+        for line in counts.lines() {
+            let [name, way, len, n] = line.split('\t').collect::<Vec<_>>()[..] else {
+                return Err(format!("not a line of growth: {line}"));
+            };
+            counted.insert((name, way, len), n.parse().map_err(|_| format!("not a count: {line}"))?);
+        }
+        let get = |name: &str, way: &str, len: usize| {
+            let n = counted.get(&(name, way, len.to_string().as_str())).copied();
+            n.ok_or_else(|| format!("not counted: {name}, {way} of {len} bytes"))
+        };
+        let grown = |name: &str, way: &str, [once, twice]: [usize; 2]| Ok::<_, String>(Grown { once: get(name, way, once)?, twice: get(name, way, twice)? });
+        let shapes = SHAPES.iter().map(|s| Ok((s.name, grown(s.name, "digest", DIGEST)?, grown(s.name, "stream", STREAM)?)));
+        let patterns = patterns::all().into_iter().map(|p| grown(&p.to_string(), "digest", DIGEST).map(|g| (p, g)));
+        Ok(Self { shapes: shapes.collect::<Result<_, String>>()?, patterns: patterns.collect::<Result<_, String>>()? })
+    }
+
+    /// An error that names each shape and each pattern whose digest is over the limit.
+    pub fn judge(&self) -> Result<(), String> {
+        let shapes = self.shapes.iter().map(|&(name, digest, _)| (name.to_owned(), digest));
+        let digests = shapes.chain(self.patterns.iter().map(|(p, digest)| (p.to_string(), *digest)));
+        let mut excess = String::new();
+        for (name, g) in digests.filter(|(_, g)| g.is_excess()) {
+            let [once, twice, len, double] = [g.once, g.twice, DIGEST[0] as f64, DIGEST[1] as f64].map(thousands);
+            let _ = write!(excess, "\n  {name}: {once} instructions at {len} bytes, {twice} at {double}, {:.2} times", g.ratio());
+        }
+        if excess.is_empty() {
+            return Ok(());
+        }
+        Err(format!("twice the input takes more than {LIMIT} times the work{excess}"))
+    }
+
+    /// A section of the page.
+    pub fn section(&self) -> String {
+        let [[once, twice], [stream, stream_twice]] = [DIGEST, STREAM].map(|lens| lens.map(|len| thousands(len as f64)));
+        let mut out = format!(
+            "\n## How work grows\n\nInstructions of ours at a length and at twice that. `./bench` fails where a digest of {twice} bytes takes more than {LIMIT} times \
+             what one of {once} takes.\n\n\
+             | Shape | Digest, {once} bytes | {twice} bytes | Ratio | Byte by byte, {stream} bytes | {stream_twice} bytes | Ratio |\n\
+             |---|--:|--:|--:|--:|--:|--:|\n"
+        );
+        for (name, digest, stream) in &self.shapes {
+            let _ = writeln!(out, "| {name} | {} | {} |", digest.cells(), stream.cells());
+        }
+
+        let mut patterns: Vec<_> = self.patterns.iter().collect();
+        patterns.sort_by(|(_, a), (_, b)| b.ratio().total_cmp(&a.ratio()));
+        let (dearest, greatest) = patterns[0];
+        let records: Vec<String> = RECORDS.iter().map(|(mark, text)| format!("`{mark} {text}`")).collect();
+        let _ = write!(
+            out,
+            "\nThe digests of {} patterns that benchmark/growth/src/patterns.rs makes, every other one under a table of {} ({}): the median ratio is {:.2}, \
+             the greatest {:.2}, of {dearest}. The {SHOWN} greatest:\n\n| Pattern | Table | Digest, {once} bytes | {twice} bytes | Ratio |\n|---|---|--:|--:|--:|\n",
+            patterns.len(),
+            records.len(),
+            records.join(", "),
+            patterns[patterns.len() / 2].1.ratio(),
+            greatest.ratio(),
+        );
+        for (pattern, g) in &patterns[..SHOWN] {
+            let table = if pattern.has_table { format!("of {}", records.len()) } else { "empty".to_owned() };
+            let _ = writeln!(out, "| {pattern} | {table} | {} |", g.cells());
+        }
+        out
+    }
+}
+
+#[cfg(test)]
+mod tests {
+    use super::*;
+
+    #[test]
+    fn over_the_limit_is_more_than_it_and_more_than_an_instruction_a_byte() {
+        let excess = |once, twice| Grown { once, twice }.is_excess();
+        assert!(excess(10_000.0, 22_001.0));
+        assert!(!excess(10_000.0, 22_000.0));
+        assert!(!excess(300.0, 4_096.0));
+        assert!(excess(300.0, 4_097.0));
+    }
+}
