@@ -1,4 +1,4 @@
--- What a level of the retry knows from the levels above it, so that nothing is searched twice. No contract of a public call cites it.
+-- What a level of the retry knows from the levels above it, so that nothing is searched twice. No promise of a public call cites it.
 use mathlib.Core.Path.{_≡_}
 use mathlib.Core.Bool.{Bool, true, false, _&&_}
 use mathlib.Core.List.{List, []}
@@ -57,7 +57,7 @@ decided first.Modem s r = numericTried kind.Unknown (atFound (fixedText fixed.Mo
 abbrev pub Idle : (ℕ → Tried) → List ℕ → ℕ → ℕ → Type 0
 Idle f s e d = (m : ℕ) → e ≤ m → m + d ≤ length s → f m ≡ tries.Next
 
--- the hint for the levels below: where the first occurrence was no answer, none is known behind it; where there was none, there is none
+-- The hint for the levels below: where what is looked for is nowhere, it covers every place; where the first occurrence, at p, is no answer, every place up to p.
 unfoldable pub orHint : Tried → ℕ → Hinted
 orHint (tries.Done a) d = hint.Done a
 orHint tries.Next d = hint.Next d
@@ -67,7 +67,7 @@ unfolding orHint
 foundHint x s (At p) = orHint (decided x s (At p)) (length s - p)
 foundHint x s Nothing = hint.Next 0
 
--- where the hint d covers e, nothing is looked for and the hint stays
+-- Where the hint d covers e nothing is looked for, and the hint stays.
 unfoldable pub unlessIdle : Bool → ℕ → Hinted → Hinted
 unlessIdle true d r = hint.Next d
 unlessIdle false d r = r
@@ -119,16 +119,18 @@ promptBytes s e = orElse (given first.Greater s e) (given first.Sign s e)
 abbrev pub firsts : List ℕ → ℕ → Tried
 firsts s e = orElse (promptBytes s e) (numericErrors s e)
 
--- What looks for a line, or an end, in all of buf: where it doesn't answer from e on, it doesn't from anywhere behind it either.
+-- The rules that look for a line, or an end, in all of buf don't answer from e on; then they don't from anywhere behind it either (`gone-on`).
 pub record Gone (ts : List Token) (s : List ℕ) (e : ℕ) : Type 0 where
   pub success : successes (ofMark mark.Success 0 ts) s e ≡ tries.Next
   pub prompt : customPrompts (ofMark mark.Prompt 0 ts) s e ≡ tries.Next
   pub custom : customError (firstCustom (ofMark mark.Error 0 ts) s e) ≡ tries.Next
   pub error : lineErrors s e ≡ tries.Next
 
+-- from no place of s
 abbrev pub GoneAll : List Token → List ℕ → Type 0
 GoneAll ts s = (m : ℕ) → m ≤ length s → Gone ts s m
 
+-- P is known unless the flag is up
 abbrev pub Unless : Bool → Type 0 → Type 0
 Unless true P = Unit {0}
 Unless false P = P

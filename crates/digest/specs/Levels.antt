@@ -1,5 +1,5 @@
--- The levels of the retry: what a hint says and what it saves (`hint-is`, `hint-next`), that hints and what is gone hold in the suffix that the
--- retry takes (`handed`), and what a level there may still answer (`level-again`). The one real proof is `custom-whole`: a custom prompt that ends a suffix ends the whole.
+-- The levels of the retry: a hint loses no answer and gives the next hint (`hint-is`, `hint-next`), hints and what is gone hold in the suffix that the retry takes (`handed`), and a level there
+-- answers as if it had searched for all (`level-again`). The one real proof is `custom-whole`: a custom prompt that ends a suffix ends the whole.
 use mathlib.Core.Path.{_≡_, refl, sym, ap, _∙_}
 use mathlib.Core.Bool.{Bool, true, false, _||_}
 use mathlib.Core.List.{List, [], _∷_}
@@ -60,10 +60,7 @@ find-same t s e p m q h g =
     let v = found-at t s e p q in
     find-is t s m (At p) (record { after = g; here = v .here; first = λ j a b. v .first j (omega arith) b })
 
-find-none : (t s : List ℕ) (e m : ℕ) → findIn t s e ≡ Nothing → e ≤ m → findIn t s m ≡ Nothing
-find-none t s e m q h = find-is t s m Nothing (λ j g. found-none t s e q j (omega arith))
-
--- and in any suffix
+-- what is nowhere from e on is nowhere further on, in any suffix
 find-lost : (t s : List ℕ) (e k m : ℕ) → e ≤ k + m → findIn t s e ≡ Nothing → findIn t (drop k s) m ≡ Nothing
 find-lost t s e k m h q = find-is t (drop k s) m Nothing (λ j g. stands-drop t s k j ∙ found-none t s e q (k + j) (omega arith))
 
@@ -122,12 +119,11 @@ module _ (x : First) (s : List ℕ) (e d : ℕ) where
       unfolding orHint
       from-passed z k y = ap hint.Next y ∙ (rw z at at-place)
 
--- What a hint d says, where it is right: the rule's answer is the rule's, and the hint for the levels below is right too.
+-- Where the hint d is right, what `first_from` gives is what the rule gives, and its hint for the levels below is right too.
 module _ (x : First) (s : List ℕ) (e d : ℕ) (inside : e ≤ length s) (w : Idle (given x s) s e d) where
   abbrev Right : Hinted → Type 0
   Right r = (hintTried r ≡ given x s e) × ((n : ℕ) → r ≡ hint.Next n → Idle (given x s) s e n)
 
-  -- what is told of a rule with this hint, where t is what it gave
   right-next : (n : ℕ) → given x s e ≡ tries.Next → Idle (given x s) s e n → Right (hint.Next n)
   right-next n q v = (sym q, λ k p. let i : n ≡ k = cc in rw i at v)
 
@@ -144,7 +140,7 @@ module _ (x : First) (s : List ℕ) (e d : ℕ) (inside : e ≤ length s) (w : I
       (λ z m h g. given-found x s m (At p) (find-same (sought x) s e p m q h (omega arith)) ∙ z)
   right-found Nothing q =
       right-next 0 (given-found x s e Nothing q ∙ decided-none x s)
-      (λ m h g. given-found x s m Nothing (find-none (sought x) s e m q h) ∙ decided-none x s)
+      (λ m h g. given-found x s m Nothing (find-lost (sought x) s e 0 m (omega arith) q) ∙ decided-none x s)
 
   right-from : Right (firstFrom x s e d)
   unfolding firstFrom

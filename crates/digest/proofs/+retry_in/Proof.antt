@@ -1,6 +1,6 @@
 -- `retry_in` meets its contract: one law for each way out (`Step`), and what is handed down (`Levels`). The measure is the length of s, which falls as the retry drops at least two bytes.
 use mathlib.Core.Path.{ap}
-use Prim.Native.Nat.{ℕ, _<_, _-_}
+use Prim.Native.Nat.{ℕ, _<_}
 use native.Mathlib.Omega.{arith}
 use lib.ListN.{length, length-take, length-drop}
 use borrow.Author.Tests.{not-true, not-false}

@@ -2,7 +2,6 @@
 use borrow.Author.Tests.{not-true, not-false}
 use Rattle.digest.specs.Laws.{again-lost, again-found}
 use native.Mathlib.Omega.{arith}
-use Prim.Native.Nat.{_-_}
 use borrow.Author.Needs.{needs}
 use Rattle.digest.proofs.again.Statement.{statement}
 use Rattle.digest.proofs.again.Tie as tie
