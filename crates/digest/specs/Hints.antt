@@ -29,7 +29,7 @@ use Rattle.digest.specs.declared.Level.{Level}
 use Rattle.digest.specs.declared.Level.the-variants as level
 use Rattle.digest.specs.Digest.{orElse, promptTried, numericTried, numericFrom, firstCustom, successes, customPrompts, customError, numericErrors, lineErrors}
 
--- The five rules of which only the first occurrence counts: what each gives from e on,
+-- Rules 4 and 5, the five things of which only the first occurrence counts: what each gives from e on,
 abbrev pub given : First → List ℕ → ℕ → Tried
 given first.Greater s e = promptTried (promptFrom 62 s e) 62 s
 given first.Sign s e = promptTried (promptFrom 64 s e) 64 s
@@ -112,14 +112,14 @@ unknown = record { greater = 4097; sign = 4097; cme = 4097; cms = 4097; modem = 
 abbrev pub allIdle : Hints → ℕ → Bool
 allIdle h left = leb (h .greater) left && (leb (h .sign) left && (leb (h .cme) left && (leb (h .cms) left && leb (h .modem) left)))
 
--- `>`, then `@`; and those with the numeric errors behind them
+-- Rule 4 behind the custom prompts: `>`, then `@`. On a level of the retry rule 5's numeric errors follow at once.
 abbrev pub promptBytes : List ℕ → ℕ → Tried
 promptBytes s e = orElse (given first.Greater s e) (given first.Sign s e)
 
 abbrev pub firsts : List ℕ → ℕ → Tried
 firsts s e = orElse (promptBytes s e) (numericErrors s e)
 
--- The rules that look for a line, or an end, in all of buf don't answer from e on; then they don't from anywhere behind it either (`gone-on`).
+-- What of rules 3 to 5 looks for a line, or an end, in all of buf doesn't answer from e on; then it doesn't from anywhere behind it either (`gone-on`).
 pub record Gone (ts : List Token) (s : List ℕ) (e : ℕ) : Type 0 where
   pub success : successes (ofMark mark.Success 0 ts) s e ≡ tries.Next
   pub prompt : customPrompts (ofMark mark.Prompt 0 ts) s e ≡ tries.Next
@@ -135,7 +135,7 @@ abbrev pub Unless : Bool → Type 0 → Type 0
 Unless true P = Unit {0}
 Unless false P = P
 
--- The records with a mark other than UR are the same in the two tables.
+-- Rules 3 to 5 read no UR record: those with another mark are the same in the two tables.
 abbrev pub SameCustoms : List ℕ → List ℕ → Type 0
 SameCustoms t u = (m : Mark) → sameMark mark.Notice m ≡ false → ofMark m 0 (tokens t) ≡ ofMark m 0 (tokens u)
 
