@@ -1,11 +1,10 @@
 #!/usr/bin/env python3
 """An executable reading of document 01 (the scope), written from its text: it shares no line with the Rattle code or its definitions.
 
-It reads the lines that the programs drive and compare read and prints what they must print:
-    tests/model.py drive   < crates/drive/stdin     the origin of crates/drive/stdout
-    tests/model.py compare < cases
+It reads the lines that the program compare reads and prints what it must print:
+    tests/model.py < crates/compare/stdin     the origin of crates/compare/stdout
 Comments cite 01. The readings that 01 leaves open are those of docs/DECISIONS.md; each is marked `reading`.
-The notation of the lines stands in the head comment of crates/script/src/lib.rt.
+The notation of the lines stands in the head comment of crates/notation/src/lib.rt.
 """
 import sys
 
@@ -369,12 +368,10 @@ def plain(text):
     return bytes.fromhex(text)
 
 
-def data_of(text, wide):
-    """A field of bytes: `-`, hex, or (wide only) parts joined by `+`, a part being hex or COUNT*HH."""
+def data_of(text):
+    """A field of bytes: `-`, or parts joined by `+`, a part being hex or COUNT*HH."""
     if text == "-":
         return b""
-    if not wide:
-        return plain(text)
     parts = []
     for part in text.split("+"):
         if "*" in part:
@@ -397,15 +394,15 @@ def number_of(text, most):
     return int(text)
 
 
-def op_of(text, wide):
+def op_of(text):
     """One op as (letter, argument)."""
     letter, rest = text[:1], text[1:]
     if letter in ("W", "A", "O"):
-        return letter, data_of(rest, wide)
+        return letter, data_of(rest)
     limits = {"M": MOST, "P": 255, "E": 65535}
     if letter in limits:
         return letter, number_of(rest, limits[letter])
-    if letter in ("C", "R", "T", "B") or (wide and letter == "L"):
+    if letter in ("C", "R", "T", "L", "B"):
         if rest:
             raise BadLine
         return letter, None
@@ -465,10 +462,10 @@ def state(w):
         shown(w.slot_mem), w.start, w.count, w.queue_lost, shown(w.queue_mem))
 
 
-def scripted(w, ops, wide):
+def scripted(w, ops):
     """All ops of a line, one part each, and the last state."""
     said = ""
-    for letter, x in [] if ops == "-" else [op_of(op, wide) for op in ops.split(";")]:
+    for letter, x in [] if ops == "-" else [op_of(op) for op in ops.split(";")]:
         try:
             said += perform(w, letter, x) + ";"
         except Refused as r:
@@ -498,33 +495,35 @@ def started(w, text):
     w.signalled = flag == 1
 
 
-def answer(line, wide):
-    """The answer to a line."""
+def answer(line):
+    """The answer to a line: a comma in the first field tells its form, else the number of fields."""
     if len(line) > LINE:
         raise BadLine
     fields = line.split(" ")
-    if wide and len(fields) == 6:
-        w = World(*[data_of(f, True) for f in fields[1:5]])
+    if "," in fields[0]:
+        if len(fields) != 6:
+            raise BadLine
+        w = World(*[data_of(f) for f in fields[1:5]])
         started(w, fields[0])
-        return scripted(w, fields[5], True)
-    if not wide and len(fields) == 5:
-        return scripted(World(*[data_of(f, False) for f in fields[:4]]), fields[4], False)
-    if not wide and len(fields) == 2:
-        return digest_case(data_of(fields[0], False), data_of(fields[1], False))
+        return scripted(w, fields[5])
+    if len(fields) == 5:
+        return scripted(World(*[data_of(f) for f in fields[:4]]), fields[4])
+    if len(fields) == 2:
+        return digest_case(data_of(fields[0]), data_of(fields[1]))
     raise BadLine
 
 
 def main():
     """Each line of standard input; blank ones and those that begin with `#` are skipped."""
     sys.setrecursionlimit(10000)
-    if sys.argv[1:] not in (["drive"], ["compare"]):
-        sys.exit("usage: tests/model.py drive|compare < lines")
+    if sys.argv[1:]:
+        sys.exit("usage: tests/model.py < lines")
     for raw in sys.stdin.buffer.read().split(b"\n"):
         line = raw.decode("latin-1")
         if line.startswith("#") or (len(line) <= LINE and line.strip(" \t\r") == ""):
             continue
         try:
-            print(answer(line, sys.argv[1] == "drive"))
+            print(answer(line))
         except BadLine:
             print("bad line")
 

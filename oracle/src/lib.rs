@@ -1,4 +1,4 @@
-//! Runs atat 0.25.0 on the cases that the Rattle program `compare` reads, and compares the two programs' answers.
+//! Runs atat 0.25.0 on cases that the Rattle program `compare` reads, and compares the two programs' answers.
 
 pub mod generate;
 pub mod judge;

@@ -1,4 +1,4 @@
-//! The notation of a case, as the program `compare` reads it: two fields are a digest case, five an ingress case.
+//! What `generate` writes of the notation that the program `compare` reads: two fields are a digest case, five an ingress case; bytes are plain hex.
 
 use std::fmt;
 

@@ -6,7 +6,7 @@ use Prim.Native.Nat.{ℕ}
 use Prim.Native.String.{String}
 use Rattle.text.specs.Bytes.{bytes}
 use Rattle.text.specs.Text.{isBlank, past, keep, trimmed, stands, findIn, partOf}
-use Rattle.table.specs.Outcome.{Outcome, answered, refused}
+use Rattle.outcome.specs.Outcome.{Outcome, answered, refused}
 use Rattle.table.specs.Table.{ruling, tokens, ofMark}
 use Rattle.parser.specs.Parser.{numericError, promptFrom, customPrompt, noticeAt}
 use Rattle.answers.specs.declared.Kind.{Kind}

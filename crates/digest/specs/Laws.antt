@@ -1,4 +1,4 @@
--- Laws of the rules: the ways out of each function, over plain lists. Assumes nothing.
+-- Laws of the rules: the ways out of each function, over plain lists.
 use mathlib.Core.Path.{_≡_, refl, sym, ap, _∙_}
 use mathlib.Core.Bool.{Bool, true, false}
 use mathlib.Core.List.{List, [], _∷_}

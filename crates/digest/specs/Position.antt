@@ -1,7 +1,7 @@
 -- What stands at a place, by position: each form of `Finished` is what the parser's definition computes, both ways.
--- Rests on the parser's definitions not seeing what stands before the place (`..-moved`), so that it is enough to look at place 0. Assumes nothing.
+-- Rests on the parser's definitions not seeing what stands before the place (`..-moved`), so that it is enough to look at place 0.
 use mathlib.Core.Path.{_≡_, refl, sym, ap, _∙_}
-use mathlib.Core.Logic.{_⊎_, ⊎-elim}
+use mathlib.Core.Logic.{⊎-elim}
 use mathlib.Core.Bool.{Bool, true, false, _&&_}
 use mathlib.Core.List.{List, [], _∷_, _++_}
 use Prim.Native.Nat.{ℕ, zero, suc, _+_, _*_, _-_, _≤_, _<_}

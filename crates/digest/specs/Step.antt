@@ -1,5 +1,5 @@
 -- The digester's own equation, with no fuel in it, and that an answer stays within its input.
--- Rests on the retry's suffix being shorter; everything above goes by `digest-step` and by induction on the length. Assumes nothing.
+-- Rests on the retry's suffix being shorter; everything above goes by `digest-step` and by induction on the length.
 use mathlib.Core.Path.{_≡_, refl, sym, ap, _∙_}
 use mathlib.Core.Bool.{Bool, true, false}
 use mathlib.Core.List.{List, [], _∷_}

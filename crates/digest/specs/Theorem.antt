@@ -1,6 +1,5 @@
 -- Demand 3, first half: a digest under good texts answers None exactly where no line start holds a finished item; and an item that was
 -- found ends where the consumed count says. One level is taken apart by inversion of its chain of rules; the retry by induction on the length.
--- Assumes nothing.
 use mathlib.Core.Path.{_≡_, refl, sym, ap, _∙_}
 use mathlib.Core.Logic.{_⊎_, inl, inr, ⊎-elim}
 use mathlib.Core.Bool.{Bool, true, false, _||_}
@@ -20,7 +19,7 @@ use Rattle.text.specs.Laws.{found-at, found-none, stands-drop, stands-front, st
 use Rattle.text.specs.declared.Blanks.the-variants as sets
 use Rattle.text.specs.declared.Found.{Found}
 use Rattle.text.specs.declared.Found.the-variants.{At, Nothing}
-use Rattle.table.specs.Outcome.{Outcome, answered, refused}
+use Rattle.outcome.specs.Outcome.{Outcome, answered, refused}
 use Rattle.table.specs.Table.{isText, Token, Entry, ofMark, tokens, ruling}
 use Rattle.table.specs.Laws.{Texts, EntryTexts, mark-texts, text-some, text-byte, good-tokens}
 use Rattle.table.specs.declared.Mark.the-variants as mark

@@ -1,11 +1,10 @@
 -- The calls of document 01 as numbers: what an export returns and leaves.
-use mathlib.Core.Bool.{Bool, true, false}
 use mathlib.Core.List.{List, [], _∷_}
 use Prim.Native.Nat.{ℕ}
 use lib.ListN.{length}
 use lib.Dec.{eqb}
 use Rattle.text.specs.Text.{partOf, partAt}
-use Rattle.table.specs.Outcome.{Outcome, answered, refused}
+use Rattle.outcome.specs.Outcome.{Outcome, answered, refused, if_then_else_}
 use Rattle.slot.specs.Slot.{Reading}
 use Rattle.slot.specs.Slot as slots
 use Rattle.slot.specs.declared.Slot.{Slot}
@@ -69,12 +68,8 @@ abbrev pub putSaid : queues.After → List ℕ → Turn
 putSaid w v = turn (numberOf (w .said)) (numbersBy withQueue (w .said) v) (w .memory)
 
 -- a look: 1, what is held, its number and its payload's length; of a free slot 0 and no more
-abbrev pub readBy : Bool → Slot → List ℕ
-readBy true x = 1 ∷ heldNumber (x .held) ∷ x .number ∷ x .len ∷ []
-readBy false x = 0 ∷ []
-
 abbrev pub readValues : Reading → List ℕ
-readValues r = readBy (r .there) (r .slot)
+readValues r = if r .there then 1 ∷ heldNumber (r .slot .held) ∷ r .slot .number ∷ r .slot .len ∷ [] else 0 ∷ []
 
 -- a take: 1, the notice's table number, its payload's place and length; from an empty queue 0 and no more, and nothing changes
 abbrev pub gotValues : Got → List ℕ
@@ -108,14 +103,10 @@ pub record Whole : Type 0 where
 abbrev pub whole : ℕ → List ℕ → List ℕ → List ℕ → List ℕ → List ℕ → Whole
 whole n v o b m q = record { number = n; state = v; out = o; buf = b; slotMemory = m; queueMemory = q }
 
-abbrev pub orKept : Bool → List ℕ → State → List ℕ
-orKept true v s = stateNumbers s
-orKept false v s = v
-
 -- Refused 1 to 4 the nine numbers are as they stood; else they are those of the state that is left.
 abbrev pub numbersLeft : {A : Type 0} → Outcome A → List ℕ → State → List ℕ
 numbersLeft (answered x) v s = stateNumbers s
-numbersLeft (refused n w) v s = orKept (eqb n 5) v s
+numbersLeft (refused n w) v s = if eqb n 5 then stateNumbers s else v
 
 abbrev pub wholeSaid : {A : Type 0} → (A → List ℕ) → Result A → List ℕ → List ℕ → Whole
 wholeSaid f r v o = whole (numberOf (r .said)) (numbersLeft (r .said) v (r .left .state)) (laid (valuesOf f (r .said)) o) (r .left .buf) (r .left .slotMemory) (r .left .queueMemory)

@@ -1,4 +1,4 @@
--- The ways out of the exports, each with what led there. Assumes nothing.
+-- The ways out of the exports, each with what led there.
 use mathlib.Core.Path.{_≡_, refl, sym, ap, _∙_}
 use mathlib.Core.Bool.{Bool, true, false}
 use mathlib.Core.List.{List, [], _∷_}
@@ -6,7 +6,7 @@ use Prim.Native.Nat.{ℕ, _+_}
 use lib.ListN.{length}
 use lib.Dec.{leb}
 use Rattle.text.specs.Text.{partOf, partAt, orFront}
-use Rattle.table.specs.Outcome.{Outcome}
+use Rattle.outcome.specs.Outcome.{Outcome}
 use Rattle.answers.specs.declared.Answer.{Answer}
 use Rattle.slot.specs.Slot as slots
 use Rattle.slot.specs.declared.Slot.{Slot}
@@ -21,7 +21,7 @@ use Rattle.ingress.specs.declared.State.{State}
 use Rattle.ingress.specs.declared.Advanced.{Advanced}
 use Rattle.ingress.specs.declared.Written.{Written}
 use Rattle.numbers.specs.Numbers.{heldNumber, answerOf, slotOf, queueOf, stateOf, withSlot, withQueue, laid}
-use Rattle.gateway.specs.Gateway.{numberOf, valuesOf, Call, call, said, partValues, numbersBy, resetSaid, Turn, turn, signalSaid, putSaid, readBy, gotValues, withGot, Take, took, takeSaid, Whole, whole, numbersLeft, wholeSaid, countValues, noValues}
+use Rattle.gateway.specs.Gateway.{numberOf, valuesOf, Call, call, said, partValues, numbersBy, resetSaid, Turn, turn, signalSaid, putSaid, readValues, gotValues, withGot, Take, took, takeSaid, Whole, whole, numbersLeft, wholeSaid, countValues, noValues}
 
 -- an export returns its call's number, with the values at the front of the array
 pub says : {A : Type 0} (f : A → List ℕ) (o : List ℕ) (x y : Outcome A) → x ≡ y → (q : List ℕ) → q ≡ laid (valuesOf f x) o → call (numberOf x) q ≡ said f y o
@@ -32,7 +32,7 @@ pub part-is : (s o : List ℕ) (place len : ℕ) (p : List ℕ) → p ≡ partOf
 part-is s o place len p e a g q h = h ∙ (λ i. laid (g i ∷ length (e i) ∷ []) o)
 
 -- what a look at a signalled slot answers, and the payload that it holds
-pub look-is : (o : List ℕ) (x : Slot) (h : ℕ) → h ≡ heldNumber (x .held) → (q : List ℕ) → q ≡ laid (1 ∷ h ∷ x .number ∷ x .len ∷ []) o → q ≡ laid (readBy true x) o
+pub look-is : (o : List ℕ) (x : Slot) (h : ℕ) → h ≡ heldNumber (x .held) → (q : List ℕ) → q ≡ laid (1 ∷ h ∷ x .number ∷ x .len ∷ []) o → q ≡ laid (readValues (record { there = true; slot = x })) o
 look-is o x h e q f = f ∙ ap (λ (n : ℕ). laid (1 ∷ n ∷ x .number ∷ x .len ∷ []) o) e
 
 front-at : (b : Bool) → 0 ≡ orFront b 0

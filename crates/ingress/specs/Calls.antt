@@ -1,11 +1,10 @@
 -- A client's calls under one table, each starting from the state and memories that the last one left; and what can be told of them: the winter's fault, shut out.
 use mathlib.Core.Path.{_≡_}
-use mathlib.Core.Bool.{Bool, true, false}
 use mathlib.Core.List.{List, [], _∷_, _++_, map}
 use Prim.Native.Nat.{ℕ, _%_}
 use lib.ListN.{take}
 use Rattle.text.specs.Text.{partOf}
-use Rattle.table.specs.Outcome.{Outcome, answered, refused}
+use Rattle.outcome.specs.Outcome.{Outcome, answered, refused, if_then_else_}
 use Rattle.digest.specs.Digest.{digestChecked}
 use Rattle.slot.specs.Slot.{wasReset}
 use Rattle.slot.specs.declared.Slot.{Slot}
@@ -39,14 +38,10 @@ leftBy t clear w = emptied w
 leftBy t takeOne w = afterTake w (taken ours (w .state .queue) (w .queueMemory))
 leftBy t reset w = afterReset w (wasReset (w .state .slot) (w .slotMemory))
 
-abbrev pub bytesIf : Bool → List ℕ → List ℕ
-bytesIf true b = b
-bytesIf false b = []
-
 -- the bytes offered that it takes
 abbrev pub tookBy : List ℕ → Call → World → List ℕ
 tookBy t (write p) w = take (tookOf (written t p w .said)) p
-tookBy t (advance c) w = bytesIf (takesBytes (advanced t c w .said)) (committedBytes w c)
+tookBy t (advance c) w = if takesBytes (advanced t c w .said) then committedBytes w c else []
 tookBy t clear w = []
 tookBy t takeOne w = []
 tookBy t reset w = []

@@ -1,26 +1,27 @@
--- An advance and a write keep what they promise: no byte is lost, and nothing finished is left. From the laws of a run. Assumes nothing.
+-- An advance and a write keep what they promise: no byte is lost, and nothing finished is left. From the laws of a run.
 use mathlib.Core.Path.{_≡_, refl, sym, ap, _∙_}
 use mathlib.Core.Logic.{⊎-elim}
-use mathlib.Core.Bool.{Bool, true, false}
+use mathlib.Core.Bool.{Bool, true, false, not}
 use mathlib.Core.List.{List, [], _∷_, _++_, append-nil, append-assoc, map}
 use Prim.Native.Nat.{ℕ, zero, suc, _+_, _-_, _≤_, _<_, min}
 use native.Mathlib.Nat.{eq-or-lt-of-le}
 use native.Mathlib.Omega.{arith}
 use lib.ListN.{length, take, drop, length-drop}
 use lib.Seq.{take-add, drop-drop, length-take-le}
-use lib.Dec.{leb}
-use borrow.Author.Tests.{eqb-true, leb-true, leb-false}
+use lib.Dec.{leb, ltb}
+use borrow.Author.Tests.{eqb-true, leb-true, leb-false, ltb-false}
 use Rattle.text.specs.Logic.{false-true}
 use Rattle.moves.specs.Moves.{put}
 use Rattle.moves.specs.Laws.{put-length, put-held}
-use Rattle.table.specs.Outcome.{Outcome, answered, refused}
+use Rattle.outcome.specs.Outcome.{Outcome, answered, refused, if_then_else_}
+use Rattle.outcome.specs.Laws.{ways}
 use Rattle.table.specs.Table.{tokens, ruling}
 use Rattle.table.specs.Laws.{ruling-two}
 use Rattle.digest.specs.Finished.{NothingFinished}
 use Rattle.ingress.specs.declared.State.{State}
-use Rattle.ingress.specs.Ingress.{World, world, held, End, finished, full, run, isSound, Result, refusedAt, unless, underTable, checks, unlessRefused, ifRoom, ended, committed, advanced, Writing, wrote, stopped, copied, afterCopy, unlessNone, writeOnce, copyOn, thenWrite, writeBy, write, answering, written}
+use Rattle.ingress.specs.Ingress.{World, world, held, End, finished, full, run, isSound, Result, refusedAt, underTable, checks, unlessRefused, ended, committed, advanced, Writing, wrote, stopped, copied, afterCopy, writeOnce, thenWrite, writeBy, write, answering, written}
 use Rattle.ingress.specs.Laws.{Good, passed, sound-parts, sound-queue, good-inside, bytes-of, once-taken}
-use Rattle.ingress.specs.Story.{Turn, Event, arrived, consumed, dropped, handed, freed, cameBy, flat, Arrives, Story, Fed, Over, Waits, Keeps, committedBytes, NothingLeft, fiveOnly, tookOf, NothingAfter}
+use Rattle.ingress.specs.Story.{Turn, Event, arrived, consumed, dropped, handed, freed, cameBy, flat, Arrives, Story, Fed, Over, Waits, Keeps, committedBytes, NothingLeft, tookOf, NothingAfter}
 use Rattle.ingress.specs.Kept.{story-bytes, Ended, Ends, run-ends}
 
 -- stories one after the other
@@ -31,7 +32,7 @@ flat-append f (e ∷ l) k = ap (λ (y : List _). f e ++ y) (flat-append f l k) �
 
 pub story-append : (t : List ℕ) (l k : List Event) (w u v : World) → Story t w l u → Story t u k v → Story t w (l ++ k) v
 story-append t [] k w u v a b = rw a b
-story-append t (e ∷ l) k w u v a b = record { at = a .at; first = a .first; then = story-append t l k (a .at) u v (a .then) b }
+story-append t (e ∷ l) k w u v a b = record { at = a .at; first = a .first; rest = story-append t l k (a .at) u v (a .rest) b }
 
 fed-append : (l k : List Event) → Fed l → Fed k → Fed (l ++ k)
 fed-append [] k a b = b
@@ -59,7 +60,7 @@ module _ (t : List ℕ) (w v : World) where
   over-run : (b : List ℕ) (u : World) → Arrives w b u → Ended t u v → Over t w b v
   unfolding flat
   over-run b u a e =
-      over-by b (arrived b ∷ map consumed (e .turns)) (record { at = u; first = a; then = e .story }) (fed-turns (e .turns))
+      over-by b (arrived b ∷ map consumed (e .turns)) (record { at = u; first = a; rest = e .story }) (fed-turns (e .turns))
       (ap (λ (y : List ℕ). b ++ y) (flat-turns cameBy (λ x. refl) (e .turns)) ∙ append-nil b)
 
   over-more : (b c : List ℕ) (u : World) → Over t w b u → Over t u c v → Over t w (b ++ c) v
@@ -102,16 +103,16 @@ abbrev number-of : {A : Type 0} → Outcome A → ℕ
 number-of (answered x) = 0
 number-of (refused n v) = n
 
-low-by : (t : List ℕ) (a c : Bool) (r : Outcome ℕ) → ruling t ≡ r → (n : ℕ) (v : List ℕ) → _≡_ {A = Outcome (Unit {0})} (refused n v) (unless a 1 (underTable r (unless c 3 (answered tt)))) → n < 5
-unfolding unless underTable
-low-by t true true (answered k) q n v e = let z : _≡_ {A = ℕ} 0 1 = cc in absurd (omega arith)
-low-by t true false (answered k) q n v e = omega (arith, ap number-of e)
-low-by t true c (refused k u) q n v e = omega (arith, ap number-of e, ruling-two t k u q)
-low-by t false c r q n v e = omega (arith, ap number-of e)
+low-by : (t : List ℕ) (a c : Bool) (r : Outcome ℕ) → ruling t ≡ r → (n : ℕ) (v : List ℕ) → _≡_ {A = Outcome (Unit {0})} (refused n v) (if a then refused 1 [] else underTable r (if not c then refused 3 [] else answered tt)) → n < 5
+unfolding underTable
+low-by t false true (answered k) q n v e = let z : _≡_ {A = ℕ} 0 1 = cc in absurd (omega arith)
+low-by t false false (answered k) q n v e = omega (arith, ap number-of e)
+low-by t false c (refused k u) q n v e = omega (arith, ap number-of e, ruling-two t k u q)
+low-by t true c r q n v e = omega (arith, ap number-of e)
 
 checks-low : (t : List ℕ) (s : State) (b m k n : ℕ) (v : List ℕ) → refused n v ≡ checks t s b m k → n < 5
 unfolding checks
-checks-low t s b m k n v e = low-by t (leb b 4096) (isSound s b m k) (ruling t) refl n v e
+checks-low t s b m k n v e = low-by t (ltb 4096 b) (isSound s b m k) (ruling t) refl n v e
 
 -- a call that is refused 1 to 4 keeps everything
 module _ {A : Type 0} (t : List ℕ) (w : World) (b : List ℕ) (n : ℕ) (v : List ℕ) (h : n < 5) where
@@ -131,16 +132,17 @@ module _ (t : List ℕ) (c : ℕ) (w : World) where
   at-end b u a (full v) e =
       (record { same = λ q. absurd (false-true refl q); over = λ q. over-run t w v b u a (e .0); waits = λ q x. e .1 }, λ q. absurd (false-true q refl))
 
-  if-room : (b : Bool) → leb c (length (w .buf) - w .state .end) ≡ b → Good t w → AdvanceKeeps t c w (ifRoom b w (ended (run t (committed w c))))
-  unfolding ifRoom
-  if-room true q g =
-      let h = leb-true c (length (w .buf) - w .state .end) q in
-      at-end (committedBytes w c) (committed w c) (commit-arrives t w g c) (run t (committed w c)) (run-ends t (committed w c) (commit-good t w g c h))
-  if-room false q g = (refused-keeps t w (committedBytes w c) 4 [] (omega arith), λ x. absurd (false-true x refl))
+  room-keeps : Good t w → AdvanceKeeps t c w (if ltb (length (w .buf) - w .state .end) c then refusedAt 4 [] w else ended (run t (committed w c)))
+  room-keeps g =
+      ways (AdvanceKeeps t c w) (ltb (length (w .buf) - w .state .end) c)
+      (λ q. (refused-keeps t w (committedBytes w c) 4 [] (omega arith), λ x. absurd (false-true x refl)))
+      (λ q.
+      let h = ltb-false (length (w .buf) - w .state .end) c q in
+      at-end (committedBytes w c) (committed w c) (commit-arrives t w g c) (run t (committed w c)) (run-ends t (committed w c) (commit-good t w g c h)))
 
-  unless-refused : (o : Outcome (Unit {0})) → o ≡ checks t (w .state) (length (w .buf)) (length (w .slotMemory)) (length (w .queueMemory)) → AdvanceKeeps t c w (unlessRefused o w (ifRoom (leb c (length (w .buf) - w .state .end)) w (ended (run t (committed w c)))))
+  unless-refused : (o : Outcome (Unit {0})) → o ≡ checks t (w .state) (length (w .buf)) (length (w .slotMemory)) (length (w .queueMemory)) → AdvanceKeeps t c w (unlessRefused o w (if ltb (length (w .buf) - w .state .end) c then refusedAt 4 [] w else ended (run t (committed w c))))
   unfolding unlessRefused
-  unless-refused (answered x) q = if-room (leb c (length (w .buf) - w .state .end)) refl (passed t w q)
+  unless-refused (answered x) q = room-keeps (passed t w q)
   unless-refused (refused n v) q =
       (refused-keeps t w (committedBytes w c) n v (checks-low t (w .state) (length (w .buf)) (length (w .slotMemory)) (length (w .queueMemory)) n v q), λ x. absurd (false-true x refl))
 
@@ -169,16 +171,14 @@ module _ (t p : List ℕ) (w : World) (g : Good t w) where
       (omega arith, record { over = over-run t w v (take n p) u a (e .0); good = e .0 .good }, λ z. absurd (omega arith), λ z. e .1)
   copy-tells n h u a (full v) e = (omega arith, record { over = over-run t w v (take n p) u a (e .0); good = e .0 .good }, e .1)
 
-  none-tells : (b : Bool) (n : ℕ) → leb 1 n ≡ b → n ≤ length p → n ≤ length (w .buf) - w .state .end → Tells t (λ k. take k p) 0 w (unlessNone b w (afterCopy (run t (copied w (take n p))) n))
-  unfolding unlessNone
-  none-tells true n q h i =
-      let l = length-take-le n p h in
-      copy-tells n (leb-true 1 n q) (copied w (take n p)) (copy-arrives t w g (take n p) (omega arith)) (run t (copied w (take n p))) (run-ends t (copied w (take n p)) (copy-good t w g (take n p) (omega arith)))
-  none-tells false n q h i = (omega arith, record { over = over-none t w; good = g }, λ z. refl, λ z. absurd (omega arith))
-
   once-tells : Tells t (λ k. take k p) 0 w (writeOnce t p w)
   unfolding writeOnce
-  once-tells = none-tells (leb 1 (min (length p) (length (w .buf) - w .state .end))) (min (length p) (length (w .buf) - w .state .end)) refl (omega arith) (omega arith)
+  once-tells =
+      let n = min (length p) (length (w .buf) - w .state .end) in
+      let l : length (take n p) ≡ n = length-take-le n p (omega arith) in
+      ways (Tells t (λ k. take k p) 0 w) (leb 1 n)
+      (λ q. copy-tells n (leb-true 1 n q) (copied w (take n p)) (copy-arrives t w g (take n p) (omega arith)) (run t (copied w (take n p))) (run-ends t (copied w (take n p)) (copy-good t w g (take n p) (omega arith))))
+      (λ q. (omega arith, record { over = over-none t w; good = g }, λ z. refl, λ z. absurd (omega arith)))
 
 -- the piece from j on
 abbrev from : List ℕ → ℕ → ℕ → List ℕ
@@ -207,19 +207,18 @@ module _ (t p : List ℕ) (j n : ℕ) (w u : World) (a : Took t w (take n (drop 
   tells-more h z (stopped k v) (c, b, f) = (omega arith, took-more k v c b, f)
 
 module _ (t p : List ℕ) (j : ℕ) (w : World) (f : ℕ → World → Writing) (h : (u : World) (n : ℕ) → Good t u → 1 ≤ n → n ≤ length p - j → Tells t (from p (j + n)) (j + n) u (f (j + n) u)) where
-  on-tells : (b : Bool) (n : ℕ) (u : World) → leb 1 n ≡ b → n ≤ length p - j → Tells t (λ k. take k (drop j p)) 0 w (wrote n u) → Tells t (from p j) j w (copyOn b j u (f (j + n) u))
-  unfolding copyOn
-  on-tells true n u q l (c, b, i, z) =
-      let o = leb-true 1 n q in
-      tells-more t p j n w u b o (z o) (f (j + n) u) (h u n (b .good) o l)
-  on-tells false n u q l (c, b, i, z) =
+  on-tells : (n : ℕ) (u : World) → n ≤ length p - j → Tells t (λ k. take k (drop j p)) 0 w (wrote n u) → Tells t (from p j) j w (if leb 1 n then f (j + n) u else wrote j u)
+  on-tells n u l (c, b, i, z) =
+      ways (Tells t (from p j) j w) (leb 1 n)
+      (λ q. let o = leb-true 1 n q in tells-more t p j n w u b o (z o) (f (j + n) u) (h u n (b .good) o l))
+      (λ q.
       let y : n ≡ 0 = omega (arith, leb-false 1 n q) in
       let e : take n (drop j p) ≡ from p j j = let d : n ≡ j - j = omega arith in ap (λ (k : ℕ). take k (drop j p)) d in
-      (omega arith, rw (sym e) b, λ x. i y, λ x. absurd (omega arith))
+      (omega arith, rw (sym e) b, λ x. i y, λ x. absurd (omega arith)))
 
   then-tells : (s : Writing) → bytes-of s ≤ length p - j → Tells t (λ k. take k (drop j p)) 0 w s → Tells t (from p j) j w (thenWrite s j f)
   unfolding thenWrite
-  then-tells (wrote n u) l e = on-tells (leb 1 n) n u refl l e
+  then-tells (wrote n u) l e = on-tells n u l e
   then-tells (stopped n u) l (c, b, i) = (omega arith, rw (sym (from-some p j n)) b, i)
 
 write-by-tells : (m : ℕ) (t p : List ℕ) (j : ℕ) (w : World) → Good t w → length p - j < m → Tells t (from p j) j w (writeBy m t p j w)
@@ -238,7 +237,7 @@ module _ (t p : List ℕ) (w : World) where
   whole-piece n = let e : n - 0 ≡ n = omega arith in ap (λ (k : ℕ). take k p) e
 
   answer-keeps : (r : Writing) → Tells t (from p 0) 0 w r → WriteKeeps t p w (answering r)
-  unfolding answering fiveOnly
+  unfolding answering
   answer-keeps (wrote n v) (c, b, i, z) = (
     record { same = λ q. absurd (false-true refl q); over = λ q. rw (sym (whole-piece n)) (b .over); waits = λ q x. absurd (false-true refl x) },
     λ o q. z o,

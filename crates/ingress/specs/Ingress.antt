@@ -1,12 +1,12 @@
 -- The ingress in document 01's words.
-use mathlib.Core.Bool.{Bool, true, false, _&&_}
+use mathlib.Core.Bool.{Bool, true, false, _&&_, not}
 use mathlib.Core.List.{List, [], _∷_}
 use Prim.Native.Nat.{ℕ, zero, suc, _+_, _-_, _%_, min}
 use lib.ListN.{length, take, drop}
-use lib.Dec.{leb}
+use lib.Dec.{leb, ltb}
 use Rattle.text.specs.Text.{partOf}
 use Rattle.moves.specs.Moves.{put, moved}
-use Rattle.table.specs.Outcome.{Outcome, answered, refused}
+use Rattle.outcome.specs.Outcome.{Outcome, answered, refused, if_then_else_}
 use Rattle.answers.specs.declared.Kind.{Kind}
 use Rattle.answers.specs.declared.Kind.the-variants as kind
 use Rattle.answers.specs.declared.Answer.{Answer}
@@ -73,14 +73,11 @@ toQueue s m w = record { waits = isRefused (w .said); slot = s .slot; slotMemory
 abbrev pub toSlot : State → List ℕ → slots.After → Delivery
 toSlot s m w = record { waits = isRefused (w .said); slot = orSame (s .slot) (w .said); slotMemory = w .memory; queue = s .queue; queueMemory = m }
 
-unfoldable pub toEither : Bool → State → Answer → List ℕ → List ℕ → List ℕ → Delivery
-toEither true s a p m n = toQueue s m (putInto ours (s .queue) (a .number % 256) p n)
-toEither false s a p m n = toSlot s n (signalled (s .slot) a p m)
-
 -- To deliver is to signal an answer to the slot, and to write a notice that isn't lost as the record next after those held; None delivers nothing.
 unfoldable pub deliver : State → Answer → List ℕ → List ℕ → List ℕ → Delivery
-unfolding toEither
-deliver s a p m n = toEither (isNotice (a .kind)) s a p m n
+deliver s a p m n =
+    if isNotice (a .kind) then toQueue s m (putInto ours (s .queue) (a .number % 256) p n)
+    else toSlot s n (signalled (s .slot) a p m)
 
 abbrev pub delivery : State → Delivered → List ℕ → List ℕ → Delivery
 delivery s (delivers.Is t) m n = record { waits = false; slot = t .slot; slotMemory = m; queue = t .queue; queueMemory = n }
@@ -105,18 +102,16 @@ pub data Step : Type 0 where
   went : World → ℕ → Step
   stuck : World → Step
 
-unfoldable pub onward : Bool → World → Answer → Delivery → Step
-onward true w a d = stuck (world (w .state) (w .buf) (d .slotMemory) (d .queueMemory))
-onward false w a d =
-    went
-    (world (record { end = w .state .end - a .consumed; slot = d .slot; queue = d .queue }) (moved (w .buf) (a .consumed) (w .state .end)) (d .slotMemory) (d .queueMemory))
-    (a .consumed)
+-- A notice that must wait stays; else what is consumed is gone, and the rest is at the front.
+unfoldable pub onward : World → Answer → Delivery → Step
+onward w a d =
+    if d .waits then stuck (world (w .state) (w .buf) (d .slotMemory) (d .queueMemory))
+    else went (world (record { end = w .state .end - a .consumed; slot = d .slot; queue = d .queue }) (moved (w .buf) (a .consumed) (w .state .end)) (d .slotMemory) (d .queueMemory)) (a .consumed)
 
 unfoldable pub answered-by : World → Answer → Step
 unfolding onward
 answered-by w a =
-    let d = deliver (w .state) a (partOf (held w) (a .place) (a .len)) (w .slotMemory) (w .queueMemory) in
-    onward (d .waits) w a d
+    onward w a (deliver (w .state) a (partOf (held w) (a .place) (a .len)) (w .slotMemory) (w .queueMemory))
 
 -- Digest what is in the buffer, deliver, move the rest to the front.
 unfoldable pub once : List ℕ → World → Step
@@ -132,24 +127,15 @@ pub data End : Type 0 where
   finished : World → End
   full : World → End
 
-unfoldable pub goOn : Bool → World → End → End
-goOn true w r = r
-goOn false w r = finished w
-
 unfoldable pub thenRun : Step → (World → End) → End
-unfolding goOn
-thenRun (went w n) f = let r = f w in goOn (leb 1 n) w r
+thenRun (went w n) f = let r = f w in if leb 1 n then r else finished w
 thenRun (stuck w) f = full w
-
-unfoldable pub unlessEmpty : Bool → World → End → End
-unlessEmpty true w r = r
-unlessEmpty false w r = finished w
 
 -- with fuel, of which one more than the bytes held is enough
 unfoldable pub runBy : ℕ → List ℕ → World → End
-unfolding thenRun unlessEmpty once
+unfolding thenRun once
 runBy zero t w = finished w
-runBy (suc n) t w = let r = thenRun (once t w) (runBy n t) in unlessEmpty (leb 1 (w .state .end)) w r
+runBy (suc n) t w = let r = thenRun (once t w) (runBy n t) in if leb 1 (w .state .end) then r else finished w
 
 -- Repeats: digest, deliver, move, until the digest consumes 0 or nothing is left.
 unfoldable pub run : List ℕ → World → End
@@ -175,18 +161,14 @@ done x w = record { said = answered x; left = w }
 abbrev pub refusedAt : {A : Type 0} → ℕ → List ℕ → World → Result A
 refusedAt n v w = record { said = refused n v; left = w }
 
-unfoldable pub unless : {A : Type 0} → Bool → ℕ → Outcome A → Outcome A
-unless true n r = r
-unless false n r = refused n []
-
 unfoldable pub underTable : {A : Type 0} → Outcome ℕ → Outcome A → Outcome A
 underTable (answered k) r = r
 underTable (refused n v) r = refused n v
 
 -- Refusals 1, 2 and 3, in this order: the buffer is over 4,096 bytes, the table breaks a rule, the state isn't sound.
 unfoldable pub checks : List ℕ → State → ℕ → ℕ → ℕ → Outcome (Unit {0})
-unfolding unless underTable isSound
-checks t s b m n = unless (leb b 4096) 1 (underTable (ruling t) (unless (isSound s b m n) 3 (answered tt)))
+unfolding underTable isSound
+checks t s b m n = if ltb 4096 b then refused 1 [] else underTable (ruling t) (if not (isSound s b m n) then refused 3 [] else answered tt)
 
 abbrev pub refusal : Checks → Outcome (Unit {0})
 refusal says.Good = answered tt
@@ -202,11 +184,6 @@ unlessRefused (refused n v) w r = refusedAt n v w
 abbrev pub checked : {A : Type 0} → List ℕ → World → Result A → Result A
 checked t w r = unlessRefused (checks t (w .state) (length (w .buf)) (length (w .slotMemory)) (length (w .queueMemory))) w r
 
--- Refusal 4: the commit is more than the room.
-unfoldable pub ifRoom : {A : Type 0} → Bool → World → Result A → Result A
-ifRoom true w r = r
-ifRoom false w r = refusedAt 4 [] w
-
 unfoldable pub ended : End → Result (Unit {0})
 ended (finished w) = done tt w
 ended (full w) = refusedAt 5 [] w
@@ -215,10 +192,10 @@ ended (full w) = refusedAt 5 [] w
 abbrev pub committed : World → ℕ → World
 committed w c = world (record { end = w .state .end + c; slot = w .state .slot; queue = w .state .queue }) (w .buf) (w .slotMemory) (w .queueMemory)
 
--- Advance adds the commit and runs turns, of which refusal 5 leaves those finished.
+-- Advance adds the commit and runs turns, of which refusal 5 leaves those finished. Refusal 4: the commit is more than the room.
 unfoldable pub advanced : List ℕ → ℕ → World → Result (Unit {0})
-unfolding unlessRefused ifRoom ended checks
-advanced t c w = checked t w (ifRoom (leb c (length (w .buf) - w .state .end)) w (ended (run t (committed w c))))
+unfolding unlessRefused ended checks
+advanced t c w = checked t w (if ltb (length (w .buf) - w .state .end) c then refusedAt 4 [] w else ended (run t (committed w c)))
 
 -- document 01's number and values for each case, and the state that is left
 abbrev pub outcome : Advanced → Outcome (Unit {0})
@@ -253,25 +230,16 @@ unfoldable pub afterCopy : End → ℕ → Writing
 afterCopy (finished w) n = wrote n w
 afterCopy (full w) n = stopped n w
 
-unfoldable pub unlessNone : Bool → World → Writing → Writing
-unlessNone true w r = r
-unlessNone false w r = wrote 0 w
-
 -- Copies as much as fits, and advances. Where nothing fits, or nothing is left, nothing is digested.
 unfoldable pub writeOnce : List ℕ → List ℕ → World → Writing
-unfolding unlessNone afterCopy
+unfolding afterCopy
 writeOnce t p w =
     let n = min (length p) (length (w .buf) - w .state .end) in
-    unlessNone (leb 1 n) w (afterCopy (run t (copied w (take n p))) n)
-
-unfoldable pub copyOn : Bool → ℕ → World → Writing → Writing
-copyOn true k w r = r
-copyOn false k w r = wrote k w
+    if leb 1 n then afterCopy (run t (copied w (take n p))) n else wrote 0 w
 
 -- after a copy that took n bytes, where k were taken before it
 unfoldable pub thenWrite : Writing → ℕ → (ℕ → World → Writing) → Writing
-unfolding copyOn
-thenWrite (wrote n w) k f = let r = f (k + n) w in copyOn (leb 1 n) k w r
+thenWrite (wrote n w) k f = let r = f (k + n) w in if leb 1 n then r else wrote k w
 thenWrite (stopped n w) k f = stopped (k + n) w
 
 -- with fuel, of which one more than the bytes not yet taken is enough

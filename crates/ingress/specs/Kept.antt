@@ -1,8 +1,8 @@
--- What a turn and a run keep: they stay within the bounds, lose no byte and add each notice once. From laws that the layers below export. Assumes nothing.
+-- What a turn and a run keep: they stay within the bounds, lose no byte and add each notice once. From laws that the layers below export.
 use mathlib.Core.Path.{_≡_, refl, sym, ap, _∙_}
 use mathlib.Core.Bool.{Bool, true, false}
 use mathlib.Core.List.{List, [], _∷_, _++_, append-nil, append-assoc, map}
-use Prim.Native.Nat.{ℕ, zero, suc, _+_, _-_, _%_, _≤_, _<_}
+use Prim.Native.Nat.{ℕ, zero, suc, _-_, _%_, _≤_, _<_}
 use native.Mathlib.Omega.{arith}
 use lib.ListN.{length, take, take-append-drop}
 use lib.Seq.{length-take-le}
@@ -12,7 +12,8 @@ use Rattle.text.specs.Logic.{false-true, not-true-false}
 use Rattle.text.specs.Laws.{part-take}
 use Rattle.moves.specs.Moves.{moved}
 use Rattle.moves.specs.Laws.{moved-length, moved-held, moved-still}
-use Rattle.table.specs.Outcome.{Outcome, answered, refused}
+use Rattle.outcome.specs.Outcome.{Outcome, answered, refused, if_then_else_}
+use Rattle.outcome.specs.Laws.{ways, same-way}
 use Rattle.table.specs.Table.{tokens}
 use Rattle.answers.specs.Answer.{kindFound}
 use Rattle.digest.specs.Digest.{digestChecked}
@@ -31,9 +32,9 @@ use Rattle.queue.specs.Queue as queues
 use Rattle.queue.specs.Waiting.{put-waits, put-kept, put-stuck, put-full-only, take-waits}
 use Rattle.queue.specs.declared.Queue.{Queue}
 use Rattle.ingress.specs.declared.State.{State}
-use Rattle.ingress.specs.Ingress.{isNotice, Delivery, isRefused, toQueue, toSlot, toEither, deliver, World, world, held, Step, went, stuck, onward, answered-by, once, End, finished, full, goOn, thenRun, unlessEmpty, runBy, run}
+use Rattle.ingress.specs.Ingress.{isNotice, Delivery, isRefused, toQueue, toSlot, deliver, World, world, held, Step, went, stuck, onward, answered-by, once, End, finished, full, thenRun, runBy, run}
 use Rattle.ingress.specs.Laws.{Good, passed, passes, sound-parts, sound-queue, once-end}
-use Rattle.ingress.specs.Story.{Turn, Event, arrived, consumed, dropped, handed, freed, payloadOf, noticeIf, noticeOf, cameBy, wentBy, deliveredBy, handedBy, flat, waitingIn, withQueue, Passed, Turns, Story, Waits}
+use Rattle.ingress.specs.Story.{Turn, Event, arrived, consumed, dropped, handed, freed, payloadOf, noticeOf, cameBy, wentBy, deliveredBy, handedBy, flat, waitingIn, withQueue, Passed, Turns, Story, Waits}
 
 -- A delivery that doesn't wait stays within the bounds, and adds the notice that it was given.
 pub record Delivers (s : State) (m n : List ℕ) (adding : List queues.Arrival) (d : Delivery) : Type 0 where
@@ -42,10 +43,6 @@ pub record Delivers (s : State) (m n : List ℕ) (adding : List queues.Arrival) 
   pub queueLong : length (d .queueMemory) ≡ length n
   pub queueFits : inBounds (capacityOf ours (length (d .queueMemory))) (d .queue) ≡ true
   pub notices : waiting ours (d .queue) (d .queueMemory) ≡ waiting ours (s .queue) n ++ adding
-
-unfoldable addsIf : Bool → ℕ → List ℕ → List queues.Arrival
-addsIf true number p = adds ours number p
-addsIf false number p = []
 
 module _ (s : State) (a : Answer) (p m n : List ℕ) (f : s .slot .len ≤ length m) (g : inBounds (capacityOf ours (length n)) (s .queue) ≡ true) where
   queue-delivers : (o : Outcome Queue) (k : List ℕ) → queues.after o k ≡ putInto ours (s .queue) (a .number % 256) p n → isRefused o ≡ false → Delivers s m n (adds ours (a .number % 256) p) (toQueue s m (queues.after o k))
@@ -60,14 +57,13 @@ module _ (s : State) (a : Answer) (p m n : List ℕ) (f : s .slot .len ≤ lengt
       record { slotLong = w .0; slotFits = w .1; queueLong = refl; queueFits = g; notices = sym (append-nil (waiting ours (s .queue) n)) }
   slot-delivers (refused j v) k e r = absurd (false-true refl r)
 
-  either-delivers : (b : Bool) → toEither b s a p m n .waits ≡ false → Delivers s m n (addsIf b (a .number % 256) p) (toEither b s a p m n)
-  unfolding toEither addsIf
-  either-delivers true r = queue-delivers (putInto ours (s .queue) (a .number % 256) p n .said) (putInto ours (s .queue) (a .number % 256) p n .memory) refl r
-  either-delivers false r = slot-delivers (signalled (s .slot) a p m .said) (signalled (s .slot) a p m .memory) refl r
-
-  delivers : deliver s a p m n .waits ≡ false → Delivers s m n (addsIf (isNotice (a .kind)) (a .number % 256) p) (deliver s a p m n)
+  delivers : deliver s a p m n .waits ≡ false → Delivers s m n (if isNotice (a .kind) then adds ours (a .number % 256) p else []) (deliver s a p m n)
   unfolding deliver
-  delivers r = either-delivers (isNotice (a .kind)) r
+  delivers = go (isNotice (a .kind))
+    where
+      go : (b : Bool) → (if b then toQueue s m (putInto ours (s .queue) (a .number % 256) p n) else toSlot s n (signalled (s .slot) a p m)) .waits ≡ false → Delivers s m n (if b then adds ours (a .number % 256) p else []) (if b then toQueue s m (putInto ours (s .queue) (a .number % 256) p n) else toSlot s n (signalled (s .slot) a p m))
+      go true = queue-delivers (putInto ours (s .queue) (a .number % 256) p n .said) (putInto ours (s .queue) (a .number % 256) p n .memory) refl
+      go false = slot-delivers (signalled (s .slot) a p m .said) (signalled (s .slot) a p m .memory) refl
 
   -- One that waits is a notice of 1 to 128 bytes at a full queue, and leaves every byte.
   abbrev Waited : Bool → Delivery → Type 0
@@ -82,18 +78,17 @@ module _ (s : State) (a : Answer) (p m n : List ℕ) (f : s .slot .len ≤ lengt
   slot-waited (answered y) k e r = absurd (false-true r refl)
   slot-waited (refused j v) k e r = absurd (omega (arith, signal-stuck (s .slot) a p m j v k e .1))
 
-  either-waited : (b : Bool) → toEither b s a p m n .waits ≡ true → Waited b (toEither b s a p m n)
-  unfolding toEither
-  either-waited true r = queue-waited (putInto ours (s .queue) (a .number % 256) p n .said) (putInto ours (s .queue) (a .number % 256) p n .memory) refl r
-  either-waited false r = slot-waited (signalled (s .slot) a p m .said) (signalled (s .slot) a p m .memory) refl r
-
   waited : deliver s a p m n .waits ≡ true → Waited (isNotice (a .kind)) (deliver s a p m n)
   unfolding deliver
-  waited r = either-waited (isNotice (a .kind)) r
+  waited = go (isNotice (a .kind))
+    where
+      go : (b : Bool) → (if b then toQueue s m (putInto ours (s .queue) (a .number % 256) p n) else toSlot s n (signalled (s .slot) a p m)) .waits ≡ true → Waited b (if b then toQueue s m (putInto ours (s .queue) (a .number % 256) p n) else toSlot s n (signalled (s .slot) a p m))
+      go true = queue-waited (putInto ours (s .queue) (a .number % 256) p n .said) (putInto ours (s .queue) (a .number % 256) p n .memory) refl
+      go false = slot-waited (signalled (s .slot) a p m .said) (signalled (s .slot) a p m .memory) refl
 
   -- None delivers nothing.
   delivers-none : isNotice (a .kind) ≡ false → isResponse (a .kind) ≡ false → toSlot s n (slots.after (answered (s .slot)) m) ≡ deliver s a p m n
-  unfolding deliver toEither
+  unfolding deliver
   delivers-none e h = ap (toSlot s n) (signal-none (s .slot) a p m f h) ∙ rw e
 
 -- a turn: what is said of the bytes held, what is delivered, and what it leaves
@@ -118,23 +113,19 @@ abbrev count-of : Step → ℕ
 count-of (went w n) = n
 count-of (stuck w) = 0
 
-onward-went : (b : Bool) (w : World) (a : Answer) (d : Delivery) (v : World) (n : ℕ) → went v n ≡ onward b w a d → (b ≡ false) × ((v ≡ world-of (onward false w a d)) × (n ≡ a .consumed))
-unfolding onward
-onward-went true w a d v n e = let z : _≡_ {A = ℕ} 0 1 = cc in absurd (omega arith)
-onward-went false w a d v n e = (refl, (ap world-of e, ap count-of e))
-
-onward-stuck : (b : Bool) (w : World) (a : Answer) (d : Delivery) (v : World) → stuck v ≡ onward b w a d → (b ≡ true) × (v ≡ world-of (onward true w a d))
-unfolding onward
-onward-stuck true w a d v e = (refl, ap world-of e)
-onward-stuck false w a d v e = let z : _≡_ {A = ℕ} 0 1 = cc in absurd (omega arith)
-
 once-went : (t : List ℕ) (w v : World) (n : ℕ) → went v n ≡ once t w → (delivering t w .waits ≡ false) × ((v ≡ next t w) × (n ≡ says t w .consumed))
 unfolding once answered-by onward
-once-went t w v n e = onward-went (delivering t w .waits) w (says t w) (delivering t w) v n e
+once-went t w v n =
+    ways (λ s. went v n ≡ s → (delivering t w .waits ≡ false) × ((v ≡ next t w) × (n ≡ says t w .consumed))) (delivering t w .waits)
+    (λ q e. let z : _≡_ {A = ℕ} 0 1 = cc in absurd (omega arith))
+    (λ q e. (q, (ap world-of e, ap count-of e)))
 
 once-stuck : (t : List ℕ) (w v : World) → stuck v ≡ once t w → (delivering t w .waits ≡ true) × (v ≡ waitsAt t w)
 unfolding once answered-by onward
-once-stuck t w v e = onward-stuck (delivering t w .waits) w (says t w) (delivering t w) v e
+once-stuck t w v =
+    ways (λ s. stuck v ≡ s → (delivering t w .waits ≡ true) × (v ≡ waitsAt t w)) (delivering t w .waits)
+    (λ q e. (q, ap world-of e))
+    (λ q e. let z : _≡_ {A = ℕ} 0 1 = cc in absurd (omega arith))
 
 -- what a turn from a good state leaves
 module _ (t : List ℕ) (w : World) (g : Good t w) where
@@ -168,7 +159,7 @@ module _ (t : List ℕ) (w : World) (g : Good t w) where
 
   -- a turn that consumed leaves a good state, and its stretch goes from the front of what is held
   module _ (r : delivering t w .waits ≡ false) where
-    kept : Delivers (w .state) (w .slotMemory) (w .queueMemory) (addsIf (isNotice (says t w .kind)) (says t w .number % 256) (payloadOf (held w) (says t w))) (delivering t w)
+    kept : Delivers (w .state) (w .slotMemory) (w .queueMemory) (if isNotice (says t w .kind) then adds ours (says t w .number % 256) (payloadOf (held w) (says t w)) else []) (delivering t w)
     kept = delivers (w .state) (says t w) (payloadOf (held w) (says t w)) (w .slotMemory) (w .queueMemory) (parts .1 .0) (parts .1 .1) r
 
     pub next-good : Good t (next t w)
@@ -238,17 +229,12 @@ module _ (t : List ℕ) (w : World) (x : Turn) (v : World) (u : Turns t w x v) w
       sym (part-take (held w) (says t w .consumed) (says t w .place) (says t w .len) (q .payload) (checked-within t (held w)))
       ∙ (λ i. payloadOf (f i) (sym (u .said) i))
 
-  turned-adds : (b : Bool) → isNotice (x .answer .kind) ≡ b → addsIf b (says t w .number % 256) (payloadOf (held w) (says t w)) ≡ noticeIf b x
-  unfolding addsIf noticeIf
-  turned-adds true e = λ i. adds ours (sym (u .said) i .number % 256) (turned-payload e i)
-  turned-adds false e = refl
-
   turned-notices : waitingIn v ≡ waitingIn w ++ noticeOf x
   turned-notices =
       let k = once-went t w v (x .answer .consumed) (u .goes) in
       let n = ap (λ (a : Answer). isNotice (a .kind)) (u .said) in
       ap waitingIn (k .1 .0) ∙ kept t w (passed t w (u .passed)) (k .0) .notices
-      ∙ ap (λ (l : List queues.Arrival). waitingIn w ++ l) (ap (λ (b : Bool). addsIf b (says t w .number % 256) (payloadOf (held w) (says t w))) (sym n) ∙ turned-adds (isNotice (x .answer .kind)) refl)
+      ∙ ap (λ (l : List queues.Arrival). waitingIn w ++ l) (ap (λ (b : Bool). if b then adds ours (says t w .number % 256) (payloadOf (held w) (says t w)) else []) (sym n) ∙ same-way [] (isNotice (x .answer .kind)) (λ e. λ i. adds ours (sym (u .said) i .number % 256) (turned-payload e i)))
 
 -- All that came and was held is what went and is held.
 pub story-bytes : (t : List ℕ) (l : List Event) (w v : World) → Story t w l v → held w ++ flat cameBy l ≡ flat wentBy l ++ held v
@@ -256,38 +242,38 @@ unfolding flat
 story-bytes t [] w v s = append-nil (held w) ∙ ap held s
 story-bytes t (arrived b ∷ l) w v s =
     let u = s .at in
-    sym (append-assoc (held w) b (flat cameBy l)) ∙ ap (λ (y : List ℕ). y ++ flat cameBy l) (sym (s .first .behind)) ∙ story-bytes t l u v (s .then)
+    sym (append-assoc (held w) b (flat cameBy l)) ∙ ap (λ (y : List ℕ). y ++ flat cameBy l) (sym (s .first .behind)) ∙ story-bytes t l u v (s .rest)
 story-bytes t (consumed x ∷ l) w v s =
     let u = s .at in
     ap (λ (y : List ℕ). y ++ flat cameBy l) (turned-held t w x u (s .first))
     ∙ append-assoc (x .stretch) (held u) (flat cameBy l)
-    ∙ ap (λ (y : List ℕ). x .stretch ++ y) (story-bytes t l u v (s .then))
+    ∙ ap (λ (y : List ℕ). x .stretch ++ y) (story-bytes t l u v (s .rest))
     ∙ sym (append-assoc (x .stretch) (flat wentBy l) (held v))
 story-bytes t (dropped b ∷ l) w v s =
     let u = s .at in
     ap (λ (y : List ℕ). y ++ flat cameBy l) (sym (s .first .0))
-    ∙ ap (λ (y : List ℕ). b ++ y) (ap (λ (y : World). held y ++ flat cameBy l) (sym (s .first .1)) ∙ story-bytes t l u v (s .then))
+    ∙ ap (λ (y : List ℕ). b ++ y) (ap (λ (y : World). held y ++ flat cameBy l) (sym (s .first .1)) ∙ story-bytes t l u v (s .rest))
     ∙ sym (append-assoc b (flat wentBy l) (held v))
-story-bytes t (handed a ∷ l) w v s = ap (λ (y : World). held y ++ flat cameBy l) (sym (s .first .left)) ∙ story-bytes t l (s .at) v (s .then)
-story-bytes t (freed ∷ l) w v s = ap (λ (y : World). held y ++ flat cameBy l) (sym (s .first .left)) ∙ story-bytes t l (s .at) v (s .then)
+story-bytes t (handed a ∷ l) w v s = ap (λ (y : World). held y ++ flat cameBy l) (sym (s .first .left)) ∙ story-bytes t l (s .at) v (s .rest)
+story-bytes t (freed ∷ l) w v s = ap (λ (y : World). held y ++ flat cameBy l) (sym (s .first .left)) ∙ story-bytes t l (s .at) v (s .rest)
 
 -- All that was handed out and waits is what waited and was delivered.
 pub story-notices : (t : List ℕ) (l : List Event) (w v : World) → Story t w l v → flat handedBy l ++ waitingIn v ≡ waitingIn w ++ flat deliveredBy l
 unfolding flat
 story-notices t [] w v s = ap waitingIn (sym s) ∙ sym (append-nil (waitingIn w))
 story-notices t (arrived b ∷ l) w v s =
-    story-notices t l (s .at) v (s .then) ∙ (λ i. waiting ours (s .first .queue i) (s .first .queueMemory i) ++ flat deliveredBy l)
+    story-notices t l (s .at) v (s .rest) ∙ (λ i. waiting ours (s .first .queue i) (s .first .queueMemory i) ++ flat deliveredBy l)
 story-notices t (consumed x ∷ l) w v s =
     let u = s .at in
-    story-notices t l u v (s .then) ∙ ap (λ (y : List queues.Arrival). y ++ flat deliveredBy l) (turned-notices t w x u (s .first)) ∙ append-assoc (waitingIn w) (noticeOf x) (flat deliveredBy l)
-story-notices t (dropped b ∷ l) w v s = story-notices t l (s .at) v (s .then) ∙ ap (λ (y : World). waitingIn y ++ flat deliveredBy l) (s .first .1)
+    story-notices t l u v (s .rest) ∙ ap (λ (y : List queues.Arrival). y ++ flat deliveredBy l) (turned-notices t w x u (s .first)) ∙ append-assoc (waitingIn w) (noticeOf x) (flat deliveredBy l)
+story-notices t (dropped b ∷ l) w v s = story-notices t l (s .at) v (s .rest) ∙ ap (λ (y : World). waitingIn y ++ flat deliveredBy l) (s .first .1)
 story-notices t (handed a ∷ l) w v s =
     let h = s .first in
     let q = take-waits (w .state .queue) (h .queue) (h .notice) (w .queueMemory) (h .takes) in
-    ap (λ (y : List queues.Arrival). a ∷ y) (story-notices t l (s .at) v (s .then) ∙ ap (λ (y : World). waitingIn y ++ flat deliveredBy l) (h .left))
+    ap (λ (y : List queues.Arrival). a ∷ y) (story-notices t l (s .at) v (s .rest) ∙ ap (λ (y : World). waitingIn y ++ flat deliveredBy l) (h .left))
     ∙ ap (λ (y : queues.Arrival). y ∷ (waitingIn (withQueue w (h .queue)) ++ flat deliveredBy l)) (h .is)
     ∙ ap (λ (y : List queues.Arrival). y ++ flat deliveredBy l) (sym q)
-story-notices t (freed ∷ l) w v s = story-notices t l (s .at) v (s .then) ∙ ap (λ (y : World). waitingIn y ++ flat deliveredBy l) (s .first .left)
+story-notices t (freed ∷ l) w v s = story-notices t l (s .at) v (s .rest) ∙ ap (λ (y : World). waitingIn y ++ flat deliveredBy l) (s .first .left)
 
 -- a run that ends at v: turns alone, to a good state
 pub record Ended (t : List ℕ) (w v : World) : Type 0 where
@@ -305,7 +291,7 @@ module _ (t : List ℕ) (w : World) (g : Good t w) where
   ends-here v e = record { turns = []; story = sym e; good = rw e g }
 
   ended-more : (x : Turn) (u : World) → Turns t w x u → (v : World) → Ended t u v → Ended t w v
-  ended-more x u s v e = record { turns = x ∷ e .turns; story = record { at = u; first = s; then = e .story }; good = e .good }
+  ended-more x u s v e = record { turns = x ∷ e .turns; story = record { at = u; first = s; rest = e .story }; good = e .good }
 
   ends-more : (x : Turn) (u : World) → Turns t w x u → (r : End) → Ends t u r → Ends t w r
   ends-more x u s (finished v) e = (ended-more x u s v (e .0), e .1)
@@ -330,29 +316,24 @@ module _ (t : List ℕ) (w : World) (g : Good t w) where
       (ends-here v q, rw q (waits-so t w g (k .0)))
 
   module _ (p : Passed w t) (f : World → End) (h : (u : World) (n : ℕ) → went u n ≡ once t w → 1 ≤ n → Ends t u (f u)) where
-    ends-on : (b : Bool) (v : World) (n : ℕ) → leb 1 n ≡ b → went v n ≡ once t w → Ends t w (goOn b v (f v))
-    unfolding goOn
-    ends-on true v n q e = ends-more (turnOf t w) v (turns-on t w p v n e (leb-true 1 n q)) (f v) (h v n e (leb-true 1 n q))
-    ends-on false v n q e = ends-still v n e (omega (arith, leb-false 1 n q))
-
     ends-then : (s : Step) → s ≡ once t w → Ends t w (thenRun s f)
     unfolding thenRun
-    ends-then (went v n) e = ends-on (leb 1 n) v n refl e
+    ends-then (went v n) e =
+        ways (Ends t w) (leb 1 n)
+        (λ q. ends-more (turnOf t w) v (turns-on t w p v n e (leb-true 1 n q)) (f v) (h v n e (leb-true 1 n q)))
+        (λ q. ends-still v n e (omega (arith, leb-false 1 n q)))
     ends-then (stuck v) e = ends-stuck v e
 
-    ends-unless : (b : Bool) → leb 1 (w .state .end) ≡ b → Ends t w (unlessEmpty b w (thenRun (once t w) f))
-    unfolding unlessEmpty
-    ends-unless true q = ends-then (once t w) refl
-    ends-unless false q = ends-empty (omega (arith, leb-false 1 (w .state .end) q))
+    ends-run : Ends t w (if leb 1 (w .state .end) then thenRun (once t w) f else finished w)
+    ends-run = ways (Ends t w) (leb 1 (w .state .end)) (λ q. ends-then (once t w) refl) (λ q. ends-empty (omega (arith, leb-false 1 (w .state .end) q)))
 
 run-by-ends : (n : ℕ) (t : List ℕ) (w : World) → Good t w → w .state .end < n → Ends t w (runBy n t w)
 unfolding runBy
 run-by-ends zero t w g h = absurd (omega arith)
 run-by-ends (suc n) t w g h =
-    ends-unless t w g (passes t w g) (runBy n t) (λ u m e l.
+    ends-run t w g (passes t w g) (runBy n t) (λ u m e l.
     let k = once-went t w u m e in
     run-by-ends n t u (rw (k .1 .0) (next-good t w g (k .0))) (omega (arith, once-end t w u m (sym e), says-within t w g, k .1 .1)))
-    (leb 1 (w .state .end)) refl
 
 pub run-ends : (t : List ℕ) (w : World) → Good t w → Ends t w (run t w)
 unfolding run

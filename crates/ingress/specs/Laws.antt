@@ -1,13 +1,13 @@
--- Laws of the ingress. What it needs of the layers below are the laws that they export. Assumes nothing.
+-- Laws of the ingress. What it needs of the layers below are the laws that they export.
 use mathlib.Core.Path.{_≡_, refl, sym, ap, _∙_}
-use mathlib.Core.Bool.{Bool, true, false, _&&_}
+use mathlib.Core.Bool.{Bool, true, false, _&&_, not}
 use mathlib.Core.List.{List, [], _∷_}
 use Prim.Native.Nat.{ℕ, zero, suc, _+_, _-_, _%_, _≤_, _<_, min}
 use native.Mathlib.Omega.{arith}
 use lib.ListN.{length, getD, take, drop, length-drop}
 use lib.Seq.{length-take-le}
-use lib.Dec.{eqb, leb}
-use borrow.Author.Tests.{le-leb, lt-leb, leb-true}
+use lib.Dec.{eqb, leb, ltb}
+use borrow.Author.Tests.{le-leb, lt-leb, le-ltb, lt-ltb, leb-true, ltb-false}
 use Rattle.text.specs.Text.{partOf}
 use Rattle.moves.specs.Moves.{put, moved}
 use Rattle.digest.specs.Digest.{digestChecked}
@@ -17,7 +17,8 @@ use Rattle.slot.specs.Slot.{signalled}
 use Rattle.slot.specs.Slot as slots
 use Rattle.slot.specs.declared.Turned.{Turned}
 use Rattle.text.specs.Logic.{and-both}
-use Rattle.table.specs.Outcome.{Outcome, answered, refused}
+use Rattle.outcome.specs.Outcome.{Outcome, answered, refused, if_then_else_}
+use Rattle.outcome.specs.Laws.{ways, same-way}
 use Rattle.table.specs.Table.{ruling}
 use Rattle.queue.specs.Queue.{ours, putInto, capacityOf, inBounds}
 use Rattle.queue.specs.Queue as queues
@@ -36,24 +37,24 @@ use Rattle.ingress.specs.declared.Ran.the-variants as runs
 use Rattle.ingress.specs.declared.Delivered.{Delivered}
 use Rattle.ingress.specs.declared.Delivered.the-variants as delivers
 use Rattle.ingress.specs.Story.{Passed}
-use Rattle.ingress.specs.Ingress.{isNotice, Delivery, toQueue, toSlot, toEither, deliver, delivery, World, world, Step, went, stuck, onward, answered-by, once, stepped, End, finished, full, goOn, thenRun, unlessEmpty, runBy, run, ran, isSound, Result, done, refusedAt, unless, underTable, checks, unlessRefused, ifRoom, ended, committed, advanced, outcome, stateAfter, result, Writing, wrote, stopped, copied, afterCopy, unlessNone, writeOnce, copyOn, thenWrite, writeBy, write, writing, answering, written, bytesTaken, stateTaken, taking}
+use Rattle.ingress.specs.Ingress.{isNotice, Delivery, toQueue, toSlot, deliver, delivery, World, world, Step, went, stuck, onward, answered-by, once, stepped, End, finished, full, thenRun, runBy, run, ran, isSound, Result, done, refusedAt, underTable, checks, unlessRefused, ended, committed, advanced, outcome, stateAfter, result, Writing, wrote, stopped, copied, afterCopy, writeOnce, thenWrite, writeBy, write, writing, answering, written, bytesTaken, stateTaken, taking}
 
 -- where a delivery went: x is what the queue or the slot answered, with the memory that it left
 module _ (s : State) (a : Answer) (p m n : List ℕ) where
   pub to-queue : isNotice (a .kind) ≡ true → (r : Put) (k : List ℕ) → queues.after (queues.outcome r) k ≡ putInto ours (s .queue) (a .number % 256) p n → (x : Put) → r ≡ x → toQueue s m (queues.after (queues.outcome x) k) ≡ deliver s a p m n
-  unfolding deliver toEither
+  unfolding deliver
   to-queue h r k e x q = ap (λ (y : Put). toQueue s m (queues.after (queues.outcome y) k)) (sym q) ∙ ap (toQueue s m) e ∙ rw h
 
   pub to-slot : isNotice (a .kind) ≡ false → (r : Turned) (k : List ℕ) → slots.after (slots.outcome r) k ≡ signalled (s .slot) a p m → (x : Turned) → r ≡ x → toSlot s n (slots.after (slots.outcome x) k) ≡ deliver s a p m n
-  unfolding deliver toEither
+  unfolding deliver
   to-slot h r k e x q = ap (λ (y : Turned). toSlot s n (slots.after (slots.outcome y) k)) (sym q) ∙ ap (toSlot s n) e ∙ rw h
 
 -- the ways out of `step`
 module _ (t : List ℕ) (s : State) (b m n : List ℕ) (a : Answer) (ea : a ≡ digestChecked t (take (s .end) b)) (p : List ℕ) (ep : p ≡ partOf (take (s .end) b) (a .place) (a .len)) (r : Delivered) (k l : List ℕ) (er : delivery s r k l ≡ deliver s a p m n) where
-  at-delivery : onward (delivery s r k l .waits) (world s b m n) a (delivery s r k l) ≡ once t (world s b m n)
+  at-delivery : onward (world s b m n) a (delivery s r k l) ≡ once t (world s b m n)
   unfolding once answered-by
   at-delivery =
-      ap (λ (d : Delivery). onward (d .waits) (world s b m n) a d) (er ∙ ap (λ (x : List ℕ). deliver s a x m n) ep)
+      ap (onward (world s b m n) a) (er ∙ ap (λ (x : List ℕ). deliver s a x m n) ep)
       ∙ ap (answered-by (world s b m n)) ea
 
   pub step-full : r ≡ delivers.Waits → stuck (world s b k l) ≡ once t (world s b m n)
@@ -71,10 +72,12 @@ pub step-room : (t : List ℕ) (s : State) (b : List ℕ) (a : Answer) → a ≡
 step-room t s b a e h = omega (arith, ap (λ (x : Answer). x .consumed) e, checked-within t (take (s .end) b), length-take-le (s .end) b h)
 
 -- a turn that consumed n bytes leaves n fewer
-onward-end : (b : Bool) (w : World) (a : Answer) (d : Delivery) (v : World) (n : ℕ) → onward b w a d ≡ went v n → v .state .end ≡ w .state .end - n
+onward-end : (w : World) (a : Answer) (d : Delivery) (v : World) (n : ℕ) → onward w a d ≡ went v n → v .state .end ≡ w .state .end - n
 unfolding onward
-onward-end true w a d v n h = let z : _≡_ {A = ℕ} 0 1 = cc in absurd (omega arith)
-onward-end false w a d v n h = ap end-of (sym h) ∙ ap (λ (k : ℕ). w .state .end - k) (ap bytes-of h)
+onward-end w a d v n =
+    ways (λ s. s ≡ went v n → v .state .end ≡ w .state .end - n) (d .waits)
+    (λ q h. let z : _≡_ {A = ℕ} 0 1 = cc in absurd (omega arith))
+    (λ q h. ap end-of (sym h) ∙ ap (λ (k : ℕ). w .state .end - k) (ap bytes-of h))
   where
     end-of : Step → ℕ
     end-of (went x k) = x .state .end
@@ -89,38 +92,28 @@ unfolding once answered-by
 once-end t w v n h =
     let a = digestChecked t (take (w .state .end) (w .buf)) in
     let d = deliver (w .state) a (partOf (take (w .state .end) (w .buf)) (a .place) (a .len)) (w .slotMemory) (w .queueMemory) in
-    onward-end (d .waits) w a d v n h
+    onward-end w a d v n h
 
 -- fuel does not matter
-go-same : (b : Bool) (w : World) (r q : End) → (b ≡ true → r ≡ q) → goOn b w r ≡ goOn b w q
-unfolding goOn
-go-same true w r q h = h refl
-go-same false w r q h = refl
-
 then-same : (s : Step) (f g : World → End) → ((v : World) (n : ℕ) → s ≡ went v n → 1 ≤ n → f v ≡ g v) → thenRun s f ≡ thenRun s g
 unfolding thenRun
-then-same (went v n) f g h = go-same (leb 1 n) v (f v) (g v) (λ q. h v n refl (leb-true 1 n q))
+then-same (went v n) f g h = same-way (finished v) (leb 1 n) (λ q. h v n refl (leb-true 1 n q))
 then-same (stuck v) f g h = refl
-
-empty-same : (b : Bool) (w : World) (r q : End) → (b ≡ true → r ≡ q) → unlessEmpty b w r ≡ unlessEmpty b w q
-unfolding unlessEmpty
-empty-same true w r q h = h refl
-empty-same false w r q h = refl
 
 same-fuel : (n k : ℕ) (t : List ℕ) (w : World) → w .state .end < n → w .state .end < k → runBy n t w ≡ runBy k t w
 unfolding runBy
 same-fuel zero k t w h g = absurd (omega arith)
 same-fuel (suc n) zero t w h g = absurd (omega arith)
 same-fuel (suc n) (suc k) t w h g =
-    empty-same (leb 1 (w .state .end)) w (thenRun (once t w) (runBy n t)) (thenRun (once t w) (runBy k t))
+    same-way (finished w) (leb 1 (w .state .end))
     (λ q. then-same (once t w) (runBy n t) (runBy k t) (λ v m e l.
     let z = leb-true 1 (w .state .end) q in
     same-fuel n k t v (omega (arith, once-end t w v m e)) (omega (arith, once-end t w v m e))))
 
-run-step : (t : List ℕ) (w : World) → run t w ≡ unlessEmpty (leb 1 (w .state .end)) w (thenRun (once t w) (run t))
+run-step : (t : List ℕ) (w : World) → run t w ≡ (if leb 1 (w .state .end) then thenRun (once t w) (run t) else finished w)
 unfolding run runBy
 run-step t w =
-    empty-same (leb 1 (w .state .end)) w (thenRun (once t w) (runBy (w .state .end) t)) (thenRun (once t w) (run t))
+    same-way (finished w) (leb 1 (w .state .end))
     (λ q. then-same (once t w) (runBy (w .state .end) t) (run t) (λ v m e l.
     let z = leb-true 1 (w .state .end) q in
     same-fuel (w .state .end) (suc (v .state .end)) t v (omega (arith, once-end t w v m e)) (omega arith)))
@@ -128,12 +121,10 @@ run-step t w =
 -- the ways on from a state, and out
 module _ (t : List ℕ) (w : World) where
   pub run-empty : w .state .end ≤ 0 → finished w ≡ run t w
-  unfolding unlessEmpty
   run-empty h = sym (run-step t w ∙ rw (lt-leb 1 (w .state .end) (omega arith)))
 
   module _ (h : 0 < w .state .end) where
     at-turn : thenRun (once t w) (run t) ≡ run t w
-    unfolding unlessEmpty
     at-turn = sym (run-step t w ∙ rw (le-leb 1 (w .state .end) h))
 
     pub run-full : (v : World) → stuck v ≡ once t w → full v ≡ run t w
@@ -141,11 +132,11 @@ module _ (t : List ℕ) (w : World) where
     run-full v e = ap (λ (x : Step). thenRun x (run t)) e ∙ at-turn
 
     pub run-still : (v : World) (n : ℕ) → went v n ≡ once t w → n ≡ 0 → finished v ≡ run t w
-    unfolding thenRun goOn
+    unfolding thenRun
     run-still v n e z = (rw z) ∙ ap (λ (x : Step). thenRun x (run t)) e ∙ at-turn
 
     pub run-goes : (v : World) (n : ℕ) → went v n ≡ once t w → (n ≡ 0 → ⊥) → run t v ≡ run t w
-    unfolding thenRun goOn
+    unfolding thenRun
     run-goes v n e z = (rw (le-leb 1 n (omega arith))) ∙ ap (λ (x : Step). thenRun x (run t)) e ∙ at-turn
 
 -- the loop: what is to be run from w₀ is what is to be run from w
@@ -209,17 +200,17 @@ module _ (s : State) (b m n : ℕ) where
 -- `checks`
 module _ (t : List ℕ) (s : State) (b m n : ℕ) where
   pub checks-long : 4096 < b → refused 1 [] ≡ checks t s b m n
-  unfolding checks unless
-  checks-long h = rw (lt-leb b 4096 h)
+  unfolding checks
+  checks-long h = rw (lt-ltb 4096 b h)
 
   module _ (l : b ≤ 4096) where
     pub checks-table : (k : ℕ) → refused 2 (k ∷ []) ≡ ruling t → refused 2 (k ∷ []) ≡ checks t s b m n
-    unfolding checks unless underTable
-    checks-table k e = rw (le-leb b 4096 l, sym e)
+    unfolding checks underTable
+    checks-table k e = rw (le-ltb 4096 b l, sym e)
 
-    pub checks-state : (k : ℕ) → answered k ≡ ruling t → (c : Bool) → isSound s b m n ≡ c → unless c 3 (answered tt) ≡ checks t s b m n
-    unfolding checks unless underTable
-    checks-state k e c h = rw (le-leb b 4096 l, sym e, h)
+    pub checks-state : (k : ℕ) → answered k ≡ ruling t → (c : Bool) → isSound s b m n ≡ c → _≡_ {A = Outcome (Unit {0})} (if not c then refused 3 [] else answered tt) (checks t s b m n)
+    unfolding checks underTable
+    checks-state k e c h = rw (le-ltb 4096 b l, sym e, h)
 
 -- what a call may rely on that isn't refused 1, 2 or 3
 pub record Good (t : List ℕ) (w : World) : Type 0 where
@@ -228,20 +219,20 @@ pub record Good (t : List ℕ) (w : World) : Type 0 where
   pub ruled : ruling t ≡ answered records
   pub sound : isSound (w .state) (length (w .buf)) (length (w .slotMemory)) (length (w .queueMemory)) ≡ true
 
-passed-is : (t : List ℕ) (w : World) (a c : Bool) (r : Outcome ℕ) → leb (length (w .buf)) 4096 ≡ a → isSound (w .state) (length (w .buf)) (length (w .slotMemory)) (length (w .queueMemory)) ≡ c → ruling t ≡ r → _≡_ {A = Outcome (Unit {0})} (answered tt) (unless a 1 (underTable r (unless c 3 (answered tt)))) → Good t w
-unfolding unless underTable
-passed-is t w true true (answered k) l s q e = record { long = leb-true (length (w .buf)) 4096 l; records = k; ruled = q; sound = s }
-passed-is t w true false (answered k) l s q e = let z : _≡_ {A = ℕ} 0 1 = cc in absurd (omega arith)
-passed-is t w true c (refused n v) l s q e = let z : _≡_ {A = ℕ} 0 1 = cc in absurd (omega arith)
-passed-is t w false c r l s q e = let z : _≡_ {A = ℕ} 0 1 = cc in absurd (omega arith)
+passed-is : (t : List ℕ) (w : World) (a c : Bool) (r : Outcome ℕ) → ltb 4096 (length (w .buf)) ≡ a → isSound (w .state) (length (w .buf)) (length (w .slotMemory)) (length (w .queueMemory)) ≡ c → ruling t ≡ r → _≡_ {A = Outcome (Unit {0})} (answered tt) (if a then refused 1 [] else underTable r (if not c then refused 3 [] else answered tt)) → Good t w
+unfolding underTable
+passed-is t w false true (answered k) l s q e = record { long = ltb-false 4096 (length (w .buf)) l; records = k; ruled = q; sound = s }
+passed-is t w false false (answered k) l s q e = let z : _≡_ {A = ℕ} 0 1 = cc in absurd (omega arith)
+passed-is t w false c (refused n v) l s q e = let z : _≡_ {A = ℕ} 0 1 = cc in absurd (omega arith)
+passed-is t w true c r l s q e = let z : _≡_ {A = ℕ} 0 1 = cc in absurd (omega arith)
 
 pub passed : (t : List ℕ) (w : World) → Passed w t → Good t w
 unfolding checks
 passed t w e = passed-is t w _ _ _ refl refl refl e
 
 pub passes : (t : List ℕ) (w : World) → Good t w → Passed w t
-unfolding checks unless underTable
-passes t w g = rw (le-leb (length (w .buf)) 4096 (g .long), g .ruled, g .sound)
+unfolding checks underTable
+passes t w g = rw (le-ltb 4096 (length (w .buf)) (g .long), g .ruled, g .sound)
 
 pub good-inside : (t : List ℕ) (w : World) → Good t w → w .state .end ≤ length (w .buf)
 good-inside t w g = sound-parts (w .state) (length (w .buf)) (length (w .slotMemory)) (length (w .queueMemory)) (g .sound) .0
@@ -254,13 +245,13 @@ module _ (t : List ℕ) (c : ℕ) (w : World) where
 
   module _ (g : Passed w t) where
     pub advance-room : length (w .buf) - w .state .end < c → refusedAt 4 [] w ≡ advanced t c w
-    unfolding advanced unlessRefused ifRoom
-    advance-room h = rw (sym g, lt-leb c (length (w .buf) - w .state .end) h)
+    unfolding advanced unlessRefused
+    advance-room h = rw (sym g, lt-ltb (length (w .buf) - w .state .end) c h)
 
     module _ (h : c ≤ length (w .buf) - w .state .end) where
       pub at-run : ended (run t (committed w c)) ≡ advanced t c w
-      unfolding advanced unlessRefused ifRoom
-      at-run = rw (sym g, le-leb c (length (w .buf) - w .state .end) h)
+      unfolding advanced unlessRefused
+      at-run = rw (sym g, le-ltb (length (w .buf) - w .state .end) c h)
 
       module _ (r : Ran) (b m n : List ℕ) (p : ran r b m n ≡ run t (committed w c)) (x : State) where
         pub advance-done : r ≡ runs.Is x → done tt (world x b m n) ≡ advanced t c w
@@ -280,38 +271,29 @@ abbrev step-end : Step → ℕ
 step-end (went w n) = w .state .end
 step-end (stuck w) = w .state .end
 
-onward-less : (b : Bool) (w : World) (a : Answer) (d : Delivery) → step-end (onward b w a d) ≤ w .state .end
+onward-less : (w : World) (a : Answer) (d : Delivery) → step-end (onward w a d) ≤ w .state .end
 unfolding onward
-onward-less true w a d = omega arith
-onward-less false w a d = omega arith
+onward-less w a d = ways (λ s. step-end s ≤ w .state .end) (d .waits) (λ q. omega arith) (λ q. omega arith)
 
 once-less : (t : List ℕ) (w : World) → step-end (once t w) ≤ w .state .end
 unfolding once answered-by
 once-less t w =
     let a = digestChecked t (take (w .state .end) (w .buf)) in
     let d = deliver (w .state) a (partOf (take (w .state .end) (w .buf)) (a .place) (a .len)) (w .slotMemory) (w .queueMemory) in
-    onward-less (d .waits) w a d
-
-go-less : (b : Bool) (w : World) (r : End) → end-of r ≤ w .state .end → end-of (goOn b w r) ≤ w .state .end
-unfolding goOn
-go-less true w r h = h
-go-less false w r h = omega arith
+    onward-less w a d
 
 then-less : (s : Step) (f : World → End) → ((v : World) → end-of (f v) ≤ v .state .end) → end-of (thenRun s f) ≤ step-end s
 unfolding thenRun
-then-less (went v n) f h = go-less (leb 1 n) v (f v) (h v)
+then-less (went v n) f h = ways (λ r. end-of r ≤ v .state .end) (leb 1 n) (λ q. h v) (λ q. omega arith)
 then-less (stuck v) f h = omega arith
-
-empty-less : (b : Bool) (w : World) (r : End) → end-of r ≤ w .state .end → end-of (unlessEmpty b w r) ≤ w .state .end
-unfolding unlessEmpty
-empty-less true w r h = h
-empty-less false w r h = omega arith
 
 run-by-less : (n : ℕ) (t : List ℕ) (w : World) → end-of (runBy n t w) ≤ w .state .end
 unfolding runBy
 run-by-less zero t w = omega arith
 run-by-less (suc n) t w =
-    empty-less (leb 1 (w .state .end)) w (thenRun (once t w) (runBy n t)) (omega (arith, then-less (once t w) (runBy n t) (run-by-less n t), once-less t w))
+    ways (λ r. end-of r ≤ w .state .end) (leb 1 (w .state .end))
+    (λ q. omega (arith, then-less (once t w) (runBy n t) (run-by-less n t), once-less t w))
+    (λ q. omega arith)
 
 pub run-less : (t : List ℕ) (w : World) → end-of (run t w) ≤ w .state .end
 unfolding run
@@ -320,12 +302,12 @@ run-less t w = run-by-less (suc (w .state .end)) t w
 -- the ways out of a copy
 module _ (t p : List ℕ) (w : World) where
   pub copy-none : min (length p) (length (w .buf) - w .state .end) ≡ 0 → wrote 0 w ≡ writeOnce t p w
-  unfolding writeOnce unlessNone
+  unfolding writeOnce
   copy-none e = rw (lt-leb 1 (min (length p) (length (w .buf) - w .state .end)) (omega arith))
 
   module _ (n : ℕ) (e : n ≡ min (length p) (length (w .buf) - w .state .end)) (h : n ≡ 0 → ⊥) where
     at-copy : afterCopy (run t (copied w (take n p))) n ≡ writeOnce t p w
-    unfolding writeOnce unlessNone
+    unfolding writeOnce
     at-copy = rw e (rw (le-leb 1 (min (length p) (length (w .buf) - w .state .end)) (omega arith)))
 
     pub copied-is : (b : List ℕ) → b ≡ put (w .buf) (w .state .end) (take n p) → world (record { end = w .state .end + n; slot = w .state .slot; queue = w .state .queue }) b (w .slotMemory) (w .queueMemory) ≡ copied w (take n p)
@@ -357,34 +339,26 @@ after-copy (finished w) n = (refl, refl)
 after-copy (full w) n = (refl, refl)
 
 module _ (t p : List ℕ) (w : World) where
-  none-taken : (b : Bool) (n : ℕ) → n ≤ length p → bytes-of (unlessNone b w (afterCopy (run t (copied w (take n p))) n)) ≤ length p
-  unfolding unlessNone
-  none-taken true n k = omega (arith, after-copy (run t (copied w (take n p))) n .0)
-  none-taken false n k = omega arith
-
   pub once-taken : bytes-of (writeOnce t p w) ≤ length p
   unfolding writeOnce
-  once-taken = none-taken (leb 1 (min (length p) (length (w .buf) - w .state .end))) (min (length p) (length (w .buf) - w .state .end)) (omega arith)
+  once-taken =
+      let n = min (length p) (length (w .buf) - w .state .end) in
+      ways (λ r. bytes-of r ≤ length p) (leb 1 n) (λ q. omega (arith, after-copy (run t (copied w (take n p))) n .0)) (λ q. omega arith)
 
   module _ (h : w .state .end ≤ length (w .buf)) where
-    none-inside : (b : Bool) (n : ℕ) → n ≤ length p → n ≤ length (w .buf) - w .state .end → left-of (unlessNone b w (afterCopy (run t (copied w (take n p))) n)) .state .end ≤ length (w .buf)
-    unfolding unlessNone
-    none-inside true n k g = omega (arith, after-copy (run t (copied w (take n p))) n .1, run-less t (copied w (take n p)), length-take-le n p k)
-    none-inside false n k g = h
-
     once-inside : left-of (writeOnce t p w) .state .end ≤ length (w .buf)
     unfolding writeOnce
-    once-inside = none-inside (leb 1 (min (length p) (length (w .buf) - w .state .end))) (min (length p) (length (w .buf) - w .state .end)) (omega arith) (omega arith)
+    once-inside =
+        let n = min (length p) (length (w .buf) - w .state .end) in
+        let k : n ≤ length p = omega arith in
+        ways (λ r. left-of r .state .end ≤ length (w .buf)) (leb 1 n)
+        (λ q. omega (arith, after-copy (run t (copied w (take n p))) n .1, run-less t (copied w (take n p)), length-take-le n p k))
+        (λ q. h)
 
 -- a write's fuel does not matter
-copy-same : (b : Bool) (k : ℕ) (w : World) (r q : Writing) → (b ≡ true → r ≡ q) → copyOn b k w r ≡ copyOn b k w q
-unfolding copyOn
-copy-same true k w r q h = h refl
-copy-same false k w r q h = refl
-
 write-same : (s : Writing) (k : ℕ) (f g : ℕ → World → Writing) → ((v : World) (n : ℕ) → n ≡ bytes-of s → 1 ≤ n → f (k + n) v ≡ g (k + n) v) → thenWrite s k f ≡ thenWrite s k g
 unfolding thenWrite
-write-same (wrote n v) k f g h = copy-same (leb 1 n) k v (f (k + n) v) (g (k + n) v) (λ q. h v n refl (leb-true 1 n q))
+write-same (wrote n v) k f g h = same-way (wrote k v) (leb 1 n) (λ q. h v n refl (leb-true 1 n q))
 write-same (stopped n v) k f g h = refl
 
 same-write : (n m : ℕ) (t p : List ℕ) (k : ℕ) (w : World) → length p - k < n → length p - k < m → writeBy n t p k w ≡ writeBy m t p k w
@@ -430,14 +404,14 @@ module _ (t p : List ℕ) (w₀ : World) (k : ℕ) (w : World) (g : Writes t p w
 
     module _ (v : r ≡ writes.Is x n) where
       pub on-still : n ≡ 0 → wrote k (world x b m q) ≡ write t p 0 w₀
-      unfolding thenWrite copyOn
+      unfolding thenWrite
       on-still z = rw (lt-leb 1 n (omega arith)) at (at-write (writes.Is x n) v)
 
       pub on-room : k + n ≤ length p
       on-room = omega (arith, ap bytes-of (copied-on (writes.Is x n) v), once-taken t (drop k p) w, length-drop k p, g .within)
 
       pub on-again : (n ≡ 0 → ⊥) → length b ≡ length (w .buf) → length m ≡ length (w .slotMemory) → length q ≡ length (w .queueMemory) → Writes t p w₀ (k + n) (world x b m q)
-      unfolding thenWrite copyOn
+      unfolding thenWrite
       on-again z h i j =
           record {
             same = sym (rw (le-leb 1 n (omega arith)) at (at-write (writes.Is x n) v));
@@ -469,15 +443,14 @@ module _ (t p : List ℕ) (w : World) where
       write-full v = ap (λ (y : Wrote). answering (writing y b m q)) (sym v) ∙ ap answering e ∙ at-writing
 
 -- The promises of `advance` and `write` determine the answer and every byte of the three memories: each can be read off the result.
-abbrev pick : {A : Type 0} → Bool → A → A → A
-pick true a b = a
-pick false a b = b
-
 abbrev advanced-of : Outcome (Unit {0}) → State → Advanced
 advanced-of (answered x) s = advances.Is s
 advanced-of (refused k v) s =
-    pick (eqb k 1) advances.TooLong
-    (pick (eqb k 2) (advances.BadTable (getD v 0 0)) (pick (eqb k 3) advances.BadState (pick (eqb k 4) advances.NoRoom (advances.Full s))))
+    if eqb k 1 then advances.TooLong
+    else if eqb k 2 then advances.BadTable (getD v 0 0)
+    else if eqb k 3 then advances.BadState
+    else if eqb k 4 then advances.NoRoom
+    else advances.Full s
 
 advanced-back : (s : State) (r : Advanced) → advanced-of (outcome r) (stateAfter s r) ≡ r
 advanced-back s (advances.Is x) = refl
@@ -490,8 +463,10 @@ advanced-back s (advances.Full x) = refl
 abbrev written-of : Outcome ℕ → State → Written
 written-of (answered n) s = takes.Is s n
 written-of (refused k v) s =
-    pick (eqb k 1) takes.TooLong
-    (pick (eqb k 2) (takes.BadTable (getD v 0 0)) (pick (eqb k 3) takes.BadState (takes.Full s (getD v 0 0))))
+    if eqb k 1 then takes.TooLong
+    else if eqb k 2 then takes.BadTable (getD v 0 0)
+    else if eqb k 3 then takes.BadState
+    else takes.Full s (getD v 0 0)
 
 written-back : (s : State) (r : Written) → written-of (bytesTaken r) (stateTaken s r) ≡ r
 written-back s (takes.Is x n) = refl

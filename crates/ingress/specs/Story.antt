@@ -2,11 +2,11 @@
 use mathlib.Core.Path.{_≡_}
 use mathlib.Core.Bool.{Bool, true, false}
 use mathlib.Core.List.{List, [], _∷_, _++_}
-use Prim.Native.Nat.{ℕ, _+_, _%_, _≤_}
+use Prim.Native.Nat.{ℕ, _%_, _≤_}
 use lib.ListN.{length, getD, take, drop}
 use lib.Dec.{eqb}
 use Rattle.text.specs.Text.{partOf}
-use Rattle.table.specs.Outcome.{Outcome, answered, refused}
+use Rattle.outcome.specs.Outcome.{Outcome, answered, refused, if_then_else_}
 use Rattle.table.specs.Table.{tokens}
 use Rattle.answers.specs.declared.Answer.{Answer}
 use Rattle.digest.specs.Digest.{digestChecked}
@@ -36,12 +36,8 @@ abbrev pub payloadOf : List ℕ → Answer → List ℕ
 payloadOf s a = partOf s (a .place) (a .len)
 
 -- The notice that a turn delivers, where it is one of 1 to 128 bytes: that of its own stretch.
-unfoldable pub noticeIf : Bool → Turn → List Arrival
-noticeIf true x = adds ours (x .answer .number % 256) (payloadOf (x .stretch) (x .answer))
-noticeIf false x = []
-
 abbrev pub noticeOf : Turn → List Arrival
-noticeOf x = noticeIf (isNotice (x .answer .kind)) x
+noticeOf x = if isNotice (x .answer .kind) then adds ours (x .answer .number % 256) (payloadOf (x .stretch) (x .answer)) else []
 
 -- what each event adds to the bytes that came, to those that went, to the notices delivered, and to those handed out
 abbrev pub cameBy : Event → List ℕ
@@ -134,7 +130,7 @@ Happens t w freed v = Frees w v
 pub record Via (P Q : World → Type 0) : Type 0 where
   pub at : World
   pub first : P at
-  pub then : Q at
+  pub rest : Q at
 
 -- The events happen one after the other, each in the state and memories that the last one left.
 abbrev pub Story : List ℕ → World → List Event → World → Type 0
@@ -190,13 +186,9 @@ abbrev pub NothingLeft : {A : Type 0} → List ℕ → Result A → Type 0
 NothingLeft t r = isAnswered (r .said) ≡ true → NothingFinished (tokens t) (held (r .left))
 
 -- how many bytes a write says it took
-unfoldable pub fiveOnly : Bool → List ℕ → ℕ
-fiveOnly true v = getD v 0 0
-fiveOnly false v = 0
-
 abbrev pub tookOf : Outcome ℕ → ℕ
 tookOf (answered n) = n
-tookOf (refused k v) = fiveOnly (eqb k 5) v
+tookOf (refused k v) = if eqb k 5 then getD v 0 0 else 0
 
 -- For a write that took a byte: one that took none digested nothing.
 abbrev pub NothingAfter : List ℕ → Result ℕ → Type 0

@@ -1,12 +1,13 @@
--- The winter's fault is shut out: each call is a story, and so is a sequence of calls. From what advance and write keep. Assumes nothing.
+-- The winter's fault is shut out: each call is a story, and so is a sequence of calls. From what advance and write keep.
 use mathlib.Core.Path.{_≡_, refl, sym, ap, _∙_}
 use mathlib.Core.Bool.{Bool, true, false}
 use mathlib.Core.List.{List, [], _∷_, _++_}
-use Prim.Native.Nat.{ℕ, _+_, _-_, _%_, _≤_}
+use Prim.Native.Nat.{ℕ, _+_, _%_, _≤_}
 use native.Mathlib.Omega.{arith}
-use lib.ListN.{length, take}
+use lib.ListN.{length, getD, take}
 use lib.Dec.{eqb}
-use Rattle.table.specs.Outcome.{Outcome, answered, refused}
+use Rattle.outcome.specs.Outcome.{Outcome, answered, refused, if_then_else_}
+use Rattle.outcome.specs.Laws.{ways}
 use Rattle.slot.specs.Slot.{wasReset}
 use Rattle.slot.specs.declared.Slot.{Slot}
 use Rattle.queue.specs.Queue.{ours, longer, taken, Got, got, empty, Arrival}
@@ -17,10 +18,10 @@ use Rattle.queue.specs.declared.Queue.{Queue}
 use Rattle.queue.specs.declared.Notice.{Notice}
 use Rattle.ingress.specs.Ingress.{Delivery, World, world, held, End, finished, full, run, Result, ended, committed, advanced, written}
 use Rattle.ingress.specs.Laws.{Good, passed, passes, sound-parts, sound-queue, run-goes, at-run, to-queue}
-use Rattle.ingress.specs.Story.{Event, arrived, consumed, dropped, handed, freed, payloadOf, noticeIf, cameBy, handedBy, flat, waitingIn, withQueue, withSlot, emptied, Turns, Story, Fed, Over, Waits, takesBytes, Keeps, committedBytes, fiveOnly, tookOf}
+use Rattle.ingress.specs.Story.{Event, arrived, consumed, dropped, handed, freed, payloadOf, cameBy, handedBy, flat, waitingIn, withQueue, withSlot, emptied, Turns, Story, Fed, Over, Waits, takesBytes, Keeps, committedBytes, tookOf}
 use Rattle.ingress.specs.Kept.{says, delivering, next, heard, says-within, next-good, notice-found, once-goes, turnOf, turns-on, turned-payload, story-bytes, story-notices, Ended, Ends, run-ends}
 use Rattle.ingress.specs.Conserved.{flat-append, story-append, advance-keeps, write-keeps}
-use Rattle.ingress.specs.Calls.{Call, write, advance, clear, takeOne, reset, afterTake, afterReset, leftBy, bytesIf, tookBy, handsOut, handsBy, left, along, Told, GoesOn}
+use Rattle.ingress.specs.Calls.{Call, write, advance, clear, takeOne, reset, afterTake, afterReset, leftBy, tookBy, handsOut, handsBy, left, along, Told, GoesOn}
 
 -- one call: its events, what came with them and what was handed out
 record Did (t : List ℕ) (w : World) (b : List ℕ) (a : List Arrival) (v : World) : Type 0 where
@@ -47,17 +48,16 @@ did-over : (t : List ℕ) (w : World) (b : List ℕ) (v : World) → Over t w b 
 did-over t w b v o = record { events = o .events; story = o .story; came = o .came; out = fed-hands (o .events) (o .fed) }
 
 -- an advance and a write
-did-keeps : {A : Type 0} (t : List ℕ) (w : World) (b : List ℕ) (r : Result A) → Keeps t w b r → (c : Bool) → takesBytes (r .said) ≡ c → Did t w (bytesIf c b) [] (r .left)
-did-keeps t w b r k true e = did-over t w b (r .left) (k .over e)
-did-keeps t w b r k false e = did-nothing t w (r .left) (k .same e)
+did-keeps : {A : Type 0} (t : List ℕ) (w : World) (b : List ℕ) (r : Result A) → Keeps t w b r → Did t w (if takesBytes (r .said) then b else []) [] (r .left)
+did-keeps t w b r k = ways (λ x. Did t w x [] (r .left)) (takesBytes (r .said)) (λ e. did-over t w b (r .left) (k .over e)) (λ e. did-nothing t w (r .left) (k .same e))
 
-took-if : (o : Outcome ℕ) (p : List ℕ) → bytesIf (takesBytes o) (take (tookOf o) p) ≡ take (tookOf o) p
+took-if : (o : Outcome ℕ) (p : List ℕ) → (if takesBytes o then take (tookOf o) p else []) ≡ take (tookOf o) p
 took-if (answered n) p = refl
 took-if (refused k v) p = go (eqb k 5)
   where
-    go : (b : Bool) → bytesIf b (take (fiveOnly b v) p) ≡ take (fiveOnly b v) p
+    go : (b : Bool) → (if b then take (if b then getD v 0 0 else 0) p else []) ≡ take (if b then getD v 0 0 else 0) p
     go true = refl
-    go false = unfold fiveOnly in refl
+    go false = refl
 
 -- a take and a reset
 did-take : (t : List ℕ) (w : World) (o : Outcome Got) → o ≡ taken ours (w .state .queue) (w .queueMemory) → Did t w [] (handsOut (w .queueMemory) o) (afterTake w o)
@@ -65,7 +65,7 @@ unfolding flat
 did-take t w (answered (got q n)) e =
     record {
       events = handed (record { number = n .number; payload = _ }) ∷ [];
-      story = record { at = withQueue w q; first = record { queue = q; notice = n; takes = e; is = refl; left = refl }; then = refl };
+      story = record { at = withQueue w q; first = record { queue = q; notice = n; takes = e; is = refl; left = refl }; rest = refl };
       came = refl;
       out = refl;
     }
@@ -75,15 +75,15 @@ did-take t w (refused n v) e = did-nothing t w w refl
 did-reset : (t : List ℕ) (w : World) (o : Outcome Slot) → o ≡ wasReset (w .state .slot) (w .slotMemory) → Did t w [] [] (afterReset w o)
 unfolding flat
 did-reset t w (answered s) e =
-    record { events = freed ∷ []; story = record { at = withSlot w s; first = record { slot = s; resets = e; left = refl }; then = refl }; came = refl; out = refl }
+    record { events = freed ∷ []; story = record { at = withSlot w s; first = record { slot = s; resets = e; left = refl }; rest = refl }; came = refl; out = refl }
 did-reset t w (refused n v) e = did-nothing t w w refl
 
 did : (t : List ℕ) (c : Call) (w : World) → Did t w (tookBy t c w) (handsBy t c w) (leftBy t c w)
 unfolding flat
-did t (write p) w = let r = written t p w in rw (sym (took-if (r .said) p)) (did-keeps t w (take (tookOf (r .said)) p) r (write-keeps t p w .0) (takesBytes (r .said)) refl)
-did t (advance c) w = let r = advanced t c w in did-keeps t w (committedBytes w c) r (advance-keeps t c w .0) (takesBytes (r .said)) refl
+did t (write p) w = let r = written t p w in rw (sym (took-if (r .said) p)) (did-keeps t w (take (tookOf (r .said)) p) r (write-keeps t p w .0))
+did t (advance c) w = let r = advanced t c w in did-keeps t w (committedBytes w c) r (advance-keeps t c w .0)
 did t clear w =
-    record { events = dropped (held w) ∷ []; story = record { at = emptied w; first = (refl, refl); then = refl }; came = refl; out = refl }
+    record { events = dropped (held w) ∷ []; story = record { at = emptied w; first = (refl, refl); rest = refl }; came = refl; out = refl }
 did t takeOne w = did-take t w (taken ours (w .state .queue) (w .queueMemory)) refl
 did t reset w = did-reset t w (wasReset (w .state .slot) (w .slotMemory)) refl
 
@@ -158,7 +158,6 @@ module _ (t : List ℕ) (w : World) (z : Waits t w) (q : Queue) (n : Notice) (e 
   ends-left v (full u) k = k .0
 
   pub goes-on : GoesOn t w q
-  unfolding noticeIf
   goes-on =
       let d = ends-left (next t with-room) (run t (next t with-room)) (run-ends t (next t with-room) (next-good t with-room room-good room-goes)) in
       let p = turned-payload t with-room (turnOf t with-room) (next t with-room) room-turn (z .notice) in
@@ -166,9 +165,9 @@ module _ (t : List ℕ) (w : World) (z : Waits t w) (q : Queue) (n : Notice) (e 
       record {
         turn = turnOf t with-room;
         turns = d .turns;
-        story = record { at = next t with-room; first = room-turn; then = rw (sym (ap (λ (r : Result (Unit {0})). r .left) after-turn)) (d .story) };
+        story = record { at = next t with-room; first = room-turn; rest = rw (sym (ap (λ (r : Result (Unit {0})). r .left) after-turn)) (d .story) };
         notice =
-            ap (λ (b : Bool). noticeIf b (turnOf t with-room)) (z .notice)
+            ap (λ (b : Bool). if b then queues.adds ours (a .number % 256) (payloadOf (turnOf t with-room .stretch) a) else []) (z .notice)
             ∙ ap (λ (y : List ℕ). queues.adds ours (a .number % 256) y) (sym p)
             ∙ adds-one (a .number % 256) (payloadOf (held w) a) (z .some) (z .most);
       }

@@ -1,4 +1,4 @@
--- What a caller may know of the fixed texts. Assumes nothing.
+-- What a caller may know of the fixed texts.
 use Prim.Native.Nat.{_<_}
 use native.Mathlib.Omega.{arith}
 use lib.ListN.{length}

@@ -1,4 +1,4 @@
--- Laws of `put` and `moved`. Both loops copy a list over another byte by byte, which is the library's `paste`. Assumes nothing.
+-- Laws of `put` and `moved`. Both loops copy a list over another byte by byte, which is the library's `paste`.
 use mathlib.Core.Path.{_≡_, refl, sym, ap, _∙_}
 use mathlib.Core.Logic.{_⊎_, ⊎-elim}
 use mathlib.Core.Bool.{Bool, true, false}
@@ -10,16 +10,17 @@ use lib.ListN.{length, getD, take, drop, set, take-append-drop, length-append, l
 use lib.Seq.{paste, paste-suc, take-paste, drop-paste, length-paste, drop-drop, take-at, drop-at, drop-append-le, getD-drop, take-add, take-length, take-append-le, take-append-seam, length-take-le}
 use lib.Dec.{leb}
 use borrow.Author.Tests.{le-leb, lt-leb, leb-true, leb-false}
-use Rattle.moves.specs.Moves.{ifFits, put, moved}
+use Rattle.outcome.specs.Outcome.{if_then_else_}
+use Rattle.moves.specs.Moves.{put, moved}
 
 module _ (m : List ℕ) (i : ℕ) (p : List ℕ) where
   pub put-none : length m < i + length p → m ≡ put m i p
-  unfolding put ifFits
+  unfolding put
   put-none h = rw (lt-leb (i + length p) (length m) h)
 
   module _ (h : i + length p ≤ length m) where
     pub put-is : take i m ++ p ++ drop (i + length p) m ≡ put m i p
-    unfolding put ifFits
+    unfolding put
     put-is = rw (le-leb (i + length p) (length m) h)
 
     pub put-all : paste m i p (length p) ≡ put m i p
@@ -30,13 +31,12 @@ module _ (m : List ℕ) (i : ℕ) (p : List ℕ) where
   unfolding put
   put-length = go (leb (i + length p) (length m)) refl
     where
-      go : (b : Bool) → leb (i + length p) (length m) ≡ b → length (ifFits b (take i m ++ p ++ drop (i + length p) m) m) ≡ length m
+      go : (b : Bool) → leb (i + length p) (length m) ≡ b → length (if b then take i m ++ p ++ drop (i + length p) m else m) ≡ length m
       go true e =
-          unfold ifFits in
           let g : i + length p ≤ length m = leb-true (i + length p) (length m) e in
           let k : i ≤ length m = omega arith in
           rw (length-append, length-append, length-take-le i m k, length-drop) (omega arith)
-      go false e = unfold ifFits in refl
+      go false e = refl
 
 -- bytes of the first of two lists, one after the other
 pub part-first : (x y : List ℕ) (a n : ℕ) → a + n ≤ length x → take n (drop a (x ++ y)) ≡ take n (drop a x)
@@ -87,17 +87,17 @@ module _ (m : List ℕ) (i : ℕ) (p : List ℕ) where
 
 module _ (b : List ℕ) (n e : ℕ) where
   pub moved-back : e < n → b ≡ moved b n e
-  unfolding moved ifFits
+  unfolding moved
   moved-back h = rw (lt-leb n e h)
 
   module _ (h : n ≤ e) where
     pub moved-past : length b < e → b ≡ moved b n e
-    unfolding moved ifFits
+    unfolding moved
     moved-past g = rw (le-leb n e h, lt-leb e (length b) g)
 
     module _ (g : e ≤ length b) where
       pub moved-is : take (e - n) (drop n b) ++ drop (e - n) b ≡ moved b n e
-      unfolding moved ifFits
+      unfolding moved
       moved-is = rw (le-leb n e h, le-leb e (length b) g)
 
       pub moved-all : paste b 0 (drop n b) (e - n) ≡ moved b n e

@@ -1,4 +1,4 @@
--- What a struct's numbers read as, field by field, and that a state that is written reads back as it was. Assumes nothing.
+-- What a struct's numbers read as, field by field, and that a state that is written reads back as it was.
 use mathlib.Core.Path.{_≡_, refl, sym, ap, _∙_}
 use mathlib.Core.Bool.{Bool, true, false}
 use mathlib.Core.List.{List, [], _∷_}
@@ -7,6 +7,7 @@ use native.Mathlib.Omega.{arith}
 use lib.ListN.{length, getD, List·getD-eq-default}
 use lib.Dec.{ltb}
 use borrow.Author.Tests.{le-leb, lt-leb, lt-ltb, le-ltb}
+use Rattle.outcome.specs.Outcome.{if_then_else_}
 use Rattle.text.specs.Text.{partAt}
 use Rattle.answers.specs.declared.Kind.{Kind}
 use Rattle.answers.specs.declared.Kind.the-variants as kind
@@ -16,7 +17,7 @@ use Rattle.slot.specs.declared.Held.the-variants.{Heard, Capacity}
 use Rattle.slot.specs.declared.Slot.{Slot}
 use Rattle.queue.specs.declared.Queue.{Queue}
 use Rattle.ingress.specs.declared.State.{State}
-use Rattle.numbers.specs.Numbers.{kinds, kindOf, word, answerOf, heldNumber, heldBy, heldOf, flagNumber, slotOf, queueOf, stateOf, stateNumbers, withSlot, withQueue}
+use Rattle.numbers.specs.Numbers.{kinds, kindOf, word, answerOf, heldNumber, heldOf, slotOf, queueOf, stateOf, stateNumbers, withSlot, withQueue}
 
 -- where a part of the memory s begins
 module _ (s : List ℕ) (place len : ℕ) where
@@ -30,10 +31,10 @@ module _ (s : List ℕ) (place len : ℕ) where
 
 -- what a slot holds
 pub held-capacity : (n : ℕ) → 13 < n → Capacity ≡ heldOf n
-held-capacity n h = ap (λ (b : Bool). heldBy b n) (sym (lt-ltb 13 n h))
+held-capacity n h = ap (λ (b : Bool). if b then Capacity else Heard (kindOf n)) (sym (lt-ltb 13 n h))
 
 pub held-heard : (n : ℕ) → n ≤ 13 → (k : Kind) → k ≡ kindOf n → Heard k ≡ heldOf n
-held-heard n h k e = ap Heard e ∙ ap (λ (b : Bool). heldBy b n) (sym (le-ltb 13 n h))
+held-heard n h k e = ap Heard e ∙ ap (λ (b : Bool). if b then Capacity else Heard (kindOf n)) (sym (le-ltb 13 n h))
 
 -- n is none of the numbers below k, and so k or more
 abbrev pub NoneBelow : ℕ → ℕ → Type 0
@@ -64,11 +65,11 @@ queue-is v l e = λ i. record { start = getD v 6 0; count = getD v 7 0; lost = e
 pub state-is : (v : List ℕ) (x : Slot) → x ≡ slotOf v → (q : Queue) → q ≡ queueOf v → _≡_ {A = State} (record { end = getD v 0 0; slot = x; queue = q }) (stateOf v)
 state-is v x e q f = λ i. record { end = getD v 0 0; slot = e i; queue = f i }
 
-pub with-slot : (v : List ℕ) (x : Slot) (f : ℕ) → f ≡ flagNumber (x .signalled) → (h : ℕ) → h ≡ heldNumber (x .held) → getD v 0 0 ∷ f ∷ h ∷ x .number ∷ x .len ∷ x .lost ∷ getD v 6 0 ∷ getD v 7 0 ∷ getD v 8 0 ∷ [] ≡ withSlot v x
+pub with-slot : (v : List ℕ) (x : Slot) (f : ℕ) → f ≡ (if x .signalled then 1 else 0) → (h : ℕ) → h ≡ heldNumber (x .held) → getD v 0 0 ∷ f ∷ h ∷ x .number ∷ x .len ∷ x .lost ∷ getD v 6 0 ∷ getD v 7 0 ∷ getD v 8 0 ∷ [] ≡ withSlot v x
 with-slot v x f e h g = λ i. getD v 0 0 ∷ e i ∷ g i ∷ x .number ∷ x .len ∷ x .lost ∷ getD v 6 0 ∷ getD v 7 0 ∷ getD v 8 0 ∷ []
 
 -- A state that is written as its nine numbers is read back as it was: `slot-round`, `queue-round` and together `state-round`. Its numbers of 32 bits are at most 4,294,967,295.
-flag-round : (b : Bool) → ltb 0 (flagNumber b) ≡ b
+flag-round : (b : Bool) → ltb 0 (if b then 1 else 0) ≡ b
 flag-round true = refl
 flag-round false = refl
 

@@ -1,9 +1,9 @@
 -- What each number of a lent array means: a state as nine numbers, and what a call answers at the front of an array of five.
-use mathlib.Core.Bool.{Bool, true, false}
 use mathlib.Core.List.{List, [], _∷_, _++_}
 use Prim.Native.Nat.{ℕ, min}
 use lib.ListN.{getD}
 use lib.Dec.{ltb}
+use Rattle.outcome.specs.Outcome.{if_then_else_}
 use Rattle.answers.specs.declared.Kind.{Kind}
 use Rattle.answers.specs.declared.Kind.the-variants as kind
 use Rattle.answers.specs.declared.Answer.{Answer}
@@ -66,20 +66,11 @@ abbrev pub heldNumber : Held → ℕ
 heldNumber (Heard k) = kindNumber k
 heldNumber Capacity = 14
 
-abbrev pub heldBy : Bool → ℕ → Held
-heldBy true n = Capacity
-heldBy false n = Heard (kindOf n)
-
 abbrev pub heldOf : ℕ → Held
-heldOf n = heldBy (ltb 13 n) n
-
--- signalled: 1, free: 0; any number but 0 reads as signalled
-abbrev pub flagNumber : Bool → ℕ
-flagNumber true = 1
-flagNumber false = 0
+heldOf n = if ltb 13 n then Capacity else Heard (kindOf n)
 
 -- The state is nine numbers: the end (0); of the slot signalled (1), held (2), number (3), stored length (4), lost answers (5); of the queue start (6), count (7), lost notices (8).
--- Any nine numbers are a state.
+-- Signalled is 1, free 0, and any number but 0 reads as signalled. Any nine numbers are a state.
 abbrev pub slotOf : List ℕ → Slot
 slotOf v = record { signalled = ltb 0 (getD v 1 0); held = heldOf (getD v 2 0); number = word (getD v 3 0); len = getD v 4 0; lost = word (getD v 5 0) }
 
@@ -90,7 +81,7 @@ abbrev pub stateOf : List ℕ → State
 stateOf v = record { end = getD v 0 0; slot = slotOf v; queue = queueOf v }
 
 abbrev pub slotNumbers : Slot → List ℕ
-slotNumbers x = flagNumber (x .signalled) ∷ heldNumber (x .held) ∷ x .number ∷ x .len ∷ x .lost ∷ []
+slotNumbers x = (if x .signalled then 1 else 0) ∷ heldNumber (x .held) ∷ x .number ∷ x .len ∷ x .lost ∷ []
 
 abbrev pub queueNumbers : Queue → List ℕ
 queueNumbers x = x .start ∷ x .count ∷ x .lost ∷ []

@@ -3,7 +3,8 @@
 ghost use mathlib.Core.Path.{_≡_};
 ghost use mathlib.Core.List.{[], _∷_};
 ghost use Rattle.text.specs.Text.{partAt};
-ghost use Rattle.numbers.specs.Numbers.{kindNumber, kindOf, word, heldNumber, heldOf, flagNumber, answerOf, slotOf, queueOf, stateOf, stateNumbers, withEnd, withSlot, withQueue, laid, answerValues};
+ghost use Rattle.outcome.specs.Outcome.{if_then_else_};
+ghost use Rattle.numbers.specs.Numbers.{kindNumber, kindOf, word, heldNumber, heldOf, answerOf, slotOf, queueOf, stateOf, stateNumbers, withEnd, withSlot, withQueue, laid, answerValues};
 use answers::Answer;
 use answers::Kind;
 use ingress::State;
@@ -115,7 +116,7 @@ fn held_of(n: u64) -> Held
 
 // 1 for a signalled slot, 0 for a free one.
 fn flag_number(b: bool) -> u64
-    ensures { λ r. ⌜ r ≡ flagNumber b ⌝ }
+    ensures { λ r. ⌜ r ≡ (if b then 1 else 0) ⌝ }
 {
     if b {
         return 1;

@@ -1,5 +1,5 @@
 -- Laws of what stands at a place: the ways out of each function, over plain lists.
--- Each rests on text's laws of `stands`, `findIn` and `past`; none looks into a search. Assumes nothing.
+-- Each rests on text's laws of `stands`, `findIn` and `past`; none looks into a search.
 use mathlib.Core.Path.{_≡_, refl, sym, ap, _∙_}
 use mathlib.Core.Bool.{Bool, true, false, _&&_}
 use mathlib.Core.List.{List, [], _∷_, _++_}

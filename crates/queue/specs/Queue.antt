@@ -1,5 +1,5 @@
 -- The notice queue in document 01's words, over a geometry of records: what each call leaves of queue and memory, and when it refuses.
-use mathlib.Core.Bool.{Bool, true, false, _&&_}
+use mathlib.Core.Bool.{Bool, _&&_, not}
 use mathlib.Core.List.{List, [], _∷_, _++_}
 use Prim.Native.Nat.{ℕ, zero, suc, _+_, _-_, _*_, _/_, min}
 use lib.ListN.{length, getD, take, drop}
@@ -7,7 +7,7 @@ use lib.Dec.{eqb, leb, ltb}
 use Rattle.text.specs.Bytes.{bytes}
 use Rattle.text.specs.Text.{stands, partOf}
 use Rattle.moves.specs.Moves.{put, oneMore}
-use Rattle.table.specs.Outcome.{Outcome, answered, refused}
+use Rattle.outcome.specs.Outcome.{Outcome, answered, refused, if_then_else_}
 use Rattle.queue.specs.declared.Queue.{Queue}
 use Rattle.queue.specs.declared.Notice.{Notice}
 use Rattle.queue.specs.declared.Put.{Put}
@@ -41,14 +41,9 @@ unfoldable pub inBounds : ℕ → Queue → Bool
 unfolding startIn
 inBounds cap x = startIn cap (x .start) && leb (x .count) cap
 
-unfoldable pub pick : Bool → ℕ → ℕ → ℕ
-pick true a b = a
-pick false a b = b
-
 -- the place i records on from start, round the ring
 unfoldable pub ringPlace : ℕ → ℕ → ℕ → ℕ
-unfolding pick
-ringPlace start i cap = pick (ltb (start + i) cap) (start + i) (start + i - cap)
+ringPlace start i cap = if ltb (start + i) cap then start + i else start + i - cap
 
 abbrev pub newQueue : Queue
 newQueue = record { start = 0; count = 0; lost = 0 }
@@ -74,19 +69,15 @@ written g x number p m =
     let base = g .size * ringPlace (x .start) (x .count) (capacityOf g (length m)) in
     put (put m base (g .mark ++ (number ∷ length p ∷ []))) (base + g .head) p
 
--- By: is the queue within its bounds, is the payload 1 to 128 bytes long, is there room? In this order: 3, a lost notice even when full, 5.
-unfoldable pub putBy : Bool → Bool → Bool → Geometry → Queue → ℕ → List ℕ → List ℕ → After
-unfolding written
-putBy false l r g x number p m = after (refused 3 []) m
-putBy true false r g x number p m = after (answered (lostOne x)) m
-putBy true true false g x number p m = after (refused 5 []) m
-putBy true true true g x number p m = after (answered (longer x)) (written g x number p m)
-
+-- In this order: 3, a lost notice even when full, 5.
 unfoldable pub putInto : Geometry → Queue → ℕ → List ℕ → List ℕ → After
-unfolding putBy
+unfolding written
 putInto g x number p m =
     let cap = capacityOf g (length m) in
-    putBy (inBounds cap x) (leb 1 (length p) && leb (length p) (g .longest)) (ltb (x .count) cap) g x number p m
+    if not (inBounds cap x) then after (refused 3 []) m
+    else if not (leb 1 (length p) && leb (length p) (g .longest)) then after (answered (lostOne x)) m
+    else if leb cap (x .count) then after (refused 5 []) m
+    else after (answered (longer x)) (written g x number p m)
 
 -- document 01's number for each case
 abbrev pub outcome : Put → Outcome Queue
@@ -116,17 +107,15 @@ recordGood g m base = let len = getD m (base + 3) 0 in stands (g .mark) m base &
 abbrev pub noticeAt : Geometry → List ℕ → ℕ → Notice
 noticeAt g m base = record { number = getD m (base + 2) 0; place = base + g .head; len = getD m (base + 3) 0 }
 
--- By: is the queue within its bounds, does it hold a record, is that record good? Taking changes no byte.
-unfoldable pub takeBy : Bool → Bool → Bool → Geometry → Queue → List ℕ → Outcome Got
-unfolding shorter
-takeBy false c r g x m = refused 3 []
-takeBy true false r g x m = answered (empty x)
-takeBy true true false g x m = refused 3 []
-takeBy true true true g x m = answered (got (shorter (capacityOf g (length m)) x) (noticeAt g m (g .size * x .start)))
-
+-- Taking from an empty queue answers nothing; taking changes no byte.
 unfoldable pub taken : Geometry → Queue → List ℕ → Outcome Got
-unfolding takeBy
-taken g x m = takeBy (inBounds (capacityOf g (length m)) x) (leb 1 (x .count)) (recordGood g m (g .size * x .start)) g x m
+unfolding shorter
+taken g x m =
+    let cap = capacityOf g (length m) in
+    if not (inBounds cap x) then refused 3 []
+    else if eqb (x .count) 0 then answered (empty x)
+    else if not (recordGood g m (g .size * x .start)) then refused 3 []
+    else answered (got (shorter cap x) (noticeAt g m (g .size * x .start)))
 
 -- a notice as the queue holds it: its table number and its payload
 pub record Arrival : Type 0 where
@@ -150,12 +139,6 @@ heldFrom g m cap start i (suc n) = let r = heldFrom g m cap start (suc i) n in a
 unfoldable pub waiting : Geometry → Queue → List ℕ → List Arrival
 waiting g x m = heldFrom g m (capacityOf g (length m)) (x .start) 0 (x .count)
 
--- that notice, or none
-unfoldable pub oneIf : Bool → Arrival → List Arrival
-oneIf true a = a ∷ []
-oneIf false a = []
-
 -- what a put adds: a notice with 1 to 128 bytes of payload; another is lost
 unfoldable pub adds : Geometry → ℕ → List ℕ → List Arrival
-unfolding oneIf
-adds g number p = oneIf (leb 1 (length p) && leb (length p) (g .longest)) (record { number = number; payload = p })
+adds g number p = if leb 1 (length p) && leb (length p) (g .longest) then record { number = number; payload = p } ∷ [] else []

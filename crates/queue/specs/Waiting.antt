@@ -1,7 +1,7 @@
--- What puts and takes do to the notices that wait: an answered put adds its own at the back or loses it, a refused one changes no byte, a take hands out the oldest. Assumes nothing.
+-- What puts and takes do to the notices that wait: an answered put adds its own at the back or loses it, a refused one changes no byte, a take hands out the oldest.
 use mathlib.Core.Path.{_≡_, refl, sym, ap, _∙_}
 use mathlib.Core.Logic.{_⊎_, inl, inr, ⊎-elim}
-use mathlib.Core.Bool.{Bool, true, false, _&&_}
+use mathlib.Core.Bool.{Bool, true, false, _&&_, not}
 use mathlib.Core.List.{List, [], _∷_, _++_, append-nil}
 use Prim.Native.Nat.{ℕ, zero, suc, _+_, _-_, _*_, _≤_, _<_}
 use native.Mathlib.Numerals.{add-one}
@@ -9,18 +9,19 @@ use native.Mathlib.Nat.{add-zero, zero-add}
 use native.Mathlib.Omega.{arith}
 use lib.ListN.{length, getD, take, drop, take-append-drop, length-drop}
 use lib.Seq.{length-take-le, getD-take, getD-drop, drop-drop}
-use lib.Dec.{leb, ltb}
-use borrow.Author.Tests.{le-leb, lt-ltb, leb-true, ltb-true, ltb-false}
+use lib.Dec.{eqb, leb}
+use borrow.Author.Tests.{le-leb, lt-ltb, leb-true, leb-false, eqb-false, not-true, not-false}
 use Rattle.text.specs.Logic.{false-true, and-both, order}
 use Rattle.text.specs.Bytes.{bytes}
 use Rattle.text.specs.Text.{stands, partOf}
 use Rattle.text.specs.Laws.{part-is}
 use Rattle.moves.specs.Moves.{put}
 use Rattle.moves.specs.Laws.{put-there, put-elsewhere, put-length, part-first}
-use Rattle.table.specs.Outcome.{answered, refused}
+use Rattle.outcome.specs.Outcome.{Outcome, answered, refused, if_then_else_}
+use Rattle.outcome.specs.Laws.{ways}
 use Rattle.queue.specs.declared.Queue.{Queue}
 use Rattle.queue.specs.declared.Notice.{Notice}
-use Rattle.queue.specs.Queue.{Geometry, ours, capacityOf, startIn, inBounds, ringPlace, lostOne, longer, After, after, written, putBy, putInto, got, empty, shorter, recordGood, noticeAt, takeBy, taken, Arrival, recordBytes, arrivalOf, heldFrom, waiting, oneIf, adds}
+use Rattle.queue.specs.Queue.{Geometry, ours, capacityOf, startIn, inBounds, ringPlace, lostOne, longer, After, after, written, putInto, Got, got, empty, shorter, recordGood, noticeAt, taken, Arrival, recordBytes, arrivalOf, heldFrom, waiting, adds}
 use Rattle.queue.specs.Laws.{start-some, bounds-room, bounds-count, ring-near, ring-far, ring-below, put-is}
 
 -- the ring: two of its places are apart, and from the next start each is one nearer
@@ -139,24 +140,29 @@ module _ (x : Queue) (number : ℕ) (p m : List ℕ) where
     WroteIt = ((sized p ≡ true) × (x .count < capacityOf ours (length m))) × ((y ≡ longer x) × (k ≡ written ours x number p m))
 
     put-answers : after (answered y) k ≡ putInto ours x number p m → (inBounds (capacityOf ours (length m)) x ≡ true) × (LostIt ⊎ WroteIt)
-    unfolding putInto putBy
-    put-answers e = go (inBounds (capacityOf ours (length m)) x) (sized p) (ltb (x .count) (capacityOf ours (length m))) refl refl refl (ap (λ (w : After). w .said) e) (ap (λ (w : After). w .memory) e)
-      where
-        go : (b c r : Bool) → inBounds (capacityOf ours (length m)) x ≡ b → sized p ≡ c → ltb (x .count) (capacityOf ours (length m)) ≡ r → answered y ≡ putBy b c r ours x number p m .said → k ≡ putBy b c r ours x number p m .memory → (inBounds (capacityOf ours (length m)) x ≡ true) × (LostIt ⊎ WroteIt)
-        go false c r f g h o q = let z : _≡_ {A = ℕ} 0 1 = cc in absurd (omega arith)
-        go true false r f g h o q = (f, inl (g, (cc, q)))
-        go true true false f g h o q = let z : _≡_ {A = ℕ} 0 1 = cc in absurd (omega arith)
-        go true true true f g h o q = (f, inr ((g, ltb-true (x .count) (capacityOf ours (length m)) h), (cc, q)))
+    unfolding putInto
+    put-answers =
+        let cap = capacityOf ours (length m) in
+        let P : After → Type 0 = λ w. after (answered y) k ≡ w → (inBounds cap x ≡ true) × (LostIt ⊎ WroteIt) in
+        ways P (not (inBounds cap x))
+        (λ f e. let o = ap (λ (w : After). w .said) e in let z : _≡_ {A = ℕ} 0 1 = cc in absurd (omega arith))
+        (λ f.
+        ways P (not (sized p))
+        (λ g e. let o = ap (λ (w : After). w .said) e in (not-false _ f, inl (not-true _ g, (cc, ap (λ (w : After). w .memory) e))))
+        (λ g.
+        ways P (leb cap (x .count))
+        (λ h e. let o = ap (λ (w : After). w .said) e in let z : _≡_ {A = ℕ} 0 1 = cc in absurd (omega arith))
+        (λ h e. let o = ap (λ (w : After). w .said) e in (not-false _ f, inr ((not-false _ g, leb-false cap (x .count) h), (cc, ap (λ (w : After). w .memory) e))))))
 
     lost-waits : LostIt → waiting ours y k ≡ waiting ours x m ++ adds ours number p
-    unfolding waiting adds oneIf
+    unfolding waiting adds
     lost-waits w =
         (λ i. waiting ours (w .1 .0 i) (w .1 .1 i))
         ∙ sym (append-nil (waiting ours x m))
-        ∙ ap (λ (b : Bool). waiting ours x m ++ oneIf b (record { number = number; payload = p })) (sym (w .0))
+        ∙ ap (λ (b : Bool). waiting ours x m ++ (if b then record { number = number; payload = p } ∷ [] else [])) (sym (w .0))
 
     wrote-waits : inBounds (capacityOf ours (length m)) x ≡ true → WroteIt → waiting ours y k ≡ waiting ours x m ++ adds ours number p
-    unfolding waiting adds oneIf
+    unfolding waiting adds
     wrote-waits b w =
         let cap = capacityOf ours (length m) in
         let c : x .count < cap = w .0 .1 in
@@ -169,7 +175,7 @@ module _ (x : Queue) (number : ℕ) (p m : List ℕ) where
         ∙ (λ i. heldFrom ours d (capacityOf ours (written-length x number p m i)) (x .start) 0 (add-one (x .count) i))
         ∙ held-back ours cap d (x .start) 0 (x .count)
         ∙ (λ i. old i ++ (new i ∷ []))
-        ∙ ap (λ (b : Bool). waiting ours x m ++ oneIf b (record { number = number; payload = p })) (sym (w .0 .0))
+        ∙ ap (λ (b : Bool). waiting ours x m ++ (if b then record { number = number; payload = p } ∷ [] else [])) (sym (w .0 .0))
 
     -- an answered put adds its notice at the back, or nothing where that is lost, and keeps the memory's length and the bounds
     module _ (e : after (answered y) k ≡ putInto ours x number p m) where
@@ -192,14 +198,19 @@ module _ (x : Queue) (number : ℕ) (p m : List ℕ) where
   -- a refused put leaves every byte; within bounds it met a full queue with a payload of 1 to 128 bytes
   module _ (n : ℕ) (v k : List ℕ) where
     put-refuses : after (refused n v) k ≡ putInto ours x number p m → (k ≡ m) × (inBounds (capacityOf ours (length m)) x ≡ true → (capacityOf ours (length m) ≤ x .count) × ((1 ≤ length p) × (length p ≤ 128)))
-    unfolding putInto putBy
-    put-refuses e = go (inBounds (capacityOf ours (length m)) x) (sized p) (ltb (x .count) (capacityOf ours (length m))) refl refl refl (ap (λ (w : After). w .said) e) (ap (λ (w : After). w .memory) e)
-      where
-        go : (b c r : Bool) → inBounds (capacityOf ours (length m)) x ≡ b → sized p ≡ c → ltb (x .count) (capacityOf ours (length m)) ≡ r → refused n v ≡ putBy b c r ours x number p m .said → k ≡ putBy b c r ours x number p m .memory → (k ≡ m) × (inBounds (capacityOf ours (length m)) x ≡ true → (capacityOf ours (length m) ≤ x .count) × ((1 ≤ length p) × (length p ≤ 128)))
-        go false c r f g h o q = (q, λ t. absurd (false-true t f))
-        go true false r f g h o q = let z : _≡_ {A = ℕ} 0 1 = cc in absurd (omega arith)
-        go true true false f g h o q = (q, λ t. (ltb-false (x .count) (capacityOf ours (length m)) h, sized-both p g))
-        go true true true f g h o q = let z : _≡_ {A = ℕ} 0 1 = cc in absurd (omega arith)
+    unfolding putInto
+    put-refuses =
+        let cap = capacityOf ours (length m) in
+        let P : After → Type 0 = λ w. after (refused n v) k ≡ w → (k ≡ m) × (inBounds cap x ≡ true → (cap ≤ x .count) × ((1 ≤ length p) × (length p ≤ 128))) in
+        ways P (not (inBounds cap x))
+        (λ f e. (ap (λ (w : After). w .memory) e, λ t. absurd (false-true t (not-true _ f))))
+        (λ f.
+        ways P (not (sized p))
+        (λ g e. let o = ap (λ (w : After). w .said) e in let z : _≡_ {A = ℕ} 0 1 = cc in absurd (omega arith))
+        (λ g.
+        ways P (leb cap (x .count))
+        (λ h e. (ap (λ (w : After). w .memory) e, λ t. (leb-true cap (x .count) h, sized-both p (not-false _ g))))
+        (λ h e. let o = ap (λ (w : After). w .said) e in let z : _≡_ {A = ℕ} 0 1 = cc in absurd (omega arith))))
 
     pub put-stuck : after (refused n v) k ≡ putInto ours x number p m → k ≡ m
     put-stuck e = put-refuses e .0
@@ -229,14 +240,19 @@ module _ (x y : Queue) (n : Notice) (m : List ℕ) (e : answered (got y n) ≡ t
   HandedIt = ((inBounds (capacityOf ours (length m)) x ≡ true) × ((1 ≤ x .count) × (getD m (132 * x .start + 3) 0 ≤ 128))) × ((y ≡ shorter (capacityOf ours (length m)) x) × (n ≡ noticeAt ours m (132 * x .start)))
 
   take-gets : HandedIt
-  unfolding taken takeBy
-  take-gets = go (inBounds (capacityOf ours (length m)) x) (leb 1 (x .count)) (recordGood ours m (132 * x .start)) refl refl refl e
-    where
-      go : (b c r : Bool) → inBounds (capacityOf ours (length m)) x ≡ b → leb 1 (x .count) ≡ c → recordGood ours m (132 * x .start) ≡ r → answered (got y n) ≡ takeBy b c r ours x m → HandedIt
-      go false c r f g h o = let z : _≡_ {A = ℕ} 0 1 = cc in absurd (omega arith)
-      go true false r f g h o = let z : _≡_ {A = ℕ} 0 1 = cc in absurd (omega arith)
-      go true true false f g h o = let z : _≡_ {A = ℕ} 0 1 = cc in absurd (omega arith)
-      go true true true f g h o = ((f, (leb-true 1 (x .count) g, good-length m (132 * x .start) h)), (cc, cc))
+  unfolding taken
+  take-gets =
+      let P : Outcome Got → Type 0 = λ w. answered (got y n) ≡ w → HandedIt in
+      ways P (not (inBounds (capacityOf ours (length m)) x))
+      (λ f o. let z : _≡_ {A = ℕ} 0 1 = cc in absurd (omega arith))
+      (λ f.
+      ways P (eqb (x .count) 0)
+      (λ g o. let z : _≡_ {A = ℕ} 0 1 = cc in absurd (omega arith))
+      (λ g.
+      ways P (not (recordGood ours m (132 * x .start)))
+      (λ h o. let z : _≡_ {A = ℕ} 0 1 = cc in absurd (omega arith))
+      (λ h o. let q = eqb-false (x .count) 0 g in ((not-false _ f, (omega arith, good-length m (132 * x .start) (not-false _ h))), (cc, cc)))))
+      e
 
   take-first : x .start < capacityOf ours (length m) → arrivalOf ours (recordBytes ours m (ringPlace (x .start) 0 (capacityOf ours (length m)))) ≡ record { number = n .number; payload = partOf m (n .place) (n .len) }
   take-first s =
@@ -278,16 +294,20 @@ module _ (x y : Queue) (n : Notice) (m : List ℕ) (e : answered (got y n) ≡ t
 
 -- a take that finds nothing leaves the queue
 pub take-empty : (x y : Queue) (m : List ℕ) → answered (empty y) ≡ taken ours x m → y ≡ x
-unfolding taken takeBy
-take-empty x y m e = go (inBounds (capacityOf ours (length m)) x) (leb 1 (x .count)) (recordGood ours m (132 * x .start)) e
-  where
-    go : (b c r : Bool) → answered (empty y) ≡ takeBy b c r ours x m → y ≡ x
-    go false c r o = let z : _≡_ {A = ℕ} 0 1 = cc in absurd (omega arith)
-    go true false r o = cc
-    go true true false o = let z : _≡_ {A = ℕ} 0 1 = cc in absurd (omega arith)
-    go true true true o = let z : _≡_ {A = ℕ} 0 1 = cc in absurd (omega arith)
+unfolding taken
+take-empty x y m =
+    let P : Outcome Got → Type 0 = λ w. answered (empty y) ≡ w → y ≡ x in
+    ways P (not (inBounds (capacityOf ours (length m)) x))
+    (λ f o. let z : _≡_ {A = ℕ} 0 1 = cc in absurd (omega arith))
+    (λ f.
+    ways P (eqb (x .count) 0)
+    (λ g o. cc)
+    (λ g.
+    ways P (not (recordGood ours m (132 * x .start)))
+    (λ h o. let z : _≡_ {A = ℕ} 0 1 = cc in absurd (omega arith))
+    (λ h o. let z : _≡_ {A = ℕ} 0 1 = cc in absurd (omega arith))))
 
 -- a notice of 1 to 128 bytes is added
 pub adds-one : (number : ℕ) (p : List ℕ) → 1 ≤ length p → length p ≤ 128 → adds ours number p ≡ record { number = number; payload = p } ∷ []
-unfolding adds oneIf
+unfolding adds
 adds-one number p h g = rw (le-leb 1 (length p) h, le-leb (length p) 128 g)

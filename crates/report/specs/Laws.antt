@@ -1,4 +1,4 @@
--- Laws of the report: texts one after the other, how long they are, and the loops over digits, bytes and lines. Assumes nothing.
+-- Laws of the report: texts one after the other, how long they are, and the loops over digits, bytes and lines.
 use mathlib.Core.Path.{_≡_, refl, sym, ap, _∙_}
 use mathlib.Core.Logic.{inr}
 use mathlib.Core.Bool.{Bool, true, false}
@@ -9,6 +9,8 @@ use lib.ListN.{length, getD, take, drop, set, length-append, length-drop, length
 use lib.Seq.{take-all, take-suc, drop-cons, drop-drop, drop-set-lt, getD-set-same, length-take-le}
 use lib.Dec.{leb}
 use borrow.Author.Tests.{le-leb, lt-leb, lt-ltb, le-ltb, leb-true, leb-false}
+use Rattle.outcome.specs.Outcome.{if_then_else_}
+use Rattle.outcome.specs.Laws.{ways, same-way}
 use Rattle.text.specs.Bytes.{bytes}
 use Rattle.text.specs.Text.{partOf}
 use Rattle.text.specs.Laws.{part-is, part-none}
@@ -23,7 +25,7 @@ use Rattle.digest.specs.Theorem.{checked-inside, checked-within}
 use Rattle.report.specs.declared.Drawn.{Drawn}
 use Rattle.report.specs.declared.Reported.{Reported}
 use Rattle.report.specs.declared.Reported.the-variants as saying
-use Rattle.report.specs.Report.{Ink, inked, ink, moreDigits, decimalBy, decimal, below10, hexDigit, hex, nameOf, numberText, payloadText, valueOf, lineIf, Lines, onward, linesBy, lines, whole, unlessLong, textOf, Drawing, drawn, draw, Reporting, is, short, ifLong, report, reported}
+use Rattle.report.specs.Report.{Ink, inked, ink, decimalBy, decimal, hexDigit, hex, nameOf, numberText, payloadText, valueOf, lineOf, Lines, linesBy, lines, whole, textOf, Drawing, drawn, draw, Reporting, is, short, report, reported}
 
 -- no text
 pub ink-none : (o : List ℕ) (n : ℕ) → n ≤ length o → inked o n ≡ ink o n []
@@ -61,15 +63,11 @@ pub same-text : (r : Ink) (o : List ℕ) (n : ℕ) (p q : List ℕ) → r ≡ in
 same-text r o n p q e f = e ∙ ap (ink o n) f
 
 -- how long the texts are
-more-length : (b : Bool) (r : List ℕ) (d f : ℕ) → length r ≤ f → length (moreDigits b r d) ≤ suc f
-unfolding moreDigits
-more-length true r d f h = rw length-append (omega arith)
-more-length false r d f h = omega arith
-
 decimal-by-length : (f n : ℕ) → length (decimalBy f n) ≤ f
 unfolding decimalBy
 decimal-by-length zero n = omega arith
-decimal-by-length (suc f) n = more-length (leb 1 (n / 10)) (decimalBy f (n / 10)) (48 + n % 10) f (decimal-by-length f (n / 10))
+decimal-by-length (suc f) n =
+    ways (λ r. length (r ++ ((48 + n % 10) ∷ [])) ≤ suc f) (leb 1 (n / 10)) (λ q. let h = decimal-by-length f (n / 10) in rw length-append (omega arith)) (λ q. omega arith)
 
 pub decimal-length : (n : ℕ) → length (decimal n) ≤ 20
 unfolding decimal
@@ -119,18 +117,16 @@ drop-set d k x h =
     drop-cons (set d k x) k 0 l ∙ (λ i. getD-set-same d k x 0 h i ∷ drop-set-lt (suc k) d k x (omega arith) i) ∙ ap (λ (j : ℕ). x ∷ drop j d) e
 
 module _ (n : ℕ) (d₀ d : List ℕ) (k m : ℕ) (c : Counting n d₀ d (k + 1) m) where
-  at-digit : decimal n ≡ moreDigits (leb 1 (m / 10)) (decimalBy k (m / 10)) (48 + m % 10) ++ drop (k + 1) d
+  at-digit : decimal n ≡ (if leb 1 (m / 10) then decimalBy k (m / 10) else []) ++ ((48 + m % 10) ∷ []) ++ drop (k + 1) d
   unfolding decimalBy
   at-digit = let e : k + 1 ≡ suc k = omega arith in c .same ∙ ap (λ (j : ℕ). decimalBy j m ++ drop (k + 1) d) e
 
   module _ (x : ℕ) (v : x ≡ 48 + m % 10) where
     pub digit-last : m / 10 ≡ 0 → drop k (set d k x) ≡ decimal n
-    unfolding moreDigits
     digit-last z =
         drop-set d k x (omega (arith, c .within, c .long, c .twenty)) ∙ ap (λ (y : ℕ). y ∷ drop (k + 1) d) v ∙ sym (at-digit ∙ rw (lt-leb 1 (m / 10) (omega arith)))
 
     pub digit-more : (m / 10 ≡ 0 → ⊥) → Counting n d₀ (set d k x) k (m / 10)
-    unfolding moreDigits
     digit-more z =
         record {
           same =
@@ -166,11 +162,11 @@ hex-append [] q = refl
 hex-append (b ∷ p) q = ap (λ (r : List ℕ). hexDigit (b / 16) ∷ hexDigit (b % 16) ∷ r) (hex-append p q)
 
 pub hex-below : (n : ℕ) → n < 10 → 48 + n ≡ hexDigit n
-unfolding hexDigit below10
+unfolding hexDigit
 hex-below n h = rw (lt-ltb n 10 h)
 
 pub hex-above : (n : ℕ) → 10 ≤ n → 55 + n ≡ hexDigit n
-unfolding hexDigit below10
+unfolding hexDigit
 hex-above n h = rw (le-ltb n 10 h)
 
 pub record Hexing (p : List ℕ) (o₀ : List ℕ) (at : ℕ) (o : List ℕ) (i n : ℕ) : Type 0 where
@@ -242,14 +238,15 @@ module _ (a : Answer) (s : List ℕ) where
   text-length : length texts ≤ 21 + 2 * a .len
   text-length = omega (arith, value-length (numberOf a) (partOf s (a .place) (a .len)), part-short s (a .place) (a .len))
 
-  pub line-length : (b : Bool) → length (lineIf b a s) ≤ 53 + 2 * a .len
-  unfolding lineIf
-  line-length true =
-      rw (length-append, length-append, length-append) (omega (arith, decimal-length (a .consumed), name-length (a .kind), text-length))
-  line-length false = omega arith
+  found-length : length (decimal (a .consumed) ++ (nameOf (a .kind) ++ (texts ++ bytes "\n"))) ≤ 53 + 2 * a .len
+  found-length = rw (length-append, length-append, length-append) (omega (arith, decimal-length (a .consumed), name-length (a .kind), text-length))
 
-  pub line-none : (o : List ℕ) (n : ℕ) → n ≤ length o → isFound a ≡ false → inked o n ≡ ink o n (lineIf (isFound a) a s)
-  unfolding lineIf
+  pub line-length : length (lineOf a s) ≤ 53 + 2 * a .len
+  unfolding lineOf
+  line-length = ways (λ (l : List ℕ). length l ≤ 53 + 2 * a .len) (isFound a) (λ q. found-length) (λ q. omega arith)
+
+  pub line-none : (o : List ℕ) (n : ℕ) → n ≤ length o → isFound a ≡ false → inked o n ≡ ink o n (lineOf a s)
+  unfolding lineOf
   line-none o n h e = rw e (ink-none o n h)
 
   module _ (o : List ℕ) (n : ℕ) (h : n + (53 + 2 * a .len) ≤ length o) (o₁ : List ℕ) (n₁ : ℕ) (e₁ : inked o₁ n₁ ≡ ink o n (decimal (a .consumed))) (l₁ : length o₁ ≡ length o) where
@@ -276,41 +273,43 @@ module _ (a : Answer) (s : List ℕ) where
         pub end-room : n₃ + 1 ≤ length o₃
         end-room = omega (arith, ink-at o n (decimal (a .consumed) ++ nameOf (a .kind) ++ texts) o₃ n₃ valued, front-length)
 
-        pub line-some : isFound a ≡ true → (r : Ink) → r ≡ ink o₃ n₃ (10 ∷ []) → r ≡ ink o n (lineIf (isFound a) a s)
-        unfolding lineIf
+        pub line-some : isFound a ≡ true → (r : Ink) → r ≡ ink o₃ n₃ (10 ∷ []) → r ≡ ink o n (lineOf a s)
+        unfolding lineOf
         line-some f r e =
             rw f (then-ink o n (decimal (a .consumed) ++ nameOf (a .kind) ++ texts) (10 ∷ []) o₃ n₃ r valued e (omega (arith, front-length))
             ∙ ap (ink o n) (append-assoc (decimal (a .consumed) ++ nameOf (a .kind)) texts (10 ∷ []) ∙ append-assoc (decimal (a .consumed)) (nameOf (a .kind)) (texts ++ (10 ∷ []))))
 
 -- the lines' own equation, without fuel
-onward-same : (b : Bool) (l : List ℕ) (r q : Lines) (n : ℕ) → (b ≡ true → r ≡ q) → onward b l r n ≡ onward b l q n
-unfolding onward
-onward-same true l r q n h = ap (λ (x : Lines). record { text = l ++ x .text; left = x .left }) (h refl)
-onward-same false l r q n h = refl
-
 abbrev says : List ℕ → Answer
 says s = digestChecked [] s
 
+-- a line before the others; and the lines of bytes of which nothing is consumed
+abbrev joined : List ℕ → Lines → Lines
+joined l r = record { text = l ++ r .text; left = r .left }
+
+abbrev ended : List ℕ → Lines
+ended s = record { text = []; left = length s }
+
 abbrev saidLine : List ℕ → List ℕ
-saidLine s = lineIf (isFound (says s)) (says s) s
+saidLine s = lineOf (says s) s
 
 lines-same : (n m : ℕ) (s : List ℕ) → length s < n → length s < m → linesBy n s ≡ linesBy m s
 unfolding linesBy
 lines-same zero m s h g = absurd (omega arith)
 lines-same (suc n) zero s h g = absurd (omega arith)
 lines-same (suc n) (suc m) s h g =
-    onward-same (leb 1 (says s .consumed)) (saidLine s) (linesBy n (drop (says s .consumed) s)) (linesBy m (drop (says s .consumed) s)) (length s) (λ q.
+    same-way (ended s) (leb 1 (says s .consumed)) (λ q.
     let k = leb-true 1 (says s .consumed) q in
     let l = length-drop (says s .consumed) s in
-    lines-same n m (drop (says s .consumed) s) (omega (arith, checked-within [] s)) (omega (arith, checked-within [] s)))
+    ap (joined (saidLine s)) (lines-same n m (drop (says s .consumed) s) (omega (arith, checked-within [] s)) (omega (arith, checked-within [] s))))
 
-lines-step : (s : List ℕ) → lines s ≡ onward (leb 1 (says s .consumed)) (saidLine s) (lines (drop (says s .consumed) s)) (length s)
+lines-step : (s : List ℕ) → lines s ≡ (if leb 1 (says s .consumed) then joined (saidLine s) (lines (drop (says s .consumed) s)) else ended s)
 unfolding lines linesBy
 lines-step s =
-    onward-same (leb 1 (says s .consumed)) (saidLine s) (linesBy (length s) (drop (says s .consumed) s)) (lines (drop (says s .consumed) s)) (length s) (λ q.
+    same-way (ended s) (leb 1 (says s .consumed)) (λ q.
     let k = leb-true 1 (says s .consumed) q in
     let l = length-drop (says s .consumed) s in
-    lines-same (length s) (suc (length (drop (says s .consumed) s))) (drop (says s .consumed) s) (omega (arith, checked-within [] s)) (omega arith))
+    ap (joined (saidLine s)) (lines-same (length s) (suc (length (drop (says s .consumed) s))) (drop (says s .consumed) s) (omega (arith, checked-within [] s)) (omega arith)))
 
 -- the loop over lines: what is to be drawn of s is what was drawn, and what is to be drawn from `at` on
 pub record Lining (s o₀ : List ℕ) (from : ℕ) (o : List ℕ) (at n : ℕ) : Type 0 where
@@ -332,11 +331,10 @@ module _ (s o₀ : List ℕ) (from : ℕ) (o : List ℕ) (at n : ℕ) (g : Linin
   pub consumed-within : at + a .consumed ≤ length s
   consumed-within = omega (arith, ap (λ (x : Answer). x .consumed) e, checked-within [] d, rest-length, g .within)
 
-  lines-at : lines (drop at s) ≡ onward (leb 1 (a .consumed)) (lineIf (isFound a) a d) (lines (drop (a .consumed) d)) (length d)
-  lines-at = ap lines (sym f) ∙ lines-step d ∙ ap (λ (x : Answer). onward (leb 1 (x .consumed)) (lineIf (isFound x) x d) (lines (drop (x .consumed) d)) (length d)) (sym e)
+  lines-at : lines (drop at s) ≡ (if leb 1 (a .consumed) then joined (lineOf a d) (lines (drop (a .consumed) d)) else ended d)
+  lines-at = ap lines (sym f) ∙ lines-step d ∙ ap (λ (x : Answer). if leb 1 (x .consumed) then joined (lineOf x d) (lines (drop (x .consumed) d)) else ended d) (sym e)
 
   pub draw-still : a .consumed ≡ 0 → _≡_ {A = Drawing} (record { ink = inked o n; left = length d }) (draw o₀ from (lines s))
-  unfolding onward
   draw-still z =
       let l : lines (drop at s) ≡ record { text = []; left = length d } = lines-at ∙ rw (lt-leb 1 (a .consumed) (omega arith)) in
       let k : lines s ≡ record { text = g .sofar; left = length d } = g .same ∙ ap (λ (x : Lines). record { text = g .sofar ++ x .text; left = x .left }) l ∙ ap (λ (x : List ℕ). record { text = x; left = length d }) (append-nil (g .sofar)) in
@@ -348,15 +346,14 @@ module _ (s o₀ : List ℕ) (from : ℕ) (o : List ℕ) (at n : ℕ) (g : Linin
         let w = checked-inside [] d in
         omega (arith, ink-at o₀ from (g .sofar) o n (g .inks), g .bound, g .room, g .long, consumed-within, w .payload, ap (λ (x : Answer). x .consumed) e, ap (λ (x : Answer). x .len) e)
 
-    pub draw-more : (o′ : List ℕ) (n′ : ℕ) → inked o′ n′ ≡ ink o n (lineIf (isFound a) a d) → length o′ ≡ length o → Lining s o₀ from o′ (at + a .consumed) n′
-    unfolding onward
+    pub draw-more : (o′ : List ℕ) (n′ : ℕ) → inked o′ n′ ≡ ink o n (lineOf a d) → length o′ ≡ length o → Lining s o₀ from o′ (at + a .consumed) n′
     draw-more o′ n′ u l =
-        let t = lineIf (isFound a) a d in
+        let t = lineOf a d in
         let w = checked-inside [] d in
         let p : drop (a .consumed) d ≡ drop (at + a .consumed) s = ap (drop (a .consumed)) f ∙ drop-drop (a .consumed) at s in
         let q : lines (drop at s) ≡ record { text = t ++ lines (drop (at + a .consumed) s) .text; left = lines (drop (at + a .consumed) s) .left } =
         lines-at ∙ rw (le-leb 1 (a .consumed) (omega arith)) (ap (λ (x : List ℕ). record { text = t ++ lines x .text; left = lines x .left }) p) in
-        let k = line-length a d (isFound a) in
+        let k = line-length a d in
         let b : length (g .sofar) + length t ≤ 55 * (at + a .consumed) = omega (arith, g .bound, w .payload, ap (λ (x : Answer). x .consumed) e, ap (λ (x : Answer). x .len) e) in
         record {
           sofar = g .sofar ++ t;
@@ -371,17 +368,17 @@ module _ (s o₀ : List ℕ) (from : ℕ) (o : List ℕ) (at n : ℕ) (g : Linin
 -- the ways out of a report
 module _ (s o : List ℕ) where
   pub report-short : length o < 229376 → short o ≡ report s o
-  unfolding report ifLong
-  report-short h = rw (lt-leb 229376 (length o) h)
+  unfolding report
+  report-short h = rw (lt-ltb (length o) 229376 h)
 
   module _ (h : 229376 ≤ length o) where
     at-text : is (ink o 0 (textOf s)) ≡ report s o
-    unfolding report ifLong
-    at-text = rw (le-leb 229376 (length o) h)
+    unfolding report
+    at-text = rw (le-ltb (length o) 229376 h)
 
     pub report-long : 4096 < length s → (r : Ink) → r ≡ ink o 0 (bytes "refused 1\n") → is r ≡ report s o
-    unfolding textOf unlessLong
-    report-long l r e = ap is (e ∙ ap (ink o 0) (let q : bytes "refused 1\n" ≡ textOf s = rw (lt-leb (length s) 4096 l) in q)) ∙ at-text
+    unfolding textOf
+    report-long l r e = ap is (e ∙ ap (ink o 0) (let q : bytes "refused 1\n" ≡ textOf s = rw (lt-ltb 4096 (length s) l) in q)) ∙ at-text
 
     module _ (l : length s ≤ 4096) (o₁ : List ℕ) (n₁ : ℕ) (e₁ : inked o₁ n₁ ≡ ink o 0 (bytes "records 0\n")) (l₁ : length o₁ ≡ length o) where
       pub lines-room : n₁ + 55 * length s ≤ length o₁
@@ -420,31 +417,28 @@ module _ (s o : List ℕ) where
             last-room = omega (arith, ink-at o 0 (bytes "records 0\n" ++ lines s .text ++ bytes "left" ++ numberText (lines s .left)) o₄ n₄ counted, count-front)
 
             pub report-is : (r : Ink) → r ≡ ink o₄ n₄ (bytes "\n") → is r ≡ report s o
-            unfolding textOf unlessLong whole
+            unfolding textOf whole
             report-is r e =
                 let a = bytes "records 0\n" in
                 let b = lines s .text in
                 let c = numberText (lines s .left) in
                 let w : a ++ b ++ bytes "left" ++ c ++ bytes "\n" ≡ a ++ (b ++ (bytes "left" ++ (c ++ bytes "\n"))) =
                 append-assoc (a ++ b ++ bytes "left") c (bytes "\n") ∙ append-assoc (a ++ b) (bytes "left") (c ++ bytes "\n") ∙ append-assoc a b (bytes "left" ++ (c ++ bytes "\n")) in
-                let q : a ++ (b ++ (bytes "left" ++ (c ++ bytes "\n"))) ≡ textOf s = rw (le-leb (length s) 4096 l) in
+                let q : a ++ (b ++ (bytes "left" ++ (c ++ bytes "\n"))) ≡ textOf s = rw (le-ltb 4096 (length s) l) in
                 ap is (then-ink o 0 (a ++ b ++ bytes "left" ++ c) (bytes "\n") o₄ n₄ r counted e (omega (arith, count-front)) ∙ ap (ink o 0) (w ∙ q)) ∙ at-text
 
 -- the lines take at most 55 bytes for each byte
-onward-length : (b : Bool) (l : List ℕ) (r : Lines) (n c : ℕ) → (b ≡ true → length l + length (r .text) ≤ c) → length (onward b l r n .text) ≤ c
-unfolding onward
-onward-length true l r n c h = rw length-append (h refl)
-onward-length false l r n c h = omega arith
-
 lines-by-length : (n : ℕ) (s : List ℕ) → length (linesBy n s .text) ≤ 55 * length s
 unfolding linesBy
 lines-by-length zero s = omega arith
 lines-by-length (suc n) s =
-    onward-length (leb 1 (says s .consumed)) (saidLine s) (linesBy n (drop (says s .consumed) s)) (length s) (55 * length s) (λ q.
+    ways (λ (r : Lines). length (r .text) ≤ 55 * length s) (leb 1 (says s .consumed))
+    (λ q.
     let k = leb-true 1 (says s .consumed) q in
     let l = length-drop (says s .consumed) s in
     let w = checked-inside [] s in
-    omega (arith, lines-by-length n (drop (says s .consumed) s), line-length (says s) s (isFound (says s)), w .payload, w .all))
+    rw length-append (omega (arith, lines-by-length n (drop (says s .consumed) s), line-length (says s) s, w .payload, w .all)))
+    (λ q. omega arith)
 
 pub lines-length : (s : List ℕ) → length (lines s .text) ≤ 55 * length s
 unfolding lines

@@ -1,9 +1,9 @@
 -- What atread prints, in document 01's words.
-use mathlib.Core.Bool.{Bool, true, false}
 use mathlib.Core.List.{List, [], _∷_, _++_}
 use Prim.Native.Nat.{ℕ, zero, suc, _+_, _/_, _%_}
 use lib.ListN.{length, drop}
 use lib.Dec.{leb, ltb}
+use Rattle.outcome.specs.Outcome.{if_then_else_}
 use Rattle.text.specs.Bytes.{bytes}
 use Rattle.text.specs.Text.{partOf}
 use Rattle.moves.specs.Moves.{put}
@@ -28,27 +28,17 @@ abbrev pub ink : List ℕ → ℕ → List ℕ → Ink
 ink o n p = inked (put o n p) (n + length p)
 
 -- decimal digits without leading zeros, with fuel, of which 20 is enough for 64 bits
-unfoldable pub moreDigits : Bool → List ℕ → ℕ → List ℕ
-moreDigits true r d = r ++ (d ∷ [])
-moreDigits false r d = d ∷ []
-
 unfoldable pub decimalBy : ℕ → ℕ → List ℕ
-unfolding moreDigits
 decimalBy zero n = []
-decimalBy (suc f) n = let r = decimalBy f (n / 10) in moreDigits (leb 1 (n / 10)) r (48 + n % 10)
+decimalBy (suc f) n = let r = decimalBy f (n / 10) in (if leb 1 (n / 10) then r else []) ++ ((48 + n % 10) ∷ [])
 
 unfoldable pub decimal : ℕ → List ℕ
 unfolding decimalBy
 decimal n = decimalBy 20 n
 
 -- two hexadecimal digits for each byte, in upper case
-unfoldable pub below10 : Bool → ℕ → ℕ
-below10 true n = 48 + n
-below10 false n = 55 + n
-
 unfoldable pub hexDigit : ℕ → ℕ
-unfolding below10
-hexDigit n = below10 (ltb n 10) n
+hexDigit n = if ltb n 10 then 48 + n else 55 + n
 
 unfoldable pub hex : List ℕ → List ℕ
 unfolding hexDigit
@@ -86,27 +76,22 @@ valueOf none p = payloadText p
 valueOf (number n) p = numberText n
 
 -- A line is the bytes consumed, the kind, then the number or the payload; steps that answer None print nothing.
-unfoldable pub lineIf : Bool → Answer → List ℕ → List ℕ
-lineIf true a s = decimal (a .consumed) ++ (nameOf (a .kind) ++ (valueOf (numberOf a) (partOf s (a .place) (a .len)) ++ bytes "\n"))
-lineIf false a s = []
+unfoldable pub lineOf : Answer → List ℕ → List ℕ
+lineOf a s = if isFound a then decimal (a .consumed) ++ (nameOf (a .kind) ++ (valueOf (numberOf a) (partOf s (a .place) (a .len)) ++ bytes "\n")) else []
 
 -- the lines, and the bytes left
 pub record Lines : Type 0 where
   pub text : List ℕ
   pub left : ℕ
 
-unfoldable pub onward : Bool → List ℕ → Lines → ℕ → Lines
-onward true l r n = record { text = l ++ r .text; left = r .left }
-onward false l r n = record { text = []; left = n }
-
 -- Digests until 0 is consumed or nothing is left; with fuel, of which one more than the bytes is enough.
 unfoldable pub linesBy : ℕ → List ℕ → Lines
-unfolding onward lineIf
+unfolding lineOf
 linesBy zero s = record { text = []; left = length s }
 linesBy (suc n) s =
     let a = digestChecked [] s in
     let r = linesBy n (drop (a .consumed) s) in
-    onward (leb 1 (a .consumed)) (lineIf (isFound a) a s) r (length s)
+    if leb 1 (a .consumed) then record { text = lineOf a s ++ r .text; left = r .left } else record { text = []; left = length s }
 
 unfoldable pub lines : List ℕ → Lines
 unfolding linesBy
@@ -116,13 +101,9 @@ lines s = linesBy (suc (length s)) s
 unfoldable pub whole : Lines → List ℕ
 whole l = bytes "records 0\n" ++ (l .text ++ (bytes "left" ++ (numberText (l .left) ++ bytes "\n")))
 
-unfoldable pub unlessLong : Bool → List ℕ → List ℕ
-unlessLong true p = p
-unlessLong false p = bytes "refused 1\n"
-
 unfoldable pub textOf : List ℕ → List ℕ
-unfolding unlessLong whole lines
-textOf s = unlessLong (leb (length s) 4096) (whole (lines s))
+unfolding whole lines
+textOf s = if ltb 4096 (length s) then bytes "refused 1\n" else whole (lines s)
 
 -- memory with the lines put into it, and the bytes left
 pub record Drawing : Type 0 where
@@ -140,13 +121,9 @@ pub data Reporting : Type 0 where
   is : Ink → Reporting
   short : List ℕ → Reporting
 
-unfoldable pub ifLong : Bool → List ℕ → Reporting → Reporting
-ifLong true o r = r
-ifLong false o r = short o
-
 unfoldable pub report : List ℕ → List ℕ → Reporting
-unfolding ifLong textOf
-report s o = ifLong (leb 229376 (length o)) o (is (ink o 0 (textOf s)))
+unfolding textOf
+report s o = if ltb (length o) 229376 then short o else is (ink o 0 (textOf s))
 
 abbrev pub reported : Reported → List ℕ → Reporting
 reported (says.Is n) o = is (inked o n)

@@ -4,7 +4,7 @@ ghost use mathlib.Core.Path.{_≡_};
 ghost use Prim.Native.Nat.{_≤_, _<_, _+_, _*_};
 ghost use lib.ListN.{length, drop};
 ghost use Rattle.answers.specs.Answer.{numbered, isFound};
-ghost use Rattle.report.specs.Report.{inked, ink, decimal, hexDigit, hex, nameOf, payloadText, numberText, valueOf, lineIf, lines, drawn, draw, reported, report};
+ghost use Rattle.report.specs.Report.{inked, ink, decimal, hexDigit, hex, nameOf, payloadText, numberText, valueOf, lineOf, lines, drawn, draw, reported, report};
 use answers::Answer;
 use answers::Kind;
 
@@ -129,7 +129,7 @@ fn value(out: &mut [u8], at: usize, kind: Kind, n: u32, p: &[u8]) -> usize
 // The line of an answer on s; None prints nothing.
 fn line(out: &mut [u8], at: usize, s: &[u8], a: Answer) -> usize
     requires { ⌜ at + (53 + 2 * a .len) ≤ length (now out) ⌝ }
-    ensures { λ r. ⌜ inked (now (out .exit)) r ≡ ink (now (out .entry)) at (lineIf (isFound a) a (now (s .entry))) ⌝ }
+    ensures { λ r. ⌜ inked (now (out .exit)) r ≡ ink (now (out .entry)) at (lineOf a (now (s .entry))) ⌝ }
 {
     if !answers::is_found(a) {
         return at;

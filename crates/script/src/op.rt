@@ -1,169 +1,46 @@
-// One op of a script: read, done through the public calls, and its answer said.
-use super::Memory;
-use super::read;
-use super::read::Amount;
-use super::read::Filled;
-use super::say;
+// An op of a script, done through the public calls, and its answer said.
 use answers::Answer;
 use answers::Kind;
 use ingress::Advanced;
 use ingress::State;
 use ingress::Written;
+use notation::Memory;
+use notation::op;
+use notation::op::Op;
+use notation::say;
+use queue::Notice;
 use queue::Queue;
 use queue::Taken;
+use slot::Held;
 use slot::Looked;
 use slot::Slot;
 use slot::Turned;
 
-// An op. A number of bytes is that of the piece's memory, into which they were read.
-pub enum Op {
-    Write(usize),
-    Put(usize),
-    Commit(usize),
-    Clear,
-    Reset,
-    Take,
-    Look,
-    Signal(Kind, u32, usize),
-    Bad,
+// What an op answered. Full is refusal 5 of a write, with the bytes taken.
+pub enum Outcome {
+    Took(usize),
+    Advanced,
+    Done,
+    Nothing,
+    Notice(Notice),
+    Held(Slot),
+    Refused(u64),
+    BadTable(usize),
+    Full(usize),
 }
 
-// An op with bytes: W, A or O.
-fn op_of_bytes(letter: u8, n: usize) -> Op {
-    match letter {
-        b'W' => Op::Write(n),
-        b'A' => Op::Put(n),
-        b'O' => Op::Signal(Kind::Ok, 0, n),
-        _ => Op::Bad,
-    }
+// What an op answered, and the state that it left.
+pub struct Left {
+    state: State,
+    outcome: Outcome,
 }
 
-// An op with a number: M, P or E.
-fn op_of_number(letter: u8, n: u32) -> Op {
-    match letter {
-        b'M' => Op::Commit(n as usize),
-        b'P' => Op::Signal(Kind::Prompt, n, 0),
-        b'E' => Op::Signal(Kind::Cme, n, 0),
-        _ => Op::Bad,
-    }
-}
-
-// The largest number of an op.
-fn most(letter: u8) -> u32 {
-    match letter {
-        b'P' => 255,
-        b'E' => 65535,
-        _ => read::MOST,
-    }
-}
-
-// An op of one letter: C, R, T, B, and L in the wide notation.
-fn op_alone(letter: u8, wide: bool) -> Op {
-    match letter {
-        b'C' => Op::Clear,
-        b'R' => Op::Reset,
-        b'T' => Op::Take,
-        b'B' => Op::Signal(Kind::Busy, 0, 0),
-        b'L' => look_if(wide),
-        _ => Op::Bad,
-    }
-}
-
-// The lookup is drive's alone.
-fn look_if(wide: bool) -> Op {
-    if wide {
-        return Op::Look;
-    }
-    Op::Bad
-}
-
-// Has the op bytes?
-fn takes_bytes(letter: u8) -> bool {
-    match letter {
-        b'W' | b'A' | b'O' => true,
-        _ => false,
-    }
-}
-
-// Has the op a number?
-fn takes_number(letter: u8) -> bool {
-    match letter {
-        b'M' | b'P' | b'E' => true,
-        _ => false,
-    }
-}
-
-// Reads an op, its bytes into the piece's memory.
-pub fn read_op(s: &[u8], wide: bool, piece: &mut Memory) -> Op {
-    let letter = read::byte_at(s, 0);
-    let rest = read::between(s, 1, s.len());
-    if takes_bytes(letter) {
-        return match read::data(rest, wide, piece) {
-            Filled::Is(n) => op_of_bytes(letter, n),
-            Filled::Bad => Op::Bad,
-        };
-    }
-    if takes_number(letter) {
-        return match read::number(rest, most(letter)) {
-            Amount::Is(n) => op_of_number(letter, n),
-            Amount::Bad => Op::Bad,
-        };
-    }
-    if s.len() != 1 {
-        return Op::Bad;
-    }
-    op_alone(letter, wide)
-}
-
-// Does the op read?
-pub fn is_good(s: &[u8], wide: bool, piece: &mut Memory) -> bool {
-    match read_op(s, wide, piece) {
-        Op::Write(_) => true,
-        Op::Put(_) => true,
-        Op::Commit(_) => true,
-        Op::Clear => true,
-        Op::Reset => true,
-        Op::Take => true,
-        Op::Look => true,
-        Op::Signal(_, _, _) => true,
-        Op::Bad => false,
-    }
-}
-
-// The state after an op, and how much of the answer's memory is used.
-pub struct Said {
-    pub state: State,
-    pub at: usize,
-}
-
-// What was done, in words, and the state that it left.
-fn did(s: State, words: &[u8], out: &mut Memory, at: usize) -> Said {
-    Said {
+// Both of them.
+fn leaving(s: State, o: Outcome) -> Left {
+    Left {
         state: s,
-        at: say::words(out, at, words),
+        outcome: o,
     }
-}
-
-// A refusal by its number, with the state as it stood or as it was left.
-fn refused(s: State, n: u64, out: &mut Memory, at: usize) -> Said {
-    Said {
-        state: s,
-        at: say::refusal(out, at, n),
-    }
-}
-
-// Refusal 2 with the record's number.
-fn bad_table(s: State, k: usize, out: &mut Memory, at: usize) -> Said {
-    Said {
-        state: s,
-        at: say::refusal_of_record(out, at, k),
-    }
-}
-
-// The bytes that a write took.
-fn took(out: &mut Memory, at: usize, n: usize) -> usize {
-    let used = say::words(out, at, b"took ");
-    say::number(out, used, n as u64)
 }
 
 // A write.
@@ -174,24 +51,13 @@ fn do_write(
     buf: &mut [u8],
     slot_mem: &mut [u8],
     queue_mem: &mut [u8],
-    out: &mut Memory,
-    at: usize,
-) -> Said {
+) -> Left {
     match ingress::write(now, p, table, buf, slot_mem, queue_mem) {
-        Written::Is(s, n) => Said {
-            state: s,
-            at: took(out, at, n),
-        },
-        Written::TooLong => refused(now, 1, out, at),
-        Written::BadTable(k) => bad_table(now, k, out, at),
-        Written::BadState => refused(now, 3, out, at),
-        Written::Full(s, n) => {
-            let used = say::words(out, at, b"refused 5 ");
-            Said {
-                state: s,
-                at: took(out, used, n),
-            }
-        }
+        Written::Is(s, n) => leaving(s, Outcome::Took(n)),
+        Written::TooLong => leaving(now, Outcome::Refused(1)),
+        Written::BadTable(k) => leaving(now, Outcome::BadTable(k)),
+        Written::BadState => leaving(now, Outcome::Refused(3)),
+        Written::Full(s, n) => leaving(s, Outcome::Full(n)),
     }
 }
 
@@ -203,17 +69,27 @@ fn do_advance(
     buf: &mut [u8],
     slot_mem: &mut [u8],
     queue_mem: &mut [u8],
-    out: &mut Memory,
-    at: usize,
-) -> Said {
+) -> Left {
     match ingress::advance(now, n, table, buf, slot_mem, queue_mem) {
-        Advanced::Is(s) => did(s, b"advanced", out, at),
-        Advanced::TooLong => refused(now, 1, out, at),
-        Advanced::BadTable(k) => bad_table(now, k, out, at),
-        Advanced::BadState => refused(now, 3, out, at),
-        Advanced::NoRoom => refused(now, 4, out, at),
-        Advanced::Full(s) => refused(s, 5, out, at),
+        Advanced::Is(s) => leaving(s, Outcome::Advanced),
+        Advanced::TooLong => leaving(now, Outcome::Refused(1)),
+        Advanced::BadTable(k) => leaving(now, Outcome::BadTable(k)),
+        Advanced::BadState => leaving(now, Outcome::Refused(3)),
+        Advanced::NoRoom => leaving(now, Outcome::Refused(4)),
+        Advanced::Full(s) => leaving(s, Outcome::Refused(5)),
     }
+}
+
+// A clear.
+fn do_clear(now: State) -> Left {
+    let slot = now.slot;
+    let queue = now.queue;
+    let cleared = State {
+        end: ingress::clear(now.end),
+        slot: slot,
+        queue: queue,
+    };
+    leaving(cleared, Outcome::Done)
 }
 
 // The state with another slot.
@@ -236,42 +112,22 @@ fn with_queue(now: State, q: Queue) -> State {
     }
 }
 
-// A clear.
-fn do_clear(now: State, out: &mut Memory, at: usize) -> Said {
-    let slot = now.slot;
-    let queue = now.queue;
-    let cleared = State {
-        end: ingress::clear(now.end),
-        slot: slot,
-        queue: queue,
-    };
-    did(cleared, b"done", out, at)
-}
-
 // What a reset or a signal left.
-fn said_turn(now: State, t: Turned, out: &mut Memory, at: usize) -> Said {
+fn turned(now: State, t: Turned) -> Left {
     match t {
-        Turned::Is(x) => did(with_slot(now, x), b"done", out, at),
-        Turned::BadLength => refused(now, 3, out, at),
+        Turned::Is(x) => leaving(with_slot(now, x), Outcome::Done),
+        Turned::BadLength => leaving(now, Outcome::Refused(3)),
     }
 }
 
 // A reset.
-fn do_reset(now: State, slot_mem: &[u8], out: &mut Memory, at: usize) -> Said {
+fn do_reset(now: State, slot_mem: &[u8]) -> Left {
     let slot = now.slot;
-    said_turn(now, slot.reset(slot_mem), out, at)
+    turned(now, slot.reset(slot_mem))
 }
 
 // A signal.
-fn do_signal(
-    now: State,
-    kind: Kind,
-    n: u32,
-    p: &[u8],
-    slot_mem: &mut [u8],
-    out: &mut Memory,
-    at: usize,
-) -> Said {
+fn do_signal(now: State, kind: Kind, n: u32, p: &[u8], slot_mem: &mut [u8]) -> Left {
     let slot = now.slot;
     let a = Answer {
         kind: kind,
@@ -280,51 +136,30 @@ fn do_signal(
         len: p.len(),
         consumed: 0,
     };
-    said_turn(now, slot.signal(a, p, slot_mem), out, at)
+    turned(now, slot.signal(a, p, slot_mem))
 }
 
-// A take: the notice's number and its payload in hex.
-fn do_take(now: State, queue_mem: &[u8], out: &mut Memory, at: usize) -> Said {
+// A take.
+fn do_take(now: State, queue_mem: &[u8]) -> Left {
     let queue = now.queue;
     match queue.take(queue_mem) {
-        Taken::Is(q, notice) => {
-            let used = say::words(out, at, b"notice ");
-            let numbered = say::number(out, used, notice.number as u64);
-            let apart = say::words(out, numbered, b" ");
-            let payload = text::part(queue_mem, notice.place, notice.len);
-            Said {
-                state: with_queue(now, q),
-                at: say::hex(out, apart, payload),
-            }
-        }
-        Taken::Nothing(q) => did(with_queue(now, q), b"nothing", out, at),
-        Taken::Bad => refused(now, 3, out, at),
+        Taken::Is(q, notice) => leaving(with_queue(now, q), Outcome::Notice(notice)),
+        Taken::Nothing(q) => leaving(with_queue(now, q), Outcome::Nothing),
+        Taken::Bad => leaving(now, Outcome::Refused(3)),
     }
-}
-
-// What a signalled slot holds.
-fn say_held(x: Slot, slot_mem: &[u8], out: &mut Memory, at: usize) -> usize {
-    let held = x.held;
-    let used = say::words(out, at, b"held ");
-    let named = say::held(out, used, held, x.number);
-    let apart = say::words(out, named, b" ");
-    say::hex(out, apart, x.payload(slot_mem))
 }
 
 // A lookup.
-fn do_look(now: State, slot_mem: &[u8], out: &mut Memory, at: usize) -> Said {
+fn do_look(now: State, slot_mem: &[u8]) -> Left {
     let slot = now.slot;
     match slot.lookup(slot_mem) {
-        Looked::Signalled(x) => Said {
-            state: with_slot(now, x),
-            at: say_held(x, slot_mem, out, at),
-        },
-        Looked::Nothing(x) => did(with_slot(now, x), b"nothing", out, at),
-        Looked::BadLength => refused(now, 3, out, at),
+        Looked::Signalled(x) => leaving(with_slot(now, x), Outcome::Held(x)),
+        Looked::Nothing(x) => leaving(with_slot(now, x), Outcome::Nothing),
+        Looked::BadLength => leaving(now, Outcome::Refused(3)),
     }
 }
 
-// Does an op and says what it answered; `piece` has its bytes at the front.
+// Does an op; `piece` has its bytes at the front. One that doesn't read isn't met here, since its script isn't done.
 fn perform(
     op: Op,
     now: State,
@@ -333,35 +168,89 @@ fn perform(
     buf: &mut [u8],
     slot_mem: &mut [u8],
     queue_mem: &mut [u8],
-    out: &mut Memory,
-    at: usize,
-) -> Said {
+) -> Left {
     match op {
-        Op::Write(n) => {
-            let p = text::part(piece, 0, n);
-            do_write(now, p, table, buf, slot_mem, queue_mem, out, at)
+        Op::Write(len) => {
+            let p = text::part(piece, 0, len);
+            do_write(now, p, table, buf, slot_mem, queue_mem)
         }
-        Op::Put(n) => {
-            moves::put(buf, now.end, text::part(piece, 0, n));
-            do_advance(now, n, table, buf, slot_mem, queue_mem, out, at)
+        Op::Advance(n, len) => {
+            moves::put(buf, now.end, text::part(piece, 0, len));
+            do_advance(now, n, table, buf, slot_mem, queue_mem)
         }
-        Op::Commit(n) => do_advance(now, n, table, buf, slot_mem, queue_mem, out, at),
-        Op::Clear => do_clear(now, out, at),
-        Op::Reset => do_reset(now, slot_mem, out, at),
-        Op::Take => do_take(now, queue_mem, out, at),
-        Op::Look => do_look(now, slot_mem, out, at),
+        Op::Clear => do_clear(now),
+        Op::Reset => do_reset(now, slot_mem),
+        Op::Take => do_take(now, queue_mem),
+        Op::Look => do_look(now, slot_mem),
         Op::Signal(kind, n, len) => {
             let p = text::part(piece, 0, len);
-            do_signal(now, kind, n, p, slot_mem, out, at)
+            do_signal(now, kind, n, p, slot_mem)
         }
-        Op::Bad => Said { state: now, at: at },
+        Op::Bad => leaving(now, Outcome::Nothing),
     }
 }
 
-// Reads an op, does it, and ends its answer.
+// A notice's number and its payload in hex.
+fn say_notice(x: Notice, queue_mem: &[u8], out: &mut Memory, at: usize) -> usize {
+    let head = say::words(out, at, b"notice");
+    let numbered = say::and_number(out, head, x.number as u64);
+    let apart = say::words(out, numbered, b" ");
+    say::hex(out, apart, text::part(queue_mem, x.place, x.len))
+}
+
+// What a slot holds, and its number.
+pub fn say_content(x: Slot, out: &mut Memory, at: usize) -> usize {
+    let held = x.held;
+    match held {
+        Held::Heard(k) => say::kind_number(out, at, k, x.number),
+        Held::Capacity => say::words(out, at, b"capacity -"),
+    }
+}
+
+// What a signalled slot holds, with its payload in hex.
+fn say_held(x: Slot, slot_mem: &[u8], out: &mut Memory, at: usize) -> usize {
+    let head = say::words(out, at, b"held ");
+    let named = say_content(x, out, head);
+    let apart = say::words(out, named, b" ");
+    say::hex(out, apart, x.payload(slot_mem))
+}
+
+// Refusal 5 of a write.
+fn say_full(n: usize, out: &mut Memory, at: usize) -> usize {
+    let used = say::words(out, at, b"refused 5 ");
+    say::took(out, used, n)
+}
+
+// Says what an op answered.
+fn say_outcome(
+    o: Outcome,
+    slot_mem: &[u8],
+    queue_mem: &[u8],
+    out: &mut Memory,
+    at: usize,
+) -> usize {
+    match o {
+        Outcome::Took(n) => say::took(out, at, n),
+        Outcome::Advanced => say::words(out, at, b"advanced"),
+        Outcome::Done => say::words(out, at, b"done"),
+        Outcome::Nothing => say::words(out, at, b"nothing"),
+        Outcome::Notice(x) => say_notice(x, queue_mem, out, at),
+        Outcome::Held(x) => say_held(x, slot_mem, out, at),
+        Outcome::Refused(n) => say::refusal(out, at, n),
+        Outcome::BadTable(k) => say::refusal_of_record(out, at, k),
+        Outcome::Full(n) => say_full(n, out, at),
+    }
+}
+
+// The state after an op, and how much of the answers' memory is used.
+pub struct Said {
+    pub state: State,
+    pub at: usize,
+}
+
+// Reads an op, does it, and says its answer.
 pub fn do_op(
     s: &[u8],
-    wide: bool,
     now: Said,
     piece: &mut Memory,
     table: &[u8],
@@ -370,22 +259,14 @@ pub fn do_op(
     queue_mem: &mut [u8],
     out: &mut Memory,
 ) -> Said {
-    let op = read_op(s, wide, piece);
+    let op = op::read_op(s, piece);
     let state = now.state;
-    let said = perform(
-        op,
-        state,
-        piece,
-        table,
-        buf,
-        slot_mem,
-        queue_mem,
-        out,
-        now.at,
-    );
-    let next = said.state;
+    let done = perform(op, state, piece, table, buf, slot_mem, queue_mem);
+    let next = done.state;
+    let outcome = done.outcome;
+    let used = say_outcome(outcome, slot_mem, queue_mem, out, now.at);
     Said {
         state: next,
-        at: say::words(out, said.at, b";"),
+        at: say::words(out, used, b";"),
     }
 }

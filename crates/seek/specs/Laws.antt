@@ -1,4 +1,4 @@
--- What lets a search pass over a block: where two of its bytes don't stand, a text doesn't. Rests on text's laws of `stands` and `findIn`. Assumes nothing.
+-- What lets a search pass over a block: where two of its bytes don't stand, a text doesn't. Rests on text's laws of `stands` and `findIn`.
 use mathlib.Core.Path.{_≡_, refl, sym, ap, _∙_}
 use mathlib.Core.Bool.{Bool, true, false, _||_}
 use mathlib.Core.List.{List}

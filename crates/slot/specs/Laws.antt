@@ -1,16 +1,17 @@
--- The ways out of the slot's calls, each with the tests that led there, what they keep, and that their promises determine them. Assumes nothing.
+-- The ways out of the slot's calls, each with the tests that led there, what they keep, and that their promises determine them.
 use mathlib.Core.Path.{_≡_, refl, sym, ap, _∙_}
-use mathlib.Core.Bool.{Bool, true, false}
+use mathlib.Core.Bool.{Bool, true, false, not}
 use mathlib.Core.List.{List, []}
 use Prim.Native.Nat.{ℕ, _≤_, _<_}
 use native.Mathlib.Omega.{arith}
 use lib.ListN.{length}
-use lib.Dec.{leb}
-use borrow.Author.Tests.{le-leb, lt-leb, leb-true, leb-false}
+use lib.Dec.{ltb}
+use borrow.Author.Tests.{le-ltb, lt-ltb, ltb-true, ltb-false}
 use Rattle.text.specs.Logic.{false-true}
 use Rattle.moves.specs.Moves.{put, oneMore}
 use Rattle.moves.specs.Laws.{put-length}
-use Rattle.table.specs.Outcome.{Outcome, answered, refused}
+use Rattle.outcome.specs.Outcome.{Outcome, answered, refused}
+use Rattle.outcome.specs.Laws.{ways}
 use Rattle.answers.specs.Answer.{numbered, stored}
 use Rattle.answers.specs.declared.Kind.{Kind}
 use Rattle.answers.specs.declared.Answer.{Answer}
@@ -20,7 +21,7 @@ use Rattle.slot.specs.declared.Turned.{Turned}
 use Rattle.slot.specs.declared.Turned.the-variants as turns
 use Rattle.slot.specs.declared.Looked.{Looked}
 use Rattle.slot.specs.declared.Looked.the-variants as looks
-use Rattle.slot.specs.Slot.{isResponse, carries, newSlot, lostOne, filled, overflowing, freed, After, after, turn, signalled, outcome, unlessShort, wasReset, Reading, reading, unlessShortRead, wasRead}
+use Rattle.slot.specs.Slot.{isResponse, carries, newSlot, lostOne, filled, overflowing, freed, After, after, signalled, outcome, wasReset, Reading, reading, wasRead}
 
 -- two answers with the same outcome are equal
 pub outcome-one : (r q : Turned) → outcome r ≡ outcome q → r ≡ q
@@ -63,76 +64,77 @@ lost-is x n e = λ i. record { signalled = x .signalled; held = x .held; number 
 
 module _ (x : Slot) (a : Answer) (p m : List ℕ) where
   pub signal-short : length m < x .len → after (refused 3 []) m ≡ signalled x a p m
-  unfolding signalled turn
-  signal-short h = rw (lt-leb (x .len) (length m) h)
+  unfolding signalled
+  signal-short h = rw (lt-ltb (length m) (x .len) h)
 
   module _ (h : x .len ≤ length m) where
     pub signal-none : isResponse (a .kind) ≡ false → after (answered x) m ≡ signalled x a p m
-    unfolding signalled turn
-    signal-none e = rw (le-leb (x .len) (length m) h, e)
+    unfolding signalled
+    signal-none e = rw (le-ltb (length m) (x .len) h, e)
 
     module _ (r : isResponse (a .kind) ≡ true) where
       pub signal-lost : x .signalled ≡ true → (y : Slot) → y ≡ lostOne x → after (answered y) m ≡ signalled x a p m
-      unfolding signalled turn
-      signal-lost e y w = ap (λ (z : Slot). after (answered z) m) w ∙ rw (le-leb (x .len) (length m) h, r, e)
+      unfolding signalled
+      signal-lost e y w = ap (λ (z : Slot). after (answered z) m) w ∙ rw (le-ltb (length m) (x .len) h, r, e)
 
       module _ (t : x .signalled ≡ false) where
         pub signal-bare : carries (a .kind) ≡ false → (y : Slot) → y ≡ filled x (a .kind) (a .number) 0 → after (answered y) m ≡ signalled x a p m
-        unfolding signalled turn
-        signal-bare e y w = ap (λ (z : Slot). after (answered z) m) w ∙ rw (le-leb (x .len) (length m) h, r, t, e)
+        unfolding signalled
+        signal-bare e y w = ap (λ (z : Slot). after (answered z) m) w ∙ rw (le-ltb (length m) (x .len) h, r, t, e)
 
         module _ (c : carries (a .kind) ≡ true) where
           pub signal-over : length m < length p → (y : Slot) → y ≡ overflowing x → after (answered y) m ≡ signalled x a p m
-          unfolding signalled turn
-          signal-over e y w = ap (λ (z : Slot). after (answered z) m) w ∙ rw (le-leb (x .len) (length m) h, r, t, c, lt-leb (length p) (length m) e)
+          unfolding signalled
+          signal-over e y w = ap (λ (z : Slot). after (answered z) m) w ∙ rw (le-ltb (length m) (x .len) h, r, t, c, lt-ltb (length m) (length p) e)
 
           pub signal-full : length p ≤ length m → (y : Slot) → y ≡ filled x (a .kind) (a .number) (length p) → (n : List ℕ) → n ≡ put m 0 p → after (answered y) n ≡ signalled x a p m
-          unfolding signalled turn
-          signal-full e y w n v = (λ i. after (answered (w i)) (v i)) ∙ rw (le-leb (x .len) (length m) h, r, t, c, le-leb (length p) (length m) e)
+          unfolding signalled
+          signal-full e y w n v = (λ i. after (answered (w i)) (v i)) ∙ rw (le-ltb (length m) (x .len) h, r, t, c, le-ltb (length m) (length p) e)
+
+  -- what holds of a refusal that leaves a memory too short as it was, and of every answer that fits a memory as long as it was, holds of a signal
+  signal-ways : (P : After → Type 0) → (length m < x .len → P (after (refused 3 []) m)) → ((y : Slot) (k : List ℕ) → length k ≡ length m → y .len ≤ length k → P (after (answered y) k)) → P (signalled x a p m)
+  unfolding signalled
+  signal-ways P s f =
+      ways P (ltb (length m) (x .len)) (λ h. s (ltb-true (length m) (x .len) h))
+      (λ h.
+      let n = ltb-false (length m) (x .len) h in
+      ways P (not (isResponse (a .kind))) (λ r. f x m refl n)
+      (λ r.
+      ways P (x .signalled) (λ t. f (lostOne x) m refl n)
+      (λ t.
+      ways P (not (carries (a .kind))) (λ c. f (filled x (a .kind) (a .number) 0) m refl (omega arith))
+      (λ c.
+      ways P (ltb (length m) (length p)) (λ o. f (overflowing x) m refl (omega arith))
+      (λ o. f (filled x (a .kind) (a .number) (length p)) (put m 0 p) (put-length m 0 p) (omega (arith, ltb-false (length m) (length p) o, put-length m 0 p)))))))
 
   -- an answered signal keeps the memory's length, and what it leaves fits there
   pub signal-kept : (y : Slot) (k : List ℕ) → after (answered y) k ≡ signalled x a p m → (length k ≡ length m) × (y .len ≤ length k)
-  unfolding signalled turn
-  signal-kept y k e = go (leb (x .len) (length m)) (isResponse (a .kind)) (x .signalled) (carries (a .kind)) (leb (length p) (length m)) refl refl (ap (λ (w : After). w .said) e) (ap (λ (w : After). w .memory) e)
-    where
-      go : (b r t c f : Bool) → leb (x .len) (length m) ≡ b → leb (length p) (length m) ≡ f → answered y ≡ turn b r t c f x a p m .said → k ≡ turn b r t c f x a p m .memory → (length k ≡ length m) × (y .len ≤ length k)
-      go false r t c f h g o q = let z : _≡_ {A = ℕ} 0 1 = cc in absurd (omega arith)
-      go true false t c f h g o q = let l : y .len ≡ x .len = cc in (ap length q, omega (arith, ap length q, leb-true (x .len) (length m) h))
-      go true true true c f h g o q = let l : y .len ≡ x .len = cc in (ap length q, omega (arith, ap length q, leb-true (x .len) (length m) h))
-      go true true false false f h g o q = let l : y .len ≡ 0 = cc in (ap length q, omega arith)
-      go true true false true false h g o q = let l : y .len ≡ 0 = cc in (ap length q, omega arith)
-      go true true false true true h g o q =
-          let l : y .len ≡ length p = cc in
-          let w : length k ≡ length m = ap length q ∙ put-length m 0 p in
-          (w, omega (arith, leb-true (length p) (length m) g))
+  signal-kept y k =
+      signal-ways (λ w. after (answered y) k ≡ w → (length k ≡ length m) × (y .len ≤ length k))
+      (λ h e. let o = ap (λ (w : After). w .said) e in let z : _≡_ {A = ℕ} 0 1 = cc in absurd (omega arith))
+      (λ z l g h e. let o = ap (λ (w : After). w .said) e in let v : y .len ≡ z .len = cc in let q : length k ≡ length l = ap (λ (w : After). length (w .memory)) e in (q ∙ g, omega arith))
 
   -- a refused signal leaves every byte, and the memory was too short
   pub signal-stuck : (n : ℕ) (v k : List ℕ) → after (refused n v) k ≡ signalled x a p m → (k ≡ m) × (length m < x .len)
-  unfolding signalled turn
-  signal-stuck n v k e = go (leb (x .len) (length m)) (isResponse (a .kind)) (x .signalled) (carries (a .kind)) (leb (length p) (length m)) refl (ap (λ (w : After). w .said) e) (ap (λ (w : After). w .memory) e)
-    where
-      go : (b r t c f : Bool) → leb (x .len) (length m) ≡ b → refused n v ≡ turn b r t c f x a p m .said → k ≡ turn b r t c f x a p m .memory → (k ≡ m) × (length m < x .len)
-      go false r t c f h o q = (q, leb-false (x .len) (length m) h)
-      go true false t c f h o q = let z : _≡_ {A = ℕ} 0 1 = cc in absurd (omega arith)
-      go true true true c f h o q = let z : _≡_ {A = ℕ} 0 1 = cc in absurd (omega arith)
-      go true true false false f h o q = let z : _≡_ {A = ℕ} 0 1 = cc in absurd (omega arith)
-      go true true false true false h o q = let z : _≡_ {A = ℕ} 0 1 = cc in absurd (omega arith)
-      go true true false true true h o q = let z : _≡_ {A = ℕ} 0 1 = cc in absurd (omega arith)
+  signal-stuck n v k =
+      signal-ways (λ w. after (refused n v) k ≡ w → (k ≡ m) × (length m < x .len))
+      (λ h e. (ap (λ (w : After). w .memory) e, h))
+      (λ y l g h e. let o = ap (λ (w : After). w .said) e in let z : _≡_ {A = ℕ} 0 1 = cc in absurd (omega arith))
 
 module _ (x : Slot) (m : List ℕ) where
   pub reset-short : length m < x .len → refused 3 [] ≡ wasReset x m
-  unfolding wasReset unlessShort
-  reset-short h = rw (lt-leb (x .len) (length m) h)
+  unfolding wasReset
+  reset-short h = rw (lt-ltb (length m) (x .len) h)
 
   pub reset-is : x .len ≤ length m → answered (freed x) ≡ wasReset x m
-  unfolding wasReset unlessShort
-  reset-is h = rw (le-leb (x .len) (length m) h)
+  unfolding wasReset
+  reset-is h = rw (le-ltb (length m) (x .len) h)
 
   pub read-short : length m < x .len → refused 3 [] ≡ wasRead x m
-  unfolding wasRead unlessShortRead
-  read-short h = rw (lt-leb (x .len) (length m) h)
+  unfolding wasRead
+  read-short h = rw (lt-ltb (length m) (x .len) h)
 
   module _ (h : x .len ≤ length m) where
     pub read-is : (b : Bool) → x .signalled ≡ b → answered (record { there = b; slot = x }) ≡ wasRead x m
-    unfolding wasRead unlessShortRead
-    read-is b e = rw (le-leb (x .len) (length m) h) (ap answered (λ i. record { there = sym e i; slot = x }))
+    unfolding wasRead
+    read-is b e = rw (le-ltb (length m) (x .len) h) (ap answered (λ i. record { there = sym e i; slot = x }))

@@ -1,11 +1,11 @@
 -- The response slot in document 01's words: what each call leaves of the slot and of its memory, and when it refuses.
-use mathlib.Core.Bool.{Bool, true, false}
+use mathlib.Core.Bool.{Bool, true, false, not}
 use mathlib.Core.List.{List, []}
 use Prim.Native.Nat.{ℕ}
 use lib.ListN.{length}
-use lib.Dec.{leb}
+use lib.Dec.{ltb}
 use Rattle.moves.specs.Moves.{put, oneMore}
-use Rattle.table.specs.Outcome.{Outcome, answered, refused}
+use Rattle.outcome.specs.Outcome.{Outcome, answered, refused, if_then_else_}
 use Rattle.answers.specs.Answer.{numbered, stored}
 use Rattle.answers.specs.declared.Kind.{Kind}
 use Rattle.answers.specs.declared.Kind.the-variants as kind
@@ -79,27 +79,18 @@ pub record After : Type 0 where
 abbrev pub after : Outcome Slot → List ℕ → After
 after o m = record { said = o; memory = m }
 
--- By: does the stored length lie in the memory, is it an answer for the slot, is the slot signalled, does the kind carry a payload, does that fit?
-unfoldable pub turn : Bool → Bool → Bool → Bool → Bool → Slot → Answer → List ℕ → List ℕ → After
-turn false r t c f x a p m = after (refused 3 []) m
-turn true false t c f x a p m = after (answered x) m
-turn true true true c f x a p m = after (answered (lostOne x)) m
-turn true true false false f x a p m = after (answered (filled x (a .kind) (a .number) 0)) m
-turn true true false true false x a p m = after (answered (overflowing x)) m
-turn true true false true true x a p m = after (answered (filled x (a .kind) (a .number) (length p))) (put m 0 p)
-
 -- a signal of the answer a with the payload's bytes p, on the slot x with the memory m
 unfoldable pub signalled : Slot → Answer → List ℕ → List ℕ → After
-unfolding turn
-signalled x a p m = turn (leb (x .len) (length m)) (isResponse (a .kind)) (x .signalled) (carries (a .kind)) (leb (length p) (length m)) x a p m
-
-unfoldable pub unlessShort : Bool → Outcome Slot → Outcome Slot
-unlessShort true o = o
-unlessShort false o = refused 3 []
+signalled x a p m =
+    if ltb (length m) (x .len) then after (refused 3 []) m
+    else if not (isResponse (a .kind)) then after (answered x) m
+    else if x .signalled then after (answered (lostOne x)) m
+    else if not (carries (a .kind)) then after (answered (filled x (a .kind) (a .number) 0)) m
+    else if ltb (length m) (length p) then after (answered (overflowing x)) m
+    else after (answered (filled x (a .kind) (a .number) (length p))) (put m 0 p)
 
 unfoldable pub wasReset : Slot → List ℕ → Outcome Slot
-unfolding unlessShort
-wasReset x m = unlessShort (leb (x .len) (length m)) (answered (freed x))
+wasReset x m = if ltb (length m) (x .len) then refused 3 [] else answered (freed x)
 
 -- document 01's number for each case
 abbrev pub outcome : Turned → Outcome Slot
@@ -116,10 +107,5 @@ reading (looks.Signalled x) = answered (record { there = true; slot = x })
 reading (looks.Nothing x) = answered (record { there = false; slot = x })
 reading looks.BadLength = refused 3 []
 
-unfoldable pub unlessShortRead : Bool → Outcome Reading → Outcome Reading
-unlessShortRead true o = o
-unlessShortRead false o = refused 3 []
-
 unfoldable pub wasRead : Slot → List ℕ → Outcome Reading
-unfolding unlessShortRead
-wasRead x m = unlessShortRead (leb (x .len) (length m)) (answered (record { there = x .signalled; slot = x }))
+wasRead x m = if ltb (length m) (x .len) then refused 3 [] else answered (record { there = x .signalled; slot = x })

@@ -1,5 +1,4 @@
 -- Laws of the token table: the ways out of each reader, a text by its two ends, the loops over the records, the records with a mark, and what a good table's tokens are.
--- Assumes nothing.
 use mathlib.Core.Path.{_≡_, refl, sym, ap, _∙_}
 use mathlib.Core.Bool.{Bool, true, false, not, _&&_, and-true, and-false, and-assoc, and-self-left}
 use mathlib.Core.List.{List, [], _∷_, _++_}
@@ -16,7 +15,7 @@ use Rattle.text.specs.Logic.{and-both}
 use Rattle.text.specs.Text.{among, blanks, isBlank, stands}
 use Rattle.text.specs.Laws.{part-is}
 use Rattle.text.specs.declared.Blanks.the-variants.{Run}
-use Rattle.table.specs.Outcome.{Outcome, answered, refused}
+use Rattle.outcome.specs.Outcome.{Outcome, answered, refused}
 use Rattle.table.specs.declared.Mark.{Mark}
 use Rattle.table.specs.declared.Mark.the-variants.{Notice, Success, Error, Prompt}
 use Rattle.table.specs.declared.Record.{Record}

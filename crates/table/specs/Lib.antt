@@ -1,3 +1,2 @@
-pub mod Outcome
 pub mod Table
 pub mod Laws

@@ -6,7 +6,7 @@ use lib.ListN.{length, getD}
 use lib.Dec.{eqb, leb, ltb}
 use Rattle.text.specs.Bytes.{bytes}
 use Rattle.text.specs.Text.{stands, partOf}
-use Rattle.table.specs.Outcome.{Outcome, answered, refused}
+use Rattle.outcome.specs.Outcome.{Outcome, answered, refused}
 use Rattle.table.specs.declared.Mark.{Mark}
 use Rattle.table.specs.declared.Mark.the-variants.{Notice, Success, Error, Prompt}
 use Rattle.table.specs.declared.Record.{Record}

@@ -1,7 +1,7 @@
 -- What a caller may know of the definitions of `Text`, whatever their text. No caller unfolds a search.
--- Rests on the steps of `Steps`; the search by induction on how far there is to go. Assumes nothing.
+-- Rests on the steps of `Steps`; the search by induction on how far there is to go.
 use mathlib.Core.Path.{_≡_, refl, sym, ap, _∙_}
-use mathlib.Core.Logic.{_⊎_, ⊎-elim}
+use mathlib.Core.Logic.{⊎-elim}
 use mathlib.Core.Bool.{Bool, true, false, _&&_}
 use mathlib.Core.List.{List, [], _∷_, _++_}
 use Prim.Native.Nat.{ℕ, zero, suc, _+_, _-_, _≤_, _<_}

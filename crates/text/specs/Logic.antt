@@ -1,5 +1,4 @@
 -- Small laws of tests and orders that every layer above uses, and the one law that says what an equation as a promise is worth.
--- Assumes nothing.
 use mathlib.Core.Path.{_≡_, refl, sym, ap, _∙_}
 use mathlib.Core.Logic.{_⊎_, inl, inr, ⊎-elim}
 use mathlib.Core.Bool.{Bool, true, false, _&&_, _||_, cond}

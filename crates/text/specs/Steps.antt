@@ -1,5 +1,4 @@
 -- One step of each definition of `Text`, as the loops take it: the byte at hand passes, fails, or there is none.
--- Assumes nothing.
 use mathlib.Core.Path.{_≡_, refl, ap, _∙_}
 use mathlib.Core.Bool.{Bool, true, false, _&&_, _||_}
 use mathlib.Core.List.{List, [], _∷_, _++_}

@@ -1,4 +1,4 @@
--- `fill` is safe and ends: the buffer keeps its length. The measure is what is left of it. Assumes nothing.
+-- `fill` is safe and ends: the buffer keeps its length. The measure is what is left of it.
 use mathlib.Core.Path.{_≡_, refl, _∙_}
 use Prim.Native.Nat.{_-_}
 use lib.ListN.{length, length-set}

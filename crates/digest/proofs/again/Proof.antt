@@ -1,4 +1,4 @@
--- `again` meets its contract: the retry found nothing, or its answer is moved. Assumes nothing.
+-- `again` meets its contract: the retry found nothing, or its answer is moved.
 use borrow.Author.Tests.{not-true, not-false}
 use Rattle.digest.specs.Laws.{again-lost, again-found}
 use native.Mathlib.Omega.{arith}

@@ -1,6 +1,5 @@
--- `digest` meets its contract: the refusals in their order, then the recursive digester; what it heard by the theorem. Assumes nothing.
+-- `digest` meets its contract: the refusals in their order, then the recursive digester; what it heard by the theorem.
 use mathlib.Core.Path.{sym, ap, _∙_}
-use Prim.Native.Nat.{_-_}
 use Rattle.table.specs.Table.{outcome}
 use Rattle.digest.specs.Theorem.{digested-long, digested-bad, digested-is, digest-heard}
 use borrow.Author.Needs.{needs}

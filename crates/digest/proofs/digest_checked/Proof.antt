@@ -1,5 +1,4 @@
--- `digest_checked` meets its contract. Assumes nothing.
-use Prim.Native.Nat.{_-_}
+-- `digest_checked` meets its contract.
 use Rattle.digest.specs.Theorem.{checked-is, checked-long}
 use borrow.Author.Needs.{needs}
 use Rattle.digest.proofs.digest_checked.Statement.{statement}

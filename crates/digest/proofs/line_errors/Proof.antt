@@ -1,6 +1,5 @@
--- `line_errors` meets its contract: the lines in the order of the rule. Assumes nothing.
+-- `line_errors` meets its contract: the lines in the order of the rule.
 use mathlib.Core.Path.{_∙_}
-use Prim.Native.Nat.{_-_}
 use Rattle.digest.specs.Digest.{lineErrors}
 use Rattle.digest.specs.Laws.{hit, miss}
 use borrow.Author.Needs.{needs}

@@ -1,5 +1,4 @@
--- `line_from` meets its contract. Assumes nothing.
-use Prim.Native.Nat.{_-_}
+-- `line_from` meets its contract.
 use Rattle.digest.specs.Laws.{line-room, line-from-is, line-from-none}
 use borrow.Author.Needs.{needs}
 use native.Mathlib.Omega.{arith}

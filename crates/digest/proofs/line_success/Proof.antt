@@ -1,5 +1,4 @@
--- `line_success` meets its contract. Assumes nothing.
-use Prim.Native.Nat.{_-_}
+-- `line_success` meets its contract.
 use Rattle.digest.specs.Digest.{success}
 use Rattle.digest.specs.Laws.{line-room, line-success-is, line-success-none}
 use borrow.Author.Needs.{needs}

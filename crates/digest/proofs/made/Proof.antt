@@ -1,5 +1,4 @@
--- `made` meets its contract, field by field. Assumes nothing.
-use Prim.Native.Nat.{_-_}
+-- `made` meets its contract, field by field.
 use Rattle.digest.specs.Laws.{made-is}
 use borrow.Author.Needs.{needs}
 use Rattle.digest.proofs.made.Statement.{statement}

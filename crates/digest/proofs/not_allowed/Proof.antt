@@ -1,5 +1,4 @@
--- `not_allowed` meets its contract. Assumes nothing.
-use Prim.Native.Nat.{_-_}
+-- `not_allowed` meets its contract.
 use borrow.Author.Tests.{not-true, not-false}
 use Rattle.digest.specs.Laws.{na-room, na-hit, na-miss}
 use borrow.Author.Needs.{needs}

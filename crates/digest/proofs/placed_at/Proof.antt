@@ -1,5 +1,4 @@
--- `placed_at` meets its contract. Assumes nothing.
-use Prim.Native.Nat.{_-_}
+-- `placed_at` meets its contract.
 use Rattle.digest.specs.Laws.{placed-none, placed-some}
 use Rattle.digest.proofs.placed_at.Statement.{statement}
 use Rattle.digest.proofs.placed_at.Tie as tie

@@ -1,5 +1,4 @@
--- `prompt_tried` meets its contract. Assumes nothing.
-use Prim.Native.Nat.{_-_}
+-- `prompt_tried` meets its contract.
 use borrow.Author.Tests.{not-true, not-false}
 use Rattle.digest.specs.Laws.{prompt-hit, prompt-miss}
 use borrow.Author.Needs.{needs}

@@ -1,6 +1,5 @@
--- `retries_at` meets its contract. Assumes nothing.
+-- `retries_at` meets its contract.
 use mathlib.Core.Path.{sym, _∙_}
-use Prim.Native.Nat.{_-_}
 use borrow.Author.Tests.{not-true, not-false}
 use Rattle.text.specs.Laws.{stands-fits}
 use Rattle.lines.specs.Lines.{crlf}

@@ -1,5 +1,4 @@
--- `shifted` meets its contract, field by field. Assumes nothing.
-use Prim.Native.Nat.{_-_}
+-- `shifted` meets its contract, field by field.
 use Rattle.digest.specs.Laws.{shifted-is}
 use borrow.Author.Needs.{needs}
 use Rattle.digest.proofs.shifted.Statement.{statement}

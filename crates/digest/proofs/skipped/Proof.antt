@@ -1,5 +1,4 @@
--- `skipped` meets its contract. Assumes nothing.
-use Prim.Native.Nat.{_-_}
+-- `skipped` meets its contract.
 use Rattle.digest.specs.Laws.{skipped-at, skipped-none}
 use borrow.Author.Needs.{needs}
 use Rattle.digest.proofs.skipped.Statement.{statement}

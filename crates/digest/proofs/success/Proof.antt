@@ -1,6 +1,5 @@
--- `success` meets its contract. Assumes nothing.
+-- `success` meets its contract.
 use mathlib.Core.Path.{ap}
-use Prim.Native.Nat.{_-_}
 use Rattle.digest.specs.Digest.{success}
 use borrow.Author.Needs.{needs}
 use Rattle.digest.proofs.success.Statement.{statement}

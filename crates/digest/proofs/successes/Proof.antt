@@ -1,6 +1,5 @@
--- `successes` meets its contract: the rule's three parts in its order. Assumes nothing.
+-- `successes` meets its contract: the rule's three parts in its order.
 use mathlib.Core.Path.{_∙_}
-use Prim.Native.Nat.{_-_}
 use Rattle.digest.specs.Digest.{successes}
 use Rattle.digest.specs.Laws.{hit, miss}
 use borrow.Author.Needs.{needs}

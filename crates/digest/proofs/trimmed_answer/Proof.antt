@@ -1,5 +1,4 @@
--- `trimmed_answer` meets its contract: what is trimmed lies between its ends. Assumes nothing.
-use Prim.Native.Nat.{_-_}
+-- `trimmed_answer` meets its contract: what is trimmed lies between its ends.
 use Rattle.digest.specs.Laws.{trim-room, trimmed-is}
 use borrow.Author.Needs.{needs}
 use native.Mathlib.Omega.{arith}

@@ -1,4 +1,4 @@
--- `wx_digest` meets its contract: it equals `digest::digest`. Assumes nothing.
+-- `wx_digest` meets its contract: it equals `digest::digest`.
 use mathlib.Core.Path.{refl, sym, ap, _∙_}
 use Rattle.table.specs.Table.{outcome}
 use Rattle.numbers.specs.Numbers.{answerValues}

@@ -1,4 +1,4 @@
--- `wx_ingress_advance` meets its contract: it equals `ingress::advance`. Assumes nothing.
+-- `wx_ingress_advance` meets its contract: it equals `ingress::advance`.
 use mathlib.Core.Path.{refl}
 use Rattle.gateway.specs.Laws.{advance-is}
 use borrow.Author.Needs.{needs}

@@ -1,4 +1,4 @@
--- `wx_ingress_clear` meets its contract: it equals `ingress::clear`. Assumes nothing.
+-- `wx_ingress_clear` meets its contract: it equals `ingress::clear`.
 use mathlib.Core.Path.{ap, _∙_}
 use Rattle.numbers.specs.Numbers.{withEnd}
 use borrow.Author.Needs.{needs}

@@ -1,4 +1,4 @@
--- `wx_ingress_write` meets its contract: it equals `ingress::write`. Assumes nothing.
+-- `wx_ingress_write` meets its contract: it equals `ingress::write`.
 use mathlib.Core.Path.{refl}
 use Rattle.gateway.specs.Laws.{write-is}
 use borrow.Author.Needs.{needs}

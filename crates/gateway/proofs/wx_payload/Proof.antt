@@ -1,4 +1,4 @@
--- `wx_payload` meets its contract: it equals `digest::payload`. Assumes nothing.
+-- `wx_payload` meets its contract: it equals `digest::payload`.
 use Rattle.gateway.specs.Laws.{part-is}
 use borrow.Author.Needs.{needs}
 use Rattle.gateway.proofs.wx_payload.Statement.{statement}

@@ -1,4 +1,4 @@
--- `wx_queue_new` meets its contract: it equals `Queue::new`. Assumes nothing.
+-- `wx_queue_new` meets its contract: it equals `Queue::new`.
 use borrow.Author.Needs.{needs}
 use Rattle.gateway.proofs.wx_queue_new.Statement.{statement}
 use Rattle.gateway.proofs.wx_queue_new.Tie as tie

@@ -1,4 +1,4 @@
--- `wx_queue_put` meets its contract: it equals `Queue::put`. Assumes nothing.
+-- `wx_queue_put` meets its contract: it equals `Queue::put`.
 use mathlib.Core.Path.{refl}
 use Rattle.gateway.specs.Laws.{put-is}
 use borrow.Author.Needs.{needs}

@@ -1,4 +1,4 @@
--- `wx_queue_take` meets its contract: it equals `Queue::take`. Assumes nothing.
+-- `wx_queue_take` meets its contract: it equals `Queue::take`.
 use mathlib.Core.Path.{refl}
 use lib.ListN.{take}
 use Rattle.gateway.specs.Laws.{take-is}

@@ -1,4 +1,4 @@
--- `wx_slot_lookup` meets its contract: it equals `Slot::lookup`. Assumes nothing.
+-- `wx_slot_lookup` meets its contract: it equals `Slot::lookup`.
 use mathlib.Core.Path.{refl, sym, ap, _∙_}
 use Rattle.slot.specs.declared.Slot.{Slot}
 use Rattle.gateway.specs.Gateway.{readValues}

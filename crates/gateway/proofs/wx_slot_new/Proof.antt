@@ -1,4 +1,4 @@
--- `wx_slot_new` meets its contract: it equals `Slot::new`. Assumes nothing.
+-- `wx_slot_new` meets its contract: it equals `Slot::new`.
 use borrow.Author.Needs.{needs}
 use Rattle.gateway.proofs.wx_slot_new.Statement.{statement}
 use Rattle.gateway.proofs.wx_slot_new.Tie as tie

@@ -1,4 +1,4 @@
--- `wx_slot_payload` meets its contract: it equals `Slot::payload`. Assumes nothing.
+-- `wx_slot_payload` meets its contract: it equals `Slot::payload`.
 use Rattle.gateway.specs.Laws.{slot-part}
 use borrow.Author.Needs.{needs}
 use Rattle.gateway.proofs.wx_slot_payload.Statement.{statement}

@@ -1,4 +1,4 @@
--- `wx_slot_reset` meets its contract: it equals `Slot::reset`. Assumes nothing.
+-- `wx_slot_reset` meets its contract: it equals `Slot::reset`.
 use mathlib.Core.Path.{refl}
 use Rattle.gateway.specs.Laws.{reset-is}
 use borrow.Author.Needs.{needs}

@@ -1,4 +1,4 @@
--- `wx_slot_signal` meets its contract: it equals `Slot::signal`. Assumes nothing.
+-- `wx_slot_signal` meets its contract: it equals `Slot::signal`.
 use mathlib.Core.Path.{refl}
 use Rattle.gateway.specs.Laws.{signal-is}
 use borrow.Author.Needs.{needs}

@@ -1,4 +1,4 @@
--- `wx_table_check` meets its contract: it equals `table::check`. Assumes nothing.
+-- `wx_table_check` meets its contract: it equals `table::check`.
 use mathlib.Core.Path.{sym, ap, _∙_}
 use Rattle.table.specs.Table.{outcome}
 use Rattle.gateway.specs.Gateway.{countValues}

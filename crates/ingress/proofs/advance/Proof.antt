@@ -1,6 +1,5 @@
--- `advance` meets its contract: the refusals in their order, then the loop. Assumes nothing.
+-- `advance` meets its contract: the refusals in their order, then the loop.
 use mathlib.Core.Path.{sym, ap, _∙_}
-use Prim.Native.Nat.{_-_}
 use Rattle.ingress.specs.Ingress.{world, refusal}
 use Rattle.ingress.specs.Conserved.{advance-whole}
 use Rattle.ingress.specs.Laws.{passed, good-inside, advance-refused, advance-room, advance-done, advance-full}

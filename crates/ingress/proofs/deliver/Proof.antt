@@ -1,6 +1,5 @@
--- `deliver` meets its contract: one law for the queue, one for the slot. Assumes nothing.
+-- `deliver` meets its contract: one law for the queue, one for the slot.
 use mathlib.Core.Path.{sym, _∙_}
-use Prim.Native.Nat.{_-_}
 use Rattle.ingress.specs.Laws.{to-queue, to-slot}
 use borrow.Author.Needs.{needs}
 use Rattle.ingress.proofs.deliver.Statement.{statement}

@@ -1,6 +1,6 @@
--- `is_sound` meets its contract. Assumes nothing.
+-- `is_sound` meets its contract.
 use mathlib.Core.Path.{ap, _∙_}
-use Prim.Native.Nat.{ℕ, _-_}
+use Prim.Native.Nat.{ℕ}
 use Rattle.ingress.specs.Laws.{sound-end, sound-slot, sound-queue}
 use Rattle.queue.specs.Queue.{inBounds}
 use borrow.Author.Needs.{needs}

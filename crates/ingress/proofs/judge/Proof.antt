@@ -1,10 +1,8 @@
--- `judge` meets its contract: the refusals 1, 2 and 3 in their order. Assumes nothing.
+-- `judge` meets its contract: the refusals 1, 2 and 3 in their order.
 use mathlib.Core.Path.{sym, ap, _∙_}
 use mathlib.Core.Bool.{true, false}
-use Prim.Native.Nat.{_-_}
 use borrow.Author.Tests.{not-true, not-false}
 use Rattle.table.specs.Table.{outcome}
-use Rattle.ingress.specs.Ingress.{unless}
 use Rattle.ingress.specs.Laws.{checks-long, checks-table, checks-state}
 use borrow.Author.Needs.{needs}
 use Rattle.ingress.proofs.judge.Statement.{statement}
@@ -35,7 +33,6 @@ is-sound-requires : tie.Need-is-sound-requires
 is-sound-requires c κs = search needs
 
 returns-3 : tie.Need-returns-3
-unfolding unless
 returns-3 c =
     let args = c .before .before .before .before .before .before .before .args in
     let if1 = c .before .before .before .before .before .if1 in
@@ -44,7 +41,6 @@ returns-3 c =
     checks-state (args .table .now) (args .state) (args .buf) (args .slot-mem) (args .queue-mem) (if1 .left) _ (ap outcome (sym (enum-told .given .1)) ∙ check .ensures) false (sym (c .before .is-sound .ensures) ∙ not-true _ (c .if2 .taken))
 
 returns-4 : tie.Need-returns-4
-unfolding unless
 returns-4 c =
     let args = c .before .before .before .before .before .before .before .args in
     let if1 = c .before .before .before .before .before .if1 in

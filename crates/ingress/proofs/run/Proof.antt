@@ -1,6 +1,5 @@
--- `run` meets its contract: what is to be run from the first state is what is to be run from this one. The measure is the end. Assumes nothing.
+-- `run` meets its contract: what is to be run from the first state is what is to be run from this one. The measure is the end.
 use mathlib.Core.Path.{refl, sym, _∙_}
-use Prim.Native.Nat.{_-_}
 use Rattle.ingress.specs.Ingress.{world}
 use Rattle.ingress.specs.Laws.{Going, run-empty, turn-full, turn-still, turn-less, turn-on}
 use borrow.Author.Needs.{needs}

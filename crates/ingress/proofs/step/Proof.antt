@@ -1,6 +1,5 @@
--- `step` meets its contract: one law for each way out; what is consumed lies in what is held. Assumes nothing.
+-- `step` meets its contract: one law for each way out; what is consumed lies in what is held.
 use mathlib.Core.Path.{sym}
-use Prim.Native.Nat.{_-_}
 use Rattle.ingress.specs.Laws.{step-full, step-is, step-room}
 use lib.Seq.{length-take-le}
 use borrow.Author.Needs.{needs}

@@ -1,6 +1,5 @@
--- `write` meets its contract: the refusals in their order, then the loop. Assumes nothing.
+-- `write` meets its contract: the refusals in their order, then the loop.
 use mathlib.Core.Path.{sym, ap, _∙_}
-use Prim.Native.Nat.{_-_}
 use Rattle.ingress.specs.Ingress.{world, refusal}
 use Rattle.ingress.specs.Conserved.{write-whole}
 use Rattle.ingress.specs.Laws.{passed, good-inside, write-refused, write-is, write-full}

@@ -1,4 +1,4 @@
--- `write_on` meets its contract: what is to be written of the piece is what is to be written of its rest. The measure is what is not yet taken. Assumes nothing.
+-- `write_on` meets its contract: what is to be written of the piece is what is to be written of its rest. The measure is what is not yet taken.
 use mathlib.Core.Path.{refl, _∙_}
 use Prim.Native.Nat.{_-_}
 use lib.ListN.{length}

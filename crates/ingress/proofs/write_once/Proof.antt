@@ -1,6 +1,5 @@
--- `write_once` meets its contract: nothing where nothing fits, else the copy and its turns. Assumes nothing.
+-- `write_once` meets its contract: nothing where nothing fits, else the copy and its turns.
 use mathlib.Core.Path.{sym, _∙_}
-use Prim.Native.Nat.{_-_}
 use lib.Seq.{length-take-le}
 use Rattle.ingress.specs.Ingress.{world}
 use Rattle.ingress.specs.Laws.{copy-none, copied-is, copy-is, copy-full}

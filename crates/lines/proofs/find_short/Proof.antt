@@ -1,5 +1,4 @@
--- `find_short` meets its contract: each arm knows its text, and the constant is its list. Assumes nothing.
-use Prim.Native.Nat.{_-_}
+-- `find_short` meets its contract: each arm knows its text, and the constant is its list.
 use borrow.Author.Needs.{needs}
 use Rattle.lines.proofs.find_short.Statement.{statement}
 use Rattle.lines.proofs.find_short.Tie as tie

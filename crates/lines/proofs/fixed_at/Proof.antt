@@ -1,5 +1,4 @@
--- `fixed_at` meets its contract: each arm knows its text, and the constant is its list. Assumes nothing.
-use Prim.Native.Nat.{_-_}
+-- `fixed_at` meets its contract: each arm knows its text, and the constant is its list.
 use borrow.Author.Needs.{needs}
 use Rattle.lines.proofs.fixed_at.Statement.{statement}
 use Rattle.lines.proofs.fixed_at.Tie as tie

@@ -1,4 +1,4 @@
--- `move_down` meets its contract: so far the buffer is the old one with j bytes of its part from n on over its front. The measure is what is left of that part. Assumes nothing.
+-- `move_down` meets its contract: so far the buffer is the old one with j bytes of its part from n on over its front. The measure is what is left of that part.
 use mathlib.Core.Path.{_≡_, refl, sym, ap, _∙_}
 use mathlib.Core.List.{List}
 use Prim.Native.Nat.{ℕ, _≤_, _+_, _-_}

@@ -1,4 +1,4 @@
--- `put` meets its contract: so far the memory is the old one with i bytes of p over it. The measure is what is left of p. Assumes nothing.
+-- `put` meets its contract: so far the memory is the old one with i bytes of p over it. The measure is what is left of p.
 use mathlib.Core.Path.{_≡_, refl, ap, _∙_}
 use mathlib.Core.List.{List}
 use Prim.Native.Nat.{ℕ, _≤_, _+_, _-_}

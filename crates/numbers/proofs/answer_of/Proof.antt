@@ -1,4 +1,4 @@
--- `answer_of` meets its contract. Assumes nothing.
+-- `answer_of` meets its contract.
 use Rattle.numbers.specs.Laws.{answer-is}
 use borrow.Author.Needs.{needs}
 use Rattle.numbers.proofs.answer_of.Statement.{statement}

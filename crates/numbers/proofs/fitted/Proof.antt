@@ -1,4 +1,4 @@
--- `fitted` meets its contract. Assumes nothing.
+-- `fitted` meets its contract.
 use Rattle.numbers.specs.Laws.{fits-not, fits-there}
 use native.Mathlib.Omega.{arith}
 use Rattle.numbers.proofs.fitted.Statement.{statement}

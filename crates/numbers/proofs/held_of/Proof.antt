@@ -1,4 +1,4 @@
--- `held_of` meets its contract. Assumes nothing.
+-- `held_of` meets its contract.
 use Rattle.numbers.specs.Laws.{held-capacity, held-heard}
 use borrow.Author.Needs.{needs}
 use native.Mathlib.Omega.{arith}

@@ -1,4 +1,4 @@
--- `kind_of` meets its contract: fourteen numbers one by one, and the rest. Assumes nothing.
+-- `kind_of` meets its contract: fourteen numbers one by one, and the rest.
 use Rattle.numbers.specs.Laws.{kind-none}
 use borrow.Author.Needs.{needs}
 use Rattle.numbers.proofs.kind_of.Statement.{statement}

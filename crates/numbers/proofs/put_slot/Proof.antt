@@ -1,4 +1,4 @@
--- `put_slot` meets its contract. Assumes nothing.
+-- `put_slot` meets its contract.
 use Rattle.numbers.specs.Laws.{with-slot}
 use borrow.Author.Needs.{needs}
 use Rattle.numbers.proofs.put_slot.Statement.{statement}

@@ -1,4 +1,4 @@
--- `queue_of` meets its contract. Assumes nothing.
+-- `queue_of` meets its contract.
 use Rattle.numbers.specs.Laws.{queue-is}
 use borrow.Author.Needs.{needs}
 use Rattle.numbers.proofs.queue_of.Statement.{statement}

@@ -1,4 +1,4 @@
--- `slot_of` meets its contract. Assumes nothing.
+-- `slot_of` meets its contract.
 use Rattle.numbers.specs.Laws.{slot-is}
 use borrow.Author.Needs.{needs}
 use Rattle.numbers.proofs.slot_of.Statement.{statement}

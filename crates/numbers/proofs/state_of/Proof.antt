@@ -1,4 +1,4 @@
--- `state_of` meets its contract. Assumes nothing.
+-- `state_of` meets its contract.
 use Rattle.numbers.specs.Laws.{state-is}
 use borrow.Author.Needs.{needs}
 use Rattle.numbers.proofs.state_of.Statement.{statement}

@@ -1,6 +1,5 @@
--- `breaks_off` meets its contract: by how much is left, against the text and one CR. Assumes nothing.
+-- `breaks_off` meets its contract: by how much is left, against the text and one CR.
 use mathlib.Core.Path.{sym, _∙_}
-use Prim.Native.Nat.{_-_}
 use borrow.Author.Tests.{not-true, not-false}
 use Rattle.parser.specs.Laws.{broken-past, broken-within, broken-over, broken-off, broken-cr}
 use borrow.Author.Needs.{needs}

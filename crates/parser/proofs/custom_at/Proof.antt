@@ -1,6 +1,6 @@
--- `custom_at` meets its contract: the line is its three parts one after the other. Assumes nothing.
+-- `custom_at` meets its contract: the line is its three parts one after the other.
 use mathlib.Core.Path.{sym, _∙_}
-use Prim.Native.Nat.{_+_, _-_}
+use Prim.Native.Nat.{_+_}
 use lib.ListN.{length}
 use borrow.Author.Tests.{not-true, not-false}
 use Rattle.text.specs.Laws.{stands-within}

@@ -1,6 +1,5 @@
--- `custom_prompt` meets its contract. Assumes nothing.
+-- `custom_prompt` meets its contract.
 use mathlib.Core.Path.{_∙_}
-use Prim.Native.Nat.{_-_}
 use Rattle.parser.specs.Laws.{custom-past, custom-room, custom-short, custom-is}
 use borrow.Author.Needs.{needs}
 use native.Mathlib.Omega.{arith}

@@ -1,4 +1,4 @@
--- `digits_at` meets its contract: the run from `from` on is the run from i on, with the value so far. The measure is what is left of buf. Assumes nothing.
+-- `digits_at` meets its contract: the run from `from` on is the run from i on, with the value so far. The measure is what is left of buf.
 use mathlib.Core.Path.{sym, _∙_}
 use Prim.Native.Nat.{_-_}
 use lib.ListN.{length}

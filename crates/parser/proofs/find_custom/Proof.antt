@@ -1,4 +1,4 @@
--- `find_custom` meets its contract: the first place from `from` on is the first from `place` on, and past the end there is none. The measure is what is left of buf. Assumes nothing.
+-- `find_custom` meets its contract: the first place from `from` on is the first from `place` on, and past the end there is none. The measure is what is left of buf.
 use mathlib.Core.Path.{_≡_, refl, sym, _∙_}
 use Prim.Native.Nat.{_-_}
 use lib.ListN.{length}

@@ -1,5 +1,4 @@
--- `is_digit` meets its contract. Assumes nothing.
-use Prim.Native.Nat.{_-_}
+-- `is_digit` meets its contract.
 use Rattle.parser.specs.Laws.{digit-low, digit-from}
 use Rattle.parser.proofs.is_digit.Statement.{statement}
 use Rattle.parser.proofs.is_digit.Tie as tie

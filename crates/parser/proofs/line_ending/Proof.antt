@@ -1,6 +1,5 @@
--- `line_ending` meets its contract. Assumes nothing.
+-- `line_ending` meets its contract.
 use mathlib.Core.Path.{sym, _∙_}
-use Prim.Native.Nat.{_-_}
 use Rattle.parser.specs.Laws.{ending-lf, ending-crlf, ending-none}
 use borrow.Author.Needs.{needs}
 use Rattle.parser.proofs.line_ending.Statement.{statement}

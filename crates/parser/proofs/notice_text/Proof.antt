@@ -1,6 +1,6 @@
--- `notice_text` meets its contract: one law for each way out. Assumes nothing.
+-- `notice_text` meets its contract: one law for each way out.
 use mathlib.Core.Path.{sym, _∙_}
-use Prim.Native.Nat.{_+_, _-_}
+use Prim.Native.Nat.{_+_}
 use lib.ListN.{length}
 use borrow.Author.Tests.{not-true, not-false}
 use Rattle.text.specs.Bytes.{bytes}

@@ -1,6 +1,6 @@
--- `numeric_at` meets its contract. Assumes nothing.
+-- `numeric_at` meets its contract.
 use mathlib.Core.Path.{sym, ap, _∙_}
-use Prim.Native.Nat.{ℕ, _+_, _-_}
+use Prim.Native.Nat.{ℕ, _+_}
 use borrow.Author.Tests.{not-true, not-false}
 use Rattle.text.specs.Laws.{stands-within}
 use Rattle.lines.specs.Lines.{fixedText}

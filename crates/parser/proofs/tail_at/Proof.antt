@@ -1,5 +1,4 @@
--- `tail_at` meets its contract: one law for each way out. Assumes nothing.
-use Prim.Native.Nat.{_-_}
+-- `tail_at` meets its contract: one law for each way out.
 use Rattle.parser.specs.Laws.{tail-large, tail-bare, tail-open, tail-is, ending-fits}
 use borrow.Author.Needs.{needs}
 use native.Mathlib.Omega.{arith}

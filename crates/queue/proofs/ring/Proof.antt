@@ -1,5 +1,4 @@
--- `ring` meets its contract. Assumes nothing.
-use Prim.Native.Nat.{_-_}
+-- `ring` meets its contract.
 use Rattle.queue.specs.Laws.{ring-near, ring-far}
 use borrow.Author.Needs.{needs}
 use Rattle.queue.proofs.ring.Statement.{statement}

@@ -1,5 +1,4 @@
--- `start_in` meets its contract. Assumes nothing.
-use Prim.Native.Nat.{_-_}
+-- `start_in` meets its contract.
 use Rattle.queue.specs.Laws.{start-none, start-some}
 use Rattle.queue.proofs.start_in.Statement.{statement}
 use Rattle.queue.proofs.start_in.Tie as tie

@@ -1,4 +1,4 @@
--- `digits` meets its contract: what is to be written of n is what is to be written of m before the digits that stand. The measure is what is left of the array. Assumes nothing.
+-- `digits` meets its contract: what is to be written of n is what is to be written of m before the digits that stand. The measure is what is left of the array.
 use mathlib.Core.Path.{_≡_, refl, sym}
 use Prim.Native.Nat.{_+_, _-_}
 use Rattle.report.specs.Laws.{Counting, digit-last, digit-more, digits-start, digits-end}

@@ -1,4 +1,4 @@
--- `draw` meets its contract: what is to be drawn of s is what was drawn and what is to be drawn of its rest. The measure is the rest. Assumes nothing.
+-- `draw` meets its contract: what is to be drawn of s is what was drawn and what is to be drawn of its rest. The measure is the rest.
 use Prim.Native.Nat.{_-_}
 use lib.ListN.{length}
 use Rattle.text.specs.Laws.{rest}

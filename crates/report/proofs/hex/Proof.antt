@@ -1,4 +1,4 @@
--- `hex` meets its contract: two digits more for each byte. The measure is what is left of the bytes. Assumes nothing.
+-- `hex` meets its contract: two digits more for each byte. The measure is what is left of the bytes.
 use Prim.Native.Nat.{_-_}
 use lib.ListN.{length}
 use Rattle.report.specs.Report.{ink}

@@ -1,5 +1,4 @@
--- `hex_digit` meets its contract. Assumes nothing.
-use Prim.Native.Nat.{_-_}
+-- `hex_digit` meets its contract.
 use Rattle.report.specs.Laws.{hex-below, hex-above}
 use borrow.Author.Needs.{needs}
 use Rattle.report.proofs.hex_digit.Statement.{statement}

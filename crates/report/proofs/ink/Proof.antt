@@ -1,6 +1,6 @@
--- `ink` meets its contract. Assumes nothing.
+-- `ink` meets its contract.
 use mathlib.Core.Path.{ap}
-use Prim.Native.Nat.{_+_, _-_}
+use Prim.Native.Nat.{_+_}
 use lib.ListN.{length}
 use Rattle.report.specs.Report.{inked}
 use borrow.Author.Needs.{needs}

@@ -1,6 +1,5 @@
--- `line` meets its contract: its four texts one after the other. Assumes nothing.
+-- `line` meets its contract: its four texts one after the other.
 use mathlib.Core.Path.{sym, _∙_}
-use Prim.Native.Nat.{_-_}
 use borrow.Author.Tests.{not-true, not-false}
 use Rattle.report.specs.Report.{ink}
 use Rattle.report.specs.Laws.{line-none, name-room, value-room, end-room, line-some}

@@ -1,6 +1,5 @@
--- `name` meets its contract: each arm puts its own name. Assumes nothing.
+-- `name` meets its contract: each arm puts its own name.
 use mathlib.Core.Path.{sym, ap}
-use Prim.Native.Nat.{_-_}
 use Rattle.report.specs.Report.{ink, nameOf}
 use Rattle.report.specs.Laws.{same-text}
 use borrow.Author.Needs.{needs}

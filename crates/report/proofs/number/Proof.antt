@@ -1,5 +1,4 @@
--- `number` meets its contract: a space, then the digits. Assumes nothing.
-use Prim.Native.Nat.{_-_}
+-- `number` meets its contract: a space, then the digits.
 use Rattle.text.specs.Bytes.{bytes}
 use Rattle.report.specs.Report.{ink, decimal}
 use Rattle.report.specs.Laws.{then-ink, ink-at, decimal-length}

@@ -1,5 +1,4 @@
--- `payload` meets its contract: nothing, or a space and the bytes. Assumes nothing.
-use Prim.Native.Nat.{_-_}
+-- `payload` meets its contract: nothing, or a space and the bytes.
 use Rattle.text.specs.Bytes.{bytes}
 use Rattle.report.specs.Report.{ink, hex}
 use Rattle.report.specs.Laws.{ink-at, payload-is, payload-none}

@@ -1,5 +1,4 @@
--- `plain` meets its contract: the digits from where they begin. Assumes nothing.
-use Prim.Native.Nat.{_-_}
+-- `plain` meets its contract: the digits from where they begin.
 use Rattle.report.specs.Report.{ink}
 use Rattle.report.specs.Laws.{same-text, digits-text}
 use borrow.Author.Needs.{needs}

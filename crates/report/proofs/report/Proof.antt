@@ -1,5 +1,4 @@
--- `report` meets its contract: its texts one after the other, for which there is room. Assumes nothing.
-use Prim.Native.Nat.{_-_}
+-- `report` meets its contract: its texts one after the other, for which there is room.
 use Rattle.report.specs.Report.{ink}
 use Rattle.report.specs.Laws.{lines-length, lines-room, word-room, left-room, last-room, report-short, report-long, report-is}
 use borrow.Author.Needs.{needs}

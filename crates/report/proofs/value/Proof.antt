@@ -1,4 +1,4 @@
--- `value` meets its contract: the number where the kind has one, else the payload. Assumes nothing.
+-- `value` meets its contract: the number where the kind has one, else the payload.
 use mathlib.Core.Path.{sym, ap, _∙_}
 use Rattle.answers.specs.Answer.{numberIf}
 use Rattle.report.specs.Report.{valueOf}

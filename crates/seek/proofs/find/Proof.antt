@@ -1,4 +1,4 @@
--- `find` meets its contract: both searches promise it, and where there is no room nothing stands. Assumes nothing.
+-- `find` meets its contract: both searches promise it, and where there is no room nothing stands.
 use mathlib.Core.Path.{sym}
 use native.Mathlib.Omega.{arith}
 use borrow.Author.Needs.{needs}

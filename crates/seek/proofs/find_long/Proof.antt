@@ -1,4 +1,4 @@
--- `find_long` meets its contract: the first place from `from` on is the first from i on; each turn ends behind the block it looked through. The measure is the places left. Assumes nothing.
+-- `find_long` meets its contract: the first place from `from` on is the first from i on; each turn ends behind the block it looked through. The measure is the places left.
 use mathlib.Core.Path.{_≡_, refl, sym, _∙_}
 use Prim.Native.Nat.{_≤_, _-_}
 use native.Mathlib.Omega.{arith}

@@ -1,4 +1,4 @@
--- `find_upto` meets its contract: the first place from `from` on is the first from p on. The measure is the places left. Assumes nothing.
+-- `find_upto` meets its contract: the first place from `from` on is the first from p on. The measure is the places left.
 use mathlib.Core.Path.{_≡_, refl, sym, ap, _∙_}
 use Prim.Native.Nat.{_≤_, _-_}
 use native.Mathlib.Omega.{arith}

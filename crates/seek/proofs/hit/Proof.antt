@@ -1,4 +1,4 @@
--- `hit` meets its contract: what was met so far is what the first j have. The measure is what is left of n. Assumes nothing.
+-- `hit` meets its contract: what was met so far is what the first j have. The measure is what is left of n.
 use mathlib.Core.Path.{_≡_, refl, ap, _∙_}
 use Prim.Native.Nat.{_≤_, _-_}
 use native.Mathlib.Numerals.{add-one}

@@ -1,4 +1,4 @@
--- `holds` meets its contract: without its byte k a text does not stand. Assumes nothing.
+-- `holds` meets its contract: without its byte k a text does not stand.
 use native.Mathlib.Omega.{arith}
 use borrow.Author.Needs.{needs}
 use Rattle.seek.specs.Laws.{byte-none}

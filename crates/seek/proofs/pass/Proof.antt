@@ -1,4 +1,4 @@
--- `pass` meets its contract, which is its invariant; a block without the two bytes is passed over by `block-none`. The measure is the places left. Assumes nothing.
+-- `pass` meets its contract, which is its invariant; a block without the two bytes is passed over by `block-none`. The measure is the places left.
 use mathlib.Core.Path.{refl, sym, _∙_}
 use Prim.Native.Nat.{_-_}
 use native.Mathlib.Omega.{arith}

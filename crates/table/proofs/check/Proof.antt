@@ -1,4 +1,4 @@
--- `check` meets its contract: the ruling on the table is the ruling on what is left of it, n records on. The measure is the records that may still come. Assumes nothing.
+-- `check` meets its contract: the ruling on the table is the ruling on what is left of it, n records on. The measure is the records that may still come.
 use Prim.Native.Nat.{_-_}
 use Rattle.table.specs.Laws.{Counting, counting-none, check-end, check-faulty, check-more, check-full, check-over, good-record-inside}
 use borrow.Author.Needs.{needs}

@@ -1,4 +1,4 @@
--- `ends_plain` meets its contract: the two parts hold every byte. Assumes nothing.
+-- `ends_plain` meets its contract: the two parts hold every byte.
 use Rattle.table.specs.Laws.{ends-all}
 use borrow.Author.Needs.{needs}
 use Rattle.table.proofs.ends_plain.Statement.{statement}

@@ -1,4 +1,4 @@
--- `good_at` meets its contract: a record that can be read lies in its table, and is good where its text keeps the rules. Assumes nothing.
+-- `good_at` meets its contract: a record that can be read lies in its table, and is good where its text keeps the rules.
 use borrow.Author.Tests.{not-true, not-false}
 use Rattle.table.specs.Laws.{record-inside, good-faulty, good-end, good-bad, good-good}
 use borrow.Author.Needs.{needs}

@@ -1,4 +1,4 @@
--- `is_text` meets its contract: its tests are those of the definition, the bytes asked before the two ends. Assumes nothing.
+-- `is_text` meets its contract: its tests are those of the definition, the bytes asked before the two ends.
 use mathlib.Core.Path.{sym, _∙_}
 use borrow.Author.Tests.{not-true, not-false}
 use Rattle.table.specs.Laws.{text-empty, text-long, text-unplain, text-first, text-last}

@@ -1,4 +1,4 @@
--- `next_of` meets its contract: what is sought from `at` on is sought from `place` on. The measure is the records that may still come. Assumes nothing.
+-- `next_of` meets its contract: what is sought from `at` on is sought from `place` on. The measure is the records that may still come.
 use mathlib.Core.Path.{_≡_, refl}
 use Prim.Native.Nat.{_-_}
 use Rattle.table.specs.Table.{nextOf}

@@ -1,6 +1,5 @@
--- `nth` meets its contract: the record sought is number `left` of what is left of the table. The measure is `left`. Assumes nothing.
+-- `nth` meets its contract: the record sought is number `left` of what is left of the table. The measure is `left`.
 use mathlib.Core.Path.{_≡_, refl}
-use Prim.Native.Nat.{_-_}
 use Rattle.table.specs.Table.{nthFrom}
 use Rattle.table.specs.Laws.{nth-end, nth-faulty, nth-more, nth-here, record-inside}
 use borrow.Author.Needs.{needs}

@@ -1,4 +1,4 @@
--- `part_plain` meets its contract: what was gathered is whether the first j bytes of the part are plain. The measure is what is left of w. Assumes nothing.
+-- `part_plain` meets its contract: what was gathered is whether the first j bytes of the part are plain. The measure is what is left of w.
 use mathlib.Core.Path.{_≡_, refl, ap, _∙_}
 use Prim.Native.Nat.{ℕ, _≤_, _-_}
 use native.Mathlib.Omega.{arith}

@@ -1,6 +1,5 @@
--- `prompt_at` meets its contract. Assumes nothing.
+-- `prompt_at` meets its contract.
 use mathlib.Core.Path.{_∙_}
-use Prim.Native.Nat.{_-_}
 use Rattle.table.specs.Laws.{prompt-cut, prompt-read}
 use borrow.Author.Needs.{needs}
 use Rattle.table.proofs.prompt_at.Statement.{statement}

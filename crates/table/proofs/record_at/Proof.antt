@@ -1,6 +1,5 @@
--- `record_at` meets its contract: the marks are asked for in the order of the definition. Assumes nothing.
+-- `record_at` meets its contract: the marks are asked for in the order of the definition.
 use mathlib.Core.Path.{sym, _∙_}
-use Prim.Native.Nat.{_-_}
 use Rattle.table.specs.Laws.{read-end, read-notice, read-success, read-error, read-prompt, read-none}
 use borrow.Author.Needs.{needs}
 use Rattle.table.proofs.record_at.Statement.{statement}

@@ -1,5 +1,4 @@
--- `same_mark` meets its contract. Assumes nothing.
-use Prim.Native.Nat.{_-_}
+-- `same_mark` meets its contract.
 use borrow.Author.Needs.{needs}
 use Rattle.table.proofs.same_mark.Statement.{statement}
 use Rattle.table.proofs.same_mark.Tie as tie

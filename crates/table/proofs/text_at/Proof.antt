@@ -1,5 +1,4 @@
--- `text_at` meets its contract: the two tests say whether the length byte and the text lie in the table. Assumes nothing.
-use Prim.Native.Nat.{_-_}
+-- `text_at` meets its contract: the two tests say whether the length byte and the text lie in the table.
 use Rattle.table.specs.Laws.{text-cut, text-past, text-read}
 use borrow.Author.Needs.{needs}
 use native.Mathlib.Omega.{arith}

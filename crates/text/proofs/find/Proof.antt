@@ -1,4 +1,4 @@
--- `find` meets its contract: the first place from `from` on is the first place from i on. The measure is what is left of s. Assumes nothing.
+-- `find` meets its contract: the first place from `from` on is the first place from i on. The measure is what is left of s.
 use mathlib.Core.Path.{_≡_, refl, sym, _∙_}
 use Prim.Native.Nat.{_-_}
 use lib.ListN.{length}

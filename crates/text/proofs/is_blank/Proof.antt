@@ -1,6 +1,5 @@
--- `is_blank` meets its contract: each arm knows its set. Assumes nothing.
+-- `is_blank` meets its contract: each arm knows its set.
 use Rattle.text.specs.Logic.{or-none}
-use Prim.Native.Nat.{_-_}
 use Rattle.text.specs.Text.{among, blanks, isBlank}
 use borrow.Author.Needs.{needs}
 use Rattle.text.proofs.is_blank.Statement.{statement}

@@ -1,6 +1,5 @@
--- `is_run` meets its contract: each test that holds is put into the definition, which then computes. Assumes nothing.
+-- `is_run` meets its contract: each test that holds is put into the definition, which then computes.
 use Rattle.text.specs.Logic.{or-none}
-use Prim.Native.Nat.{_-_}
 use borrow.Author.Tests.{ne-eqb}
 use Rattle.text.specs.Text.{among, blanks, isBlank}
 use Rattle.text.proofs.is_run.Statement.{statement}

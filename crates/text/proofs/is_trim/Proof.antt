@@ -1,6 +1,5 @@
--- `is_trim` meets its contract: the two sets differ in the form feed alone. Assumes nothing.
+-- `is_trim` meets its contract: the two sets differ in the form feed alone.
 use mathlib.Core.Path.{_∙_}
-use Prim.Native.Nat.{_-_}
 use Rattle.text.specs.Text.{among, blanks, isBlank}
 use Rattle.text.specs.Steps.{trim-run}
 use borrow.Author.Needs.{needs}

@@ -1,6 +1,6 @@
--- `kept` meets its contract: what s keeps is what its first n bytes keep. The measure is n. Assumes nothing.
+-- `kept` meets its contract: what s keeps is what its first n bytes keep. The measure is n.
 use mathlib.Core.Path.{_≡_, sym, ap, _∙_}
-use Prim.Native.Nat.{ℕ, _≤_, _-_}
+use Prim.Native.Nat.{ℕ, _≤_}
 use lib.ListN.{length, take}
 use borrow.Author.Tests.{not-true, not-false}
 use Rattle.text.specs.Text.{isBlank, keep}

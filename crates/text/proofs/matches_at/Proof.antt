@@ -1,4 +1,4 @@
--- `matches_at` meets its contract: whether t stands at `at` is whether its rest from k on stands k further on. The measure is what is left of t. Assumes nothing.
+-- `matches_at` meets its contract: whether t stands at `at` is whether its rest from k on stands k further on. The measure is what is left of t.
 use mathlib.Core.Path.{_≡_, sym, _∙_}
 use Prim.Native.Nat.{_≤_, _+_, _-_}
 use lib.ListN.{length, drop}

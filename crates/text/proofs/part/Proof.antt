@@ -1,4 +1,4 @@
--- `part` meets its contract: the two tests say whether the part fits. Assumes nothing.
+-- `part` meets its contract: the two tests say whether the part fits.
 use mathlib.Core.Path.{_≡_}
 use Prim.Native.Nat.{_+_, _-_}
 use Rattle.text.specs.Laws.{part-none, part-is, part-front, part-on}

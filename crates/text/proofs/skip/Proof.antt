@@ -1,4 +1,4 @@
--- `skip` meets its contract: the answer from `from` on is the answer from `place` on. The measure is what is left of s. Assumes nothing.
+-- `skip` meets its contract: the answer from `from` on is the answer from `place` on. The measure is what is left of s.
 use mathlib.Core.Path.{_≡_, refl, sym, _∙_}
 use Prim.Native.Nat.{_-_}
 use lib.ListN.{length}

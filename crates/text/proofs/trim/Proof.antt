@@ -1,5 +1,4 @@
--- `trim` meets its contract: what is kept of the rest after the leading blanks. Assumes nothing.
-use Prim.Native.Nat.{_-_}
+-- `trim` meets its contract: what is kept of the rest after the leading blanks.
 use Rattle.text.specs.Laws.{trim-is, past-bounds}
 use borrow.Author.Needs.{needs}
 use native.Mathlib.Omega.{arith}

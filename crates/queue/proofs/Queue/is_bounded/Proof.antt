@@ -1,6 +1,5 @@
--- `is_bounded` meets its contract. Assumes nothing.
+-- `is_bounded` meets its contract.
 use mathlib.Core.Path.{sym, _∙_}
-use Prim.Native.Nat.{_-_}
 use borrow.Author.Tests.{not-true, not-false}
 use Rattle.queue.specs.Laws.{bounds-off, bounds-on}
 use borrow.Author.Needs.{needs}

@@ -1,6 +1,5 @@
--- `put` meets its contract: one law for each way out. Assumes nothing.
+-- `put` meets its contract: one law for each way out.
 use mathlib.Core.Path.{sym, _∙_}
-use Prim.Native.Nat.{_-_}
 use borrow.Author.Tests.{not-true, not-false}
 use Rattle.queue.specs.Laws.{put-bad, put-empty, put-long, put-full, put-is, bounds-room, ring-below}
 use borrow.Author.Needs.{needs}

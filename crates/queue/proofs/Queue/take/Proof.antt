@@ -1,6 +1,5 @@
--- `take` meets its contract: one law for each way out; the record at the start lies in the memory. Assumes nothing.
+-- `take` meets its contract: one law for each way out; the record at the start lies in the memory.
 use mathlib.Core.Path.{refl, sym, _∙_}
-use Prim.Native.Nat.{_-_}
 use lib.ListN.{length}
 use borrow.Author.Tests.{not-true, not-false}
 use Rattle.queue.specs.Laws.{take-bad, take-none, take-unmarked, take-short, take-long, take-is, record-room, bounds-room, bounds-count}

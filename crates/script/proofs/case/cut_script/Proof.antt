@@ -1,4 +1,4 @@
--- `cut_script` is safe: the lengths were tested against the memories. Assumes nothing.
+-- `cut_script` is safe: the lengths were tested against the memories.
 use mathlib.Core.Path.{sym}
 use lib.Seq.{length-take-le}
 use borrow.Author.Needs.{needs}

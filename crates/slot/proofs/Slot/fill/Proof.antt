@@ -1,5 +1,4 @@
--- `fill` meets its contract, field by field. Assumes nothing.
-use Prim.Native.Nat.{_-_}
+-- `fill` meets its contract, field by field.
 use Rattle.slot.specs.Laws.{filled-is}
 use borrow.Author.Needs.{needs}
 use Rattle.slot.proofs.Slot.fill.Statement.{statement}

@@ -1,5 +1,4 @@
--- `lookup` meets its contract. Assumes nothing.
-use Prim.Native.Nat.{_-_}
+-- `lookup` meets its contract.
 use Rattle.slot.specs.Laws.{read-short, read-is}
 use Rattle.slot.proofs.Slot.lookup.Statement.{statement}
 use Rattle.slot.proofs.Slot.lookup.Tie as tie

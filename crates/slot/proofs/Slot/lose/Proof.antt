@@ -1,5 +1,4 @@
--- `lose` meets its contract, field by field. Assumes nothing.
-use Prim.Native.Nat.{_-_}
+-- `lose` meets its contract, field by field.
 use Rattle.slot.specs.Laws.{lost-is}
 use borrow.Author.Needs.{needs}
 use Rattle.slot.proofs.Slot.lose.Statement.{statement}

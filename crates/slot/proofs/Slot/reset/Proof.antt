@@ -1,5 +1,4 @@
--- `reset` meets its contract. Assumes nothing.
-use Prim.Native.Nat.{_-_}
+-- `reset` meets its contract.
 use Rattle.slot.specs.Laws.{reset-short, reset-is}
 use Rattle.slot.proofs.Slot.reset.Statement.{statement}
 use Rattle.slot.proofs.Slot.reset.Tie as tie

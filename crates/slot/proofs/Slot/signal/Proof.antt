@@ -1,6 +1,5 @@
--- `signal` meets its contract: one law for each way out. Assumes nothing.
+-- `signal` meets its contract: one law for each way out.
 use mathlib.Core.Path.{sym, _∙_}
-use Prim.Native.Nat.{_-_}
 use borrow.Author.Tests.{not-true, not-false}
 use Rattle.slot.specs.Laws.{signal-short, signal-none, signal-lost, signal-bare, signal-over, signal-full}
 use borrow.Author.Needs.{needs}

@@ -1,0 +1,90 @@
+// The form of a line, and the state that it starts from where it has one.
+use super::LENGTH;
+use super::read;
+use super::read::Amount;
+
+// A written state. The slot holds an Ok.
+pub struct Start {
+    pub end: usize,
+    pub signalled: bool,
+    pub len: usize,
+    pub slot_lost: u32,
+    pub start: usize,
+    pub count: usize,
+    pub queue_lost: u32,
+}
+
+// The forms: a digest case, and an ingress case from nothing or from a written state.
+pub enum Form {
+    Digest,
+    Fresh,
+    From(Start),
+    Bad,
+}
+
+// The number k of a written state.
+fn state_number(s: &[u8], k: usize, most: u32) -> Amount {
+    read::number(read::part_of(s, k, b','), most)
+}
+
+// END,SIGNALLED,LENGTH,SLOT-LOST,START,COUNT,QUEUE-LOST: the slot's part.
+fn started(s: &[u8]) -> Form {
+    if read::parts(s, b',') != 7 {
+        return Form::Bad;
+    }
+    let Amount::Is(end) = state_number(s, 0, read::MOST) else {
+        return Form::Bad;
+    };
+    let Amount::Is(flag) = state_number(s, 1, 1) else {
+        return Form::Bad;
+    };
+    let Amount::Is(len) = state_number(s, 2, read::MOST) else {
+        return Form::Bad;
+    };
+    let Amount::Is(lost) = state_number(s, 3, read::MOST) else {
+        return Form::Bad;
+    };
+    queue_started(s, end as usize, flag == 1, len as usize, lost)
+}
+
+// The rest of a written state.
+fn queue_started(s: &[u8], end: usize, signalled: bool, len: usize, slot_lost: u32) -> Form {
+    let Amount::Is(start) = state_number(s, 4, read::MOST) else {
+        return Form::Bad;
+    };
+    let Amount::Is(count) = state_number(s, 5, read::MOST) else {
+        return Form::Bad;
+    };
+    let Amount::Is(lost) = state_number(s, 6, read::MOST) else {
+        return Form::Bad;
+    };
+    Form::From(Start {
+        end: end,
+        signalled: signalled,
+        len: len,
+        slot_lost: slot_lost,
+        start: start as usize,
+        count: count as usize,
+        queue_lost: lost,
+    })
+}
+
+// A comma in the first field tells the form, else the number of fields. A line that fills the memory is too long.
+pub fn form_of(line: &[u8]) -> Form {
+    if line.len() == LENGTH {
+        return Form::Bad;
+    }
+    let first = read::part_of(line, 0, b' ');
+    let n = read::parts(line, b' ');
+    if read::seek(first, 0, b',') < first.len() {
+        if n == 6 {
+            return started(first);
+        }
+        return Form::Bad;
+    }
+    match n {
+        2 => Form::Digest,
+        5 => Form::Fresh,
+        _ => Form::Bad,
+    }
+}

@@ -1,0 +1,27 @@
+// The notation of the program compare, read and printed: lines in, one line of answer each. It is a harness and promises only that it doesn't trip;
+// what is answered is held to a file of another origin (tests/model.py).
+//
+// A line has at most 65,535 bytes before its end, and its fields stand apart by one space. Blank lines and lines that begin with `#` are skipped.
+// A word or a comma in the first field tells the form of a line, else the number of its fields does. No form begins with a word as yet.
+// TABLE INPUT is a digest case; TABLE BUFFER SLOT-MEMORY QUEUE-MEMORY OPS an ingress case from end 0, a new slot and an empty queue;
+// STATE TABLE BUFFER SLOT-MEMORY QUEUE-MEMORY OPS one from any state, where STATE is
+// END,SIGNALLED,LENGTH,SLOT-LOST,START,COUNT,QUEUE-LOST (SIGNALLED 0 or 1; the slot holds an Ok).
+//
+// Bytes are `-` for none, or parts joined by `+`, a part being hex in either case or COUNT*HH, one byte that many times.
+// Bytes of one field, or of one op, are at most 65,536; numbers are decimal, at most 4,294,967,295.
+// OPS is `-`, or ops joined by `;`: Wbytes write; Abytes put the bytes into the room and advance by as many (where they don't fit nothing is put, and
+// advance is called all the same); Mn advance by n; C clear; R reset; T take; L lookup; Obytes signal an Ok; Pn a prompt, n up to 255; En a CME code,
+// n up to 65,535; B BUSY.
+//
+// A digest case answers KIND NUMBER PLACE LENGTH CONSUMED, `-` for no number. The others answer a part for each op, each ended by `;`, a space, and the last
+// state. What doesn't read in this notation, or is over a limit, is answered `bad line`, and nothing of the line is done.
+pub mod form;
+pub mod input;
+pub mod op;
+pub mod read;
+pub mod say;
+
+// How long a memory of the harness is: one more than a line may be.
+pub const LENGTH: usize = 65536;
+
+pub type Memory = [u8; LENGTH];

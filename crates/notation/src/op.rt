@@ -1,0 +1,134 @@
+// The ops of a script, read.
+use super::Memory;
+use super::read;
+use super::read::Amount;
+use super::read::Filled;
+use answers::Kind;
+
+// An op. Its last number is how many bytes it has; they were read into the piece's memory.
+pub enum Op {
+    Write(usize),
+    Advance(usize, usize),
+    Clear,
+    Reset,
+    Take,
+    Look,
+    Signal(Kind, u32, usize),
+    Bad,
+}
+
+// An op with bytes: W, A or O.
+fn op_of_bytes(letter: u8, n: usize) -> Op {
+    match letter {
+        b'W' => Op::Write(n),
+        b'A' => Op::Advance(n, n),
+        b'O' => Op::Signal(Kind::Ok, 0, n),
+        _ => Op::Bad,
+    }
+}
+
+// An op with a number: M, P or E.
+fn op_of_number(letter: u8, n: u32) -> Op {
+    match letter {
+        b'M' => Op::Advance(n as usize, 0),
+        b'P' => Op::Signal(Kind::Prompt, n, 0),
+        b'E' => Op::Signal(Kind::Cme, n, 0),
+        _ => Op::Bad,
+    }
+}
+
+// The largest number of an op.
+fn most(letter: u8) -> u32 {
+    match letter {
+        b'P' => 255,
+        b'E' => 65535,
+        _ => read::MOST,
+    }
+}
+
+// An op of one letter: C, R, T, B or L.
+fn op_alone(letter: u8) -> Op {
+    match letter {
+        b'C' => Op::Clear,
+        b'R' => Op::Reset,
+        b'T' => Op::Take,
+        b'B' => Op::Signal(Kind::Busy, 0, 0),
+        b'L' => Op::Look,
+        _ => Op::Bad,
+    }
+}
+
+// Has the op bytes?
+fn takes_bytes(letter: u8) -> bool {
+    match letter {
+        b'W' | b'A' | b'O' => true,
+        _ => false,
+    }
+}
+
+// Has the op a number?
+fn takes_number(letter: u8) -> bool {
+    match letter {
+        b'M' | b'P' | b'E' => true,
+        _ => false,
+    }
+}
+
+// Reads an op, its bytes into the piece's memory.
+pub fn read_op(s: &[u8], piece: &mut Memory) -> Op {
+    let letter = read::byte_at(s, 0);
+    let rest = read::between(s, 1, s.len());
+    if takes_bytes(letter) {
+        return match read::data(rest, piece) {
+            Filled::Is(n) => op_of_bytes(letter, n),
+            Filled::Bad => Op::Bad,
+        };
+    }
+    if takes_number(letter) {
+        return match read::number(rest, most(letter)) {
+            Amount::Is(n) => op_of_number(letter, n),
+            Amount::Bad => Op::Bad,
+        };
+    }
+    if s.len() != 1 {
+        return Op::Bad;
+    }
+    op_alone(letter)
+}
+
+// Does the op read?
+fn is_good(s: &[u8], piece: &mut Memory) -> bool {
+    match read_op(s, piece) {
+        Op::Write(_) => true,
+        Op::Advance(_, _) => true,
+        Op::Clear => true,
+        Op::Reset => true,
+        Op::Take => true,
+        Op::Look => true,
+        Op::Signal(_, _, _) => true,
+        Op::Bad => false,
+    }
+}
+
+// How many ops a script has.
+pub fn count(ops: &[u8]) -> usize {
+    if read::is_none(ops) {
+        return 0;
+    }
+    read::parts(ops, b';')
+}
+
+// Does each op of a script read?
+pub fn are_good(ops: &[u8], piece: &mut Memory) -> bool {
+    let mut from = 0;
+    let mut left = count(ops);
+    while 0 < left {
+        let to = read::seek(ops, from, b';');
+        if !is_good(read::between(ops, from, to), piece) {
+            return false;
+        }
+        from = read::plus(to, 1);
+        left -= 1;
+    }
+    true
+}
