@@ -3,7 +3,8 @@
 use crate::generate;
 use crate::lines;
 use crate::notation::{Case, Op};
-use crate::oracle::{self, Origin};
+use crate::oracle;
+use crate::origin::Origin;
 use crate::script::SLOT_SIZES;
 use crate::table::{self, Mark};
 use std::collections::BTreeMap;

@@ -5,6 +5,7 @@ pub mod judge;
 pub mod lines;
 pub mod notation;
 pub mod oracle;
+pub mod origin;
 pub mod script;
 pub mod table;
 pub mod tokens;

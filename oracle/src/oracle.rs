@@ -1,35 +1,9 @@
 //! Case in, answer line out.
 
 use crate::notation::{self, Case};
+use crate::origin::{self, Origin, LONGEST};
 use crate::{lines, script, table, tokens};
 use atat::Digester;
-
-/// The longest digest input and ingress buffer; the crate has no such limit, so refusal 1 is the harness's.
-pub const LONGEST: usize = 4096;
-
-/// Who decided a line.
-#[derive(Clone, Copy, Debug, PartialEq, Eq)]
-pub enum Origin {
-    /// The crate.
-    Crate,
-    /// The crate, but that a CS, CE or CP function, ours on both sides, was what matched somewhere.
-    Ours,
-    /// The harness: refusals 1 and 2, a line that doesn't read, a slot memory of a size that isn't supported.
-    Harness,
-    /// The crate panicked where ours answers.
-    Panic,
-}
-
-impl Origin {
-    pub fn letter(self) -> char {
-        match self {
-            Origin::Crate => 'c',
-            Origin::Ours => 'o',
-            Origin::Harness => 'h',
-            Origin::Panic => 'p',
-        }
-    }
-}
 
 /// The answer to a line that isn't skipped.
 pub fn answer(line: &[u8]) -> (String, Origin) {
@@ -54,7 +28,7 @@ fn digest(table: &[u8], input: &[u8]) -> (String, Origin) {
         Err(record) => return (format!("refused 2 {record}"), Origin::Harness),
         Ok(records) => tokens::lay(records),
     }
-    let (answer, consumed) = match script::caught(|| tokens::Tokens::new().digest(input)) {
+    let (answer, consumed) = match origin::caught(|| tokens::Tokens::new().digest(input)) {
         Ok(said) => said,
         Err(place) => return (format!("panic {place}"), Origin::Panic),
     };

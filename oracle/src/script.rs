@@ -6,13 +6,10 @@
 
 use crate::lines;
 use crate::notation::{Hex, Op};
-use crate::oracle::{Origin, LONGEST};
+use crate::origin::{caught, Origin, LONGEST};
 use crate::table;
 use crate::tokens::{self, Notice, Tokens};
 use atat::{reach, AtatIngress, CmeError, ConnectionError, Ingress, IngressError, InternalError, Response, ResponseSlot, UrcChannel};
-use std::cell::RefCell;
-use std::panic::{self, AssertUnwindSafe};
-use std::sync::Once;
 
 /// One record of the queue, and the most that it holds.
 const RECORD: usize = 132;
@@ -239,20 +236,4 @@ impl<const N: usize> AtatIngress for Counted<'_, '_, N> {
     fn clear(&mut self) {
         self.ingress.clear()
     }
-}
-
-thread_local! {
-    static PLACE: RefCell<String> = const { RefCell::new(String::new()) };
-}
-
-/// What `f` answers, or the name of the source file in which it panicked.
-pub fn caught<T>(f: impl FnOnce() -> T) -> Result<T, String> {
-    static HOOK: Once = Once::new();
-    HOOK.call_once(|| {
-        panic::set_hook(Box::new(|info| {
-            let file = info.location().map_or("", |l| l.file());
-            PLACE.set(file.rsplit('/').next().unwrap_or("").to_owned());
-        }));
-    });
-    panic::catch_unwind(AssertUnwindSafe(f)).map_err(|_| PLACE.take())
 }

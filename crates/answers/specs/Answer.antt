@@ -1,6 +1,9 @@
 -- The answer of a digest in document 01's terms.
-use mathlib.Core.Bool.{Bool, true, false}
-use Prim.Native.Nat.{ℕ, zero, suc, _+_}
+use mathlib.Core.Bool.{Bool, true, false, _&&_}
+use Prim.Native.Nat.{ℕ, zero, suc, _+_, _≤_}
+use lib.Dec.{leb}
+use Rattle.outcome.specs.Outcome.{if_then_else_}
+use Rattle.text.specs.declared.Span.{Span}
 use Rattle.answers.specs.declared.Kind.{Kind}
 use Rattle.answers.specs.declared.Kind.the-variants.{None, Ok, Prompt, Cme, Cms, Unknown, NotAllowed, Error, NoCarrier, Busy, NoAnswer, NoDialtone, Custom, Notice}
 use Rattle.answers.specs.declared.Answer.{Answer}
@@ -27,12 +30,8 @@ hasNumber NoDialtone = false
 hasNumber Custom = true
 hasNumber Notice = true
 
-abbrev pub numberIf : Bool → ℕ → Number
-numberIf true n = number n
-numberIf false n = none
-
 abbrev pub numbered : Kind → ℕ → Number
-numbered k n = numberIf (hasNumber k) n
+numbered k n = if hasNumber k then number n else none
 
 -- no number is stored as 0
 abbrev pub stored : Number → ℕ
@@ -67,16 +66,37 @@ unfoldable pub placed : ℕ → ℕ → ℕ
 placed zero p = 0
 placed (suc n) p = p
 
--- an answer of the kind k, with the number n where k has one, a payload of len bytes at p, and c bytes consumed
-unfoldable pub answer : Kind → ℕ → ℕ → ℕ → ℕ → Answer
-unfolding placed
-answer k n p len c = record { kind = k; number = stored (numbered k n); place = placed len p; len = len; consumed = c }
+-- How answers are made. Bare: a kind, and what is consumed;
+abbrev pub bare : Kind → ℕ → Answer
+bare k c = record { kind = k; number = 0; place = 0; len = 0; consumed = c }
 
--- None, and what is consumed
+-- None;
 abbrev pub nothing : ℕ → Answer
 nothing c = record { kind = None; number = 0; place = 0; len = 0; consumed = c }
+
+-- with the number n, where the kind has one;
+abbrev pub withNumber : Kind → ℕ → ℕ → Answer
+withNumber k n c = record { kind = k; number = stored (numbered k n); place = 0; len = 0; consumed = c }
+
+-- with a payload too.
+abbrev pub withPayload : Kind → ℕ → Span → ℕ → Answer
+withPayload k n p c = record { kind = k; number = stored (numbered k n); place = placed (p .len) (p .start); len = p .len; consumed = c }
 
 -- the same answer seen from d bytes further to the front
 unfoldable pub shift : ℕ → Answer → Answer
 unfolding placed
 shift d a = record { kind = a .kind; number = a .number; place = placed (a .len) (a .place + d); len = a .len; consumed = a .consumed + d }
+
+-- the bytes that an input may have, and so a place or a count
+abbrev pub longest : ℕ
+longest = 4096
+
+-- `shift` where place, count and d are those of an input; else the answer as it is
+unfoldable pub shiftWithin : ℕ → Answer → Answer
+unfolding shift
+shiftWithin d a = if leb (a .place) longest && (leb (a .consumed) longest && leb d longest) then shift d a else a
+
+-- The payload lies within what is consumed, and that within the n bytes of the input.
+pub record Within (n : ℕ) (a : Answer) : Type 0 where
+  pub payload : a .place + a .len ≤ a .consumed
+  pub all : a .consumed ≤ n

@@ -1,8 +1,8 @@
 // Answers the cases of standard input, one a line; the notation is in crates/notation/src/lib.rt.
-use notation::Memory;
-use notation::input;
-use notation::input::Input;
-use notation::say;
+mod input;
+
+use fields::Memory;
+use input::Input;
 
 // Answers the gathered line once it is whole, unless it is to be skipped.
 fn answer_line(

@@ -12,8 +12,9 @@ use Rattle.parser.specs.Parser.{numericError, promptFrom, customPrompt, noticeA
 use Rattle.answers.specs.declared.Kind.{Kind}
 use Rattle.answers.specs.declared.Kind.the-variants.{None, Ok, Prompt, Cme, Cms, NotAllowed, Notice}
 use Rattle.answers.specs.declared.Answer.{Answer}
-use Rattle.answers.specs.Answer.{Number, none, number, numberOf}
-use Rattle.digest.specs.Digest.{digested}
+use Rattle.answers.specs.Answer.{Number, none, number, numberOf, placed}
+use Rattle.items.specs.Rules.{trimmedPart}
+use Rattle.digest.specs.Digest.{digest}
 
 pub record Known : Type 0 where
   pub table : List ℕ
@@ -38,7 +39,7 @@ saidOf s (answered a) = answered (said s a)
 saidOf s (refused n values) = refused n values
 
 abbrev given : Known → Outcome Said
-given x = saidOf (bytes (x .input)) (digested (x .table) (bytes (x .input)))
+given x = saidOf (bytes (x .input)) (digest (x .table) (bytes (x .input)))
 
 abbrev expected : Known → Outcome Said
 expected x = answered (record { kind = x .kind; number = x .number; payload = bytes (x .payload); consumed = x .consumed })
@@ -68,5 +69,5 @@ examples =
     ∷ []
 
 pub all-known : map given examples ≡ map expected examples
-unfolding digested isBlank past keep trimmed stands findIn partOf ruling tokens ofMark numericError promptFrom customPrompt noticeAt
+unfolding digest placed trimmedPart isBlank past keep trimmed stands findIn partOf ruling tokens ofMark numericError promptFrom customPrompt noticeAt
 all-known = refl

@@ -3,7 +3,7 @@
 use mathlib.Core.Path.{_≡_}
 use mathlib.Core.Logic.{_⊎_}
 use mathlib.Core.Bool.{Bool, true, false}
-use mathlib.Core.List.{List, [], _∷_}
+use mathlib.Core.List.{List, [], _∷_, _++_}
 use Prim.Native.Nat.{ℕ, _+_, _-_, _≤_, _<_}
 use lib.ListN.{length, getD, take, drop}
 use Rattle.text.specs.Bytes.{bytes}
@@ -15,6 +15,7 @@ use Rattle.lines.specs.Lines.{crlf, fixedText}
 use Rattle.parser.specs.Parser.{lineEnding, isDigit, value, wrapped, breaksOff}
 use Rattle.lines.specs.declared.Fixed.{Fixed}
 use Rattle.lines.specs.declared.Fixed.the-variants as fixed
+use Rattle.items.specs.Rules.{successLines, heads, errorLines}
 
 -- something in the list has the property
 abbrev pub Some : {A : Type 0} → (A → Type 0) → List A → Type 0
@@ -37,7 +38,7 @@ pub data LineStart (s : List ℕ) (p : ℕ) : Type 0 where
 
 -- What ends a notice whose text ends at k: either CRLF, or `:` and everything through the next CRLF, at q.
 pub data NoticeEnd (u : List ℕ) (k n : ℕ) : Type 0 where
-  bare : stands crlf u k ≡ true → n ≡ k + 2 → NoticeEnd u k n
+  crlfEnd : stands crlf u k ≡ true → n ≡ k + 2 → NoticeEnd u k n
   colon : stands (bytes ":") u k ≡ true → (q : ℕ) → k + 1 ≤ q → stands crlf u q ≡ true → Nowhere crlf u (k + 1) q → n ≡ q + 2 → NoticeEnd u k n
 
 -- A notice of rule 2, ended, n bytes long: CRLF or one LF, the text, and what ends it.
@@ -74,12 +75,9 @@ pub record EndsIn (x u : List ℕ) : Type 0 where
   pub here : stands x u q ≡ true
   pub after : All (isBlank blanks.Run) u (q + length x) (length u)
 
--- the nine fixed lines of rules 3 and 5, and the heads of the numeric errors
+-- the nine fixed lines of rules 3 and 5
 abbrev pub nine : List Fixed
-nine = fixed.Ok ∷ fixed.Connect ∷ fixed.Error ∷ fixed.CommandNotSupport ∷ fixed.NoCarrier ∷ fixed.Busy ∷ fixed.NoAnswer ∷ fixed.NoDialtone ∷ fixed.Na ∷ []
-
-abbrev pub heads : List Fixed
-heads = fixed.Cme ∷ fixed.Cms ∷ fixed.Modem ∷ []
+nine = successLines ++ (errorLines ++ (fixed.Na ∷ []))
 
 -- u begins with the line t, n bytes long
 abbrev pub Line : List ℕ → List ℕ → ℕ → Type 0

@@ -8,7 +8,7 @@ use Rattle.outcome.specs.Outcome.{Outcome, answered, refused}
 use Rattle.table.specs.Table.{Token, tokens}
 use Rattle.answers.specs.declared.Answer.{Answer}
 use Rattle.answers.specs.Answer.{isFound}
-use Rattle.digest.specs.Digest.{skipped}
+use Rattle.items.specs.Rules.{skipped}
 use Rattle.digest.specs.Finished.{Holds, NothingFinished}
 
 -- The item that was found: it stands at the line start p and ends exactly at the consumed count, and the payload lies before its end.

@@ -1,11 +1,13 @@
 pub mod Digest
 pub mod Finished
 pub mod Heard
-pub mod Examples
-pub mod Laws
 pub mod Step
 pub mod Position
-pub mod Hints
-pub mod Levels
+pub mod Items
+pub mod Starts
+pub mod Sound
+pub mod Silent
 pub mod Theorem
+pub mod Calls
 pub mod Retry
+pub mod Examples

@@ -1,27 +1,25 @@
 -- What stands at a place, by position: each form of `Finished` is what the parser's definition computes, both ways.
--- Rests on the parser's definitions not seeing what stands before the place (`..-moved`), so that it is enough to look at place 0.
+-- It is enough to look at place 0, since the parser's definitions don't see what stands before the place (parser's `Moved`).
 use mathlib.Core.Path.{_≡_, refl, sym, ap, _∙_}
-use mathlib.Core.Logic.{⊎-elim}
 use mathlib.Core.Bool.{Bool, true, false, _&&_}
 use mathlib.Core.List.{List, [], _∷_, _++_}
 use Prim.Native.Nat.{ℕ, zero, suc, _+_, _*_, _-_, _≤_, _<_}
-use native.Mathlib.Nat.{add-zero}
 use native.Mathlib.Omega.{arith}
 use lib.ListN.{length, getD, take, drop, length-append, length-drop}
-use lib.Seq.{drop-drop}
 use lib.Dec.{leb, ltb}
-use borrow.Author.Tests.{le-leb, leb-true, ltb-true, lt-ltb, le-ltb, ne-eqb}
+use borrow.Author.Tests.{le-leb, leb-true, ltb-true, lt-ltb, ne-eqb}
 use Rattle.text.specs.Bytes.{bytes}
-use Rattle.text.specs.Logic.{false-true, not-true-false, and-both, order, leb-shift}
-use Rattle.text.specs.Text.{among, blanks, isBlank, lead, leadAfter, past, keep, stands, findIn}
-use Rattle.text.specs.Laws.{found-at, find-is, find-drop, moved, stands-drop, stands-append, stands-fits, stands-byte, stands-getD, begins-fits, past-passes, past-is, past-drop, past-bounds, keep-passes, keep-is}
+use Rattle.text.specs.Logic.{false-true, not-true-false, and-both}
+use Rattle.text.specs.Text.{among, blanks, isBlank, lead, past, keep, stands, findIn}
+use Rattle.text.specs.Laws.{found-at, find-is, stands-append, stands-fits, stands-byte, stands-getD, begins-fits, past-passes, past-is, past-bounds, keep-passes, keep-is}
 use Rattle.text.specs.declared.Blanks.the-variants as blanks
 use Rattle.text.specs.declared.Found.{Found}
 use Rattle.text.specs.declared.Found.the-variants.{At, Nothing}
 use Rattle.table.specs.Table.{isText}
 use Rattle.table.specs.Laws.{text-some, text-end}
 use Rattle.lines.specs.Lines.{crlf}
-use Rattle.parser.specs.Parser.{onlyBlanks, promptFrom, customPrompt, isDigit, valueAfter, value, atMost, digitsAt, ifEnded, endedRun, tailAt, ifHead, numericAt, lineEnding, pick, breaksOff, through, ifColon, ifBare, unlessBroken, noticeText, afterEnding, noticeAt}
+use Rattle.outcome.specs.Outcome.{if_then_else_}
+use Rattle.parser.specs.Parser.{onlyBlanks, promptFrom, customPrompt, isDigit, value, digitsAt, endedRun, tailAt, numericAt, lineEnding, breaksOff, through, noticeText, noticeAt}
 use Rattle.parser.specs.Laws.{text-broken, text-bare, text-through, notice-none, notice-is, digit-bounds, ending-fits}
 use Rattle.parser.specs.declared.Digits.{Digits}
 use Rattle.parser.specs.declared.Run.{Run}
@@ -30,60 +28,7 @@ use Rattle.parser.specs.declared.Numeric.{Numeric}
 use Rattle.parser.specs.declared.Numeric.the-variants as numeric
 use Rattle.parser.specs.declared.Notice.{Notice}
 use Rattle.parser.specs.declared.Notice.the-variants as notice
-use Rattle.digest.specs.Finished.{NoticeEnd, bare, colon, NoticeEnded, Unfinished, NumericEnded, FirstAlone, EndsIn}
-
--- what stands before a place isn't seen
-pub ending-moved : (s : List ℕ) (d p : ℕ) → lineEnding (drop d s) p ≡ lineEnding s (d + p)
-unfolding lineEnding
-ending-moved s d p = rw (stands-drop (bytes "\n") s d p, stands-drop crlf s d p)
-
-broken-moved : (x s : List ℕ) (d k : ℕ) → breaksOff x (drop d s) k ≡ breaksOff x s (d + k)
-unfolding breaksOff
-broken-moved x s d k = rw drop-drop
-
-unfoldable pub shiftNotice : ℕ → Notice → Notice
-shiftNotice d (notice.Ended n) = notice.Ended (d + n)
-shiftNotice d notice.Unfinished = notice.Unfinished
-shiftNotice d notice.Nothing = notice.Nothing
-
-through-moved : (d : ℕ) (r : Found) → through (moved d r) ≡ shiftNotice d (through r)
-unfolding through moved shiftNotice
-through-moved d (At q) = let e : d + q + 2 ≡ d + (q + 2) = omega arith in ap notice.Ended e
-through-moved d Nothing = refl
-
-colon-moved : (d : ℕ) (b : Bool) (r : Notice) → ifColon b (shiftNotice d r) ≡ shiftNotice d (ifColon b r)
-unfolding ifColon shiftNotice
-colon-moved d true r = refl
-colon-moved d false r = refl
-
-bare-moved : (d : ℕ) (b : Bool) (n : ℕ) (r : Notice) → ifBare b (d + n) (shiftNotice d r) ≡ shiftNotice d (ifBare b n r)
-unfolding ifBare shiftNotice
-bare-moved d true n r = refl
-bare-moved d false n r = refl
-
-unbroken-moved : (d : ℕ) (b : Bool) (r : Notice) → unlessBroken b (shiftNotice d r) ≡ shiftNotice d (unlessBroken b r)
-unfolding unlessBroken shiftNotice
-unbroken-moved d true r = refl
-unbroken-moved d false r = refl
-
-text-moved : (x s : List ℕ) (d k : ℕ) → noticeText x s (d + k) ≡ shiftNotice d (noticeText x (drop d s) k)
-unfolding noticeText
-text-moved x s d k =
-    let a : d + k + length x + 2 ≡ d + (k + length x + 2) = omega arith in
-    let b : d + k + length x + 1 ≡ d + (k + length x + 1) = omega arith in
-    let f : findIn crlf s (d + k + length x + 1) ≡ moved d (findIn crlf (drop d s) (k + length x + 1)) = ap (findIn crlf s) b ∙ find-drop crlf s d (k + length x + 1) in
-    rw (a, f, ← broken-moved x s d k, ← stands-drop (x ++ crlf) s d k, ← stands-drop (x ++ bytes ":") s d k, through-moved, colon-moved, bare-moved, unbroken-moved)
-
-after-moved : (n : ℕ) (x s : List ℕ) (d : ℕ) → afterEnding n x s d ≡ shiftNotice d (afterEnding n x (drop d s) 0)
-unfolding afterEnding
-after-moved zero x s d = unfold shiftNotice in refl
-after-moved (suc n) x s d = let e : d + suc n ≡ d + (0 + suc n) = omega arith in ap (noticeText x s) e ∙ text-moved x s d (0 + suc n)
-
-pub notice-moved : (x s : List ℕ) (d : ℕ) → noticeAt x s d ≡ shiftNotice d (noticeAt x (drop d s) 0)
-unfolding noticeAt
-notice-moved x s d =
-    let e : lineEnding s d ≡ lineEnding (drop d s) 0 = ap (lineEnding s) (sym (add-zero d)) ∙ sym (ending-moved s d 0) in
-    ap (λ (n : ℕ). afterEnding n x s d) e ∙ after-moved (lineEnding (drop d s) 0) x s d
+use Rattle.digest.specs.Finished.{NoticeEnd, crlfEnd, colon, NoticeEnded, Unfinished, NumericEnded, FirstAlone, EndsIn}
 
 -- a notice
 broken-long : (x u : List ℕ) (k : ℕ) → breaksOff x u k ≡ true → length u ≤ k + length x + 1
@@ -98,7 +43,7 @@ module _ (x u : List ℕ) where
   not-broken k h = not-true-false (breaksOff x u k) (λ e. omega (arith, broken-long x u k e))
 
   end-is : (k n : ℕ) → stands x u k ≡ true → NoticeEnd u (k + length x) n → noticeText x u k ≡ notice.Ended n
-  end-is k n h (bare c e) =
+  end-is k n h (crlfEnd c e) =
       let f = stands-fits crlf u (k + length x) (omega arith) c in
       sym (text-bare x u k (not-broken k (omega arith)) h c) ∙ ap notice.Ended (sym e)
   end-is k n h (colon c q g w z e) =
@@ -127,15 +72,13 @@ module _ (x u : List ℕ) where
         record { opened = h; text = a; ended = colon c q (w .after) (w .here) (w .first) refl }
     told-colon a c Nothing e = tt
 
-    told-behind : (a b c : Bool) → stands x u (lineEnding u 0) ≡ a → stands crlf u (lineEnding u 0 + length x) ≡ b → stands (bytes ":") u (lineEnding u 0 + length x) ≡ c → Told (ifBare (a && b) (lineEnding u 0 + length x + 2) (ifColon (a && c) (through (findIn crlf u (lineEnding u 0 + length x + 1)))))
-    unfolding ifBare ifColon
-    told-behind true true c e f g = record { opened = h; text = e; ended = bare f refl }
+    told-behind : (a b c : Bool) → stands x u (lineEnding u 0) ≡ a → stands crlf u (lineEnding u 0 + length x) ≡ b → stands (bytes ":") u (lineEnding u 0 + length x) ≡ c → Told (if a && b then notice.Ended (lineEnding u 0 + length x + 2) else if a && c then through (findIn crlf u (lineEnding u 0 + length x + 1)) else notice.Nothing)
+    told-behind true true c e f g = record { opened = h; text = e; ended = crlfEnd f refl }
     told-behind true false true e f g = told-colon e g (findIn crlf u (lineEnding u 0 + length x + 1)) refl
     told-behind true false false e f g = tt
     told-behind false b c e f g = tt
 
-    told-text : (b : Bool) → breaksOff x u (lineEnding u 0) ≡ b → Told (unlessBroken b (ifBare (stands (x ++ crlf) u (lineEnding u 0)) (lineEnding u 0 + length x + 2) (ifColon (stands (x ++ bytes ":") u (lineEnding u 0)) (through (findIn crlf u (lineEnding u 0 + length x + 1))))))
-    unfolding unlessBroken
+    told-text : (b : Bool) → breaksOff x u (lineEnding u 0) ≡ b → Told (if b then notice.Unfinished else if stands (x ++ crlf) u (lineEnding u 0) then notice.Ended (lineEnding u 0 + length x + 2) else if stands (x ++ bytes ":") u (lineEnding u 0) then through (findIn crlf u (lineEnding u 0 + length x + 1)) else notice.Nothing)
     told-text true e = record { opened = h; broken = e }
     told-text false e =
         rw (stands-append x crlf u (lineEnding u 0), stands-append x (bytes ":") u (lineEnding u 0))
@@ -178,19 +121,6 @@ module _ (c : ℕ) (u : List ℕ) where
           record { q = q; here = w .here; first = w .first; after = λ j a b. past-passes (isBlank blanks.Run) u (q + 1) j a (omega arith) }
       go Nothing e k = absurd (false-true k (unfold onlyBlanks in refl))
 
-prompt-found : (s : List ℕ) (d : ℕ) (r : Found) → d ≤ length s → onlyBlanks s (moved d r) ≡ onlyBlanks (drop d s) r
-unfolding onlyBlanks moved
-prompt-found s d (At q) h =
-    let e : d + q + 1 ≡ d + (q + 1) = omega arith in
-    rw (e, past-drop (isBlank blanks.Run) s d (q + 1), length-drop d s) (leb-shift (length s) d (past (isBlank blanks.Run) (drop d s) (q + 1)) h)
-prompt-found s d Nothing h = refl
-
-pub prompt-moved : (c : ℕ) (s : List ℕ) (d : ℕ) → d ≤ length s → promptFrom c s d ≡ promptFrom c (drop d s) 0
-unfolding promptFrom
-prompt-moved c s d h =
-    let f : findIn (c ∷ []) s d ≡ moved d (findIn (c ∷ []) (drop d s) 0) = ap (findIn (c ∷ []) s) (sym (add-zero d)) ∙ find-drop (c ∷ []) s d 0 in
-    ap (onlyBlanks s) f ∙ prompt-found s d (findIn (c ∷ []) (drop d s) 0) h
-
 -- custom prompts; a good text doesn't end in a blank
 module _ (x u : List ℕ) where
   pub ends-told : customPrompt x u 0 ≡ true → EndsIn x u
@@ -216,75 +146,9 @@ module _ (x u : List ℕ) where
       let k : 0 + (w .q + length x - length x) ≡ w .q = omega arith in
       rw (e, k, w .here, le-leb (length x) (w .q + length x) (omega arith))
 
-pub custom-moved : (x s : List ℕ) (d : ℕ) → customPrompt x s d ≡ customPrompt x (drop d s) 0
-unfolding customPrompt
-custom-moved x s d =
-    let n = keep (isBlank blanks.Run) (drop d s) in
-    ap (λ (b : Bool). leb (length x) n && b)
-    (sym (stands-drop x s d (n - length x)) ∙ let e : n - length x ≡ 0 + (n - length x) = omega arith in ap (stands x (drop d s)) e)
-
--- numeric errors
-unfoldable pub shiftNumeric : ℕ → Numeric → Numeric
-shiftNumeric d (numeric.Is x) = numeric.Is (record { code = x .code; start = d + x .start; stop = d + x .stop; end = d + x .end })
-shiftNumeric d numeric.Nothing = numeric.Nothing
-
-unfoldable shiftRun : ℕ → Run → Run
-shiftRun d (Value v b) = Value v (d + b)
-shiftRun d TooLarge = TooLarge
-
-ltb-shift : (d a b : ℕ) → ltb (d + a) (d + b) ≡ ltb a b
-ltb-shift d a b =
-    ⊎-elim
-    (λ (q : a < b). lt-ltb (d + a) (d + b) (omega arith) ∙ sym (lt-ltb a b q))
-    (λ (q : b ≤ a). le-ltb (d + a) (d + b) (omega arith) ∙ sym (le-ltb a b q))
-    (order a b)
-
-ended-moved : (d : ℕ) (c : Bool) (x y : Digits) → x ≡ record { code = y .code; start = d + y .start; stop = d + y .stop; end = d + y .end } → ifEnded c x ≡ shiftNumeric d (ifEnded c y)
-unfolding ifEnded shiftNumeric
-ended-moved d true x y e = ap numeric.Is e
-ended-moved d false x y e = refl
-
-run-moved : (s : List ℕ) (d a : ℕ) (r : Run) → endedRun s (d + a) (shiftRun d r) ≡ shiftNumeric d (endedRun (drop d s) a r)
-unfolding endedRun shiftRun
-run-moved s d a (Value v b) =
-    let n = lineEnding (drop d s) b in
-    let e : d + b + n ≡ d + (b + n) = omega arith in
-    rw (sym (ending-moved s d b), ltb-shift d a b)
-    (ended-moved d (ltb a b && ltb 0 n) (record { code = v; start = d + a; stop = d + b; end = d + b + n }) (record { code = v; start = a; stop = b; end = b + n }) (λ i. record { code = v; start = d + a; stop = d + b; end = e i }))
-run-moved s d a TooLarge = unfold shiftNumeric in refl
-
-most-moved : (d : ℕ) (c : Bool) (v b : ℕ) → atMost c v (d + b) ≡ shiftRun d (atMost c v b)
-unfolding atMost shiftRun
-most-moved d true v b = refl
-most-moved d false v b = refl
-
-digits-moved : (s : List ℕ) (d a : ℕ) → digitsAt s (d + a) ≡ shiftRun d (digitsAt (drop d s) a)
-unfolding digitsAt
-digits-moved s d a = rw (drop-drop a d s, past-drop isDigit s d a) (most-moved d (leb (value 0 (drop (d + a) s)) 65535) (value 0 (drop (d + a) s)) (past isDigit (drop d s) a))
-
-tail-moved : (s : List ℕ) (d p : ℕ) → tailAt s (d + p) ≡ shiftNumeric d (tailAt (drop d s) p)
-unfolding tailAt
-tail-moved s d p =
-    let a = past (isBlank blanks.Run) (drop d s) p in
-    rw (past-drop (isBlank blanks.Run) s d p, digits-moved s d a) (run-moved s d a (digitsAt (drop d s) a))
-
-head-moved : (d : ℕ) (b : Bool) (r : Numeric) → ifHead b (shiftNumeric d r) ≡ shiftNumeric d (ifHead b r)
-unfolding ifHead shiftNumeric
-head-moved d true r = refl
-head-moved d false r = refl
-
-pub numeric-moved-on : (h s : List ℕ) (d p : ℕ) → numericAt h s (d + p) ≡ shiftNumeric d (numericAt h (drop d s) p)
-unfolding numericAt
-numeric-moved-on h s d p =
-    let e : d + p + length h ≡ d + (p + length h) = omega arith in
-    rw (e, tail-moved s d (p + length h), ← stands-drop h s d p) (head-moved d (stands h (drop d s) p) (tailAt (drop d s) (p + length h)))
-
-pub numeric-moved : (h s : List ℕ) (d : ℕ) → numericAt h s d ≡ shiftNumeric d (numericAt h (drop d s) 0)
-numeric-moved h s d = ap (numericAt h s) (sym (add-zero d)) ∙ numeric-moved-on h s d 0
-
--- the value of a run is that of its digits alone
-value-run-after : (b : Bool) (c x : ℕ) (l : List ℕ) → isDigit x ≡ b → value (c * 10 + (x - 48)) l ≡ value (c * 10 + (x - 48)) (take (lead isDigit l) l) → valueAfter b c (value (c * 10 + (x - 48)) l) ≡ value c (take (leadAfter b (lead isDigit l)) (x ∷ l))
-unfolding valueAfter leadAfter value
+-- numeric errors: the value of a run is that of its digits alone
+value-run-after : (b : Bool) (c x : ℕ) (l : List ℕ) → isDigit x ≡ b → value (c * 10 + (x - 48)) l ≡ value (c * 10 + (x - 48)) (take (lead isDigit l) l) → (if b then value (c * 10 + (x - 48)) l else c) ≡ value c (take (if b then suc (lead isDigit l) else zero) (x ∷ l))
+unfolding value
 value-run-after true c x l e h = rw e h
 value-run-after false c x l e h = refl
 
@@ -304,10 +168,10 @@ ending-byte : (u : List ℕ) (b : ℕ) → 0 < lineEnding u b → isDigit (getD 
 unfolding lineEnding
 ending-byte u b h = go (stands (bytes "\n") u b) refl (stands crlf u b) refl h
   where
-    go : (x : Bool) → stands (bytes "\n") u b ≡ x → (y : Bool) → stands crlf u b ≡ y → 0 < pick x 1 (pick y 2 0) → isDigit (getD u b 0) ≡ false
+    go : (x : Bool) → stands (bytes "\n") u b ≡ x → (y : Bool) → stands crlf u b ≡ y → 0 < (if x then 1 else if y then 2 else 0) → isDigit (getD u b 0) ≡ false
     go true e y f l = unfold isDigit in rw (stands-byte 10 [] u b e .1 .0)
     go false e true f l = unfold isDigit in rw (stands-byte 13 (10 ∷ []) u b f .1 .0)
-    go false e false f l = absurd (unfold pick in omega arith)
+    go false e false f l = absurd (omega arith)
 
 digit-blank : (b : ℕ) → isDigit b ≡ true → isBlank blanks.Run b ≡ false
 unfolding isBlank among blanks
@@ -317,7 +181,7 @@ digit-blank b e =
 
 module _ (h u : List ℕ) where
   pub numeric-is : (n : ℕ) (w : NumericEnded h u n) → numericAt h u 0 ≡ numeric.Is (record { code = value 0 (drop (w .a) u); start = w .a; stop = w .b; end = n })
-  unfolding numericAt ifHead tailAt endedRun digitsAt atMost ifEnded
+  unfolding numericAt tailAt endedRun digitsAt
   numeric-is n w =
       let f = ending-fits u (w .b) (w .ended .0) in
       let g : 0 + length h ≡ length h = omega arith in
@@ -331,13 +195,12 @@ module _ (h u : List ℕ) where
   ToldNumeric (numeric.Is d) = NumericEnded h u (d .end)
   ToldNumeric numeric.Nothing = Unit {0}
 
-  told-run : (a : ℕ) → stands h u 0 ≡ true → a ≡ past (isBlank blanks.Run) u (0 + length h) → (c : Bool) → leb (value 0 (drop a u)) 65535 ≡ c → ToldNumeric (endedRun u a (atMost c (value 0 (drop a u)) (past isDigit u a)))
-  unfolding atMost endedRun
+  told-run : (a : ℕ) → stands h u 0 ≡ true → a ≡ past (isBlank blanks.Run) u (0 + length h) → (c : Bool) → leb (value 0 (drop a u)) 65535 ≡ c → ToldNumeric (endedRun u a (if c then Value (value 0 (drop a u)) (past isDigit u a) else TooLarge))
+  unfolding endedRun
   told-run a e f true g = go (ltb a (past isDigit u a)) refl (ltb 0 (lineEnding u (past isDigit u a))) refl
     where
-      go : (x : Bool) → ltb a (past isDigit u a) ≡ x → (y : Bool) → ltb 0 (lineEnding u (past isDigit u a)) ≡ y → ToldNumeric (ifEnded (x && y) (record { code = value 0 (drop a u); start = a; stop = past isDigit u a; end = past isDigit u a + lineEnding u (past isDigit u a) }))
+      go : (x : Bool) → ltb a (past isDigit u a) ≡ x → (y : Bool) → ltb 0 (lineEnding u (past isDigit u a)) ≡ y → ToldNumeric (if x && y then numeric.Is (record { code = value 0 (drop a u); start = a; stop = past isDigit u a; end = past isDigit u a + lineEnding u (past isDigit u a) }) else numeric.Nothing)
       go true k true l =
-          unfold ifEnded in
           record {
             a = a;
             b = past isDigit u a;
@@ -347,12 +210,12 @@ module _ (h u : List ℕ) where
             small = rw (sym (value-part u a (past isDigit u a) refl)) (leb-true (value 0 (drop a u)) 65535 g);
             ended = (ltb-true 0 (lineEnding u (past isDigit u a)) l, refl);
           }
-      go true k false l = unfold ifEnded in tt
-      go false k y l = unfold ifEnded in tt
+      go true k false l = tt
+      go false k y l = tt
   told-run a e f false g = tt
 
-  told-head : (b : Bool) → stands h u 0 ≡ b → ToldNumeric (ifHead b (tailAt u (0 + length h)))
-  unfolding ifHead tailAt digitsAt
+  told-head : (b : Bool) → stands h u 0 ≡ b → ToldNumeric (if b then tailAt u (0 + length h) else numeric.Nothing)
+  unfolding tailAt digitsAt
   told-head true e = let a = past (isBlank blanks.Run) u (0 + length h) in told-run a e refl (leb (value 0 (drop a u)) 65535) refl
   told-head false e = tt
 

@@ -18,9 +18,12 @@ use Rattle.table.specs.Table.{Token}
 use Rattle.table.specs.Laws.{Texts}
 use Rattle.lines.specs.Lines.{crlf}
 use Rattle.answers.specs.Answer.{isFound, nothing}
-use Rattle.digest.specs.Digest.{skipped, digest}
+use Rattle.items.specs.Rules.{skipped}
+use Rattle.digest.specs.Digest.{digestIn}
 use Rattle.digest.specs.Finished.{LineStart, atCrlf, onlyOne}
-use Rattle.digest.specs.Theorem.{stands-here, first-crlf, only-skip, complete, sound, none-is}
+use Rattle.digest.specs.Items.{stands-here}
+use Rattle.digest.specs.Starts.{first-crlf, only-skip}
+use Rattle.digest.specs.Theorem.{complete, sound, none-is}
 
 -- rule 1 on what it left: nothing more is skipped
 module _ (s : List ℕ) where
@@ -71,10 +74,10 @@ module _ (s : List ℕ) where
       go Nothing q = skipped-bare (λ j. found-none crlf (drop (skipped s) s) 0 q j (omega arith))
 
 -- After None with e, the rest gives None with 0.
-pub none-rest : (ts : List Token) → Texts ts → (s : List ℕ) → isFound (digest ts s) ≡ false → digest ts (drop (skipped s) s) ≡ nothing 0
+pub none-rest : (ts : List Token) → Texts ts → (s : List ℕ) → isFound (digestIn ts s) ≡ false → digestIn ts (drop (skipped s) s) ≡ nothing 0
 none-rest ts good s h =
     let v = drop (skipped s) s in
-    none-is ts good v (not-true-false (isFound (digest ts v)) (λ f.
+    none-is ts good v (not-true-false (isFound (digestIn ts v)) (λ f.
     let w = sound ts good v f in
     let i : drop (w .p) v ≡ drop (skipped s + w .p) s = drop-drop (w .p) (skipped s) s in
     false-true

@@ -11,8 +11,8 @@ use Rattle.slot.specs.declared.Slot.{Slot}
 use Rattle.queue.specs.Queue.{Got, got, empty}
 use Rattle.queue.specs.Queue as queues
 use Rattle.ingress.specs.Ingress.{Result}
-use Rattle.ingress.specs.declared.State.{State}
-use Rattle.numbers.specs.Numbers.{heldNumber, stateNumbers, withSlot, withQueue, laid}
+use Rattle.turn.specs.declared.State.{State}
+use Rattle.numbers.specs.Numbers.{heldNumber, withSlot, withQueue, withState, laid}
 
 -- what is returned: the refusal's number, 0 where the call isn't refused
 abbrev pub numberOf : {A : Type 0} → Outcome A → ℕ
@@ -35,7 +35,7 @@ call n o = record { number = n; out = o }
 abbrev pub said : {A : Type 0} → (A → List ℕ) → Outcome A → List ℕ → Call
 said f o out = call (numberOf o) (laid (valuesOf f o) out)
 
--- a good table's answer: how many records it has
+-- an answer that is a count: a good table's records, the bytes that a write took
 abbrev pub countValues : ℕ → List ℕ
 countValues n = n ∷ []
 
@@ -105,8 +105,8 @@ whole n v o b m q = record { number = n; state = v; out = o; buf = b; slotMemory
 
 -- Refused 1 to 4 the nine numbers are as they stood; else they are those of the state that is left.
 abbrev pub numbersLeft : {A : Type 0} → Outcome A → List ℕ → State → List ℕ
-numbersLeft (answered x) v s = stateNumbers s
-numbersLeft (refused n w) v s = if eqb n 5 then stateNumbers s else v
+numbersLeft (answered x) v s = withState v s
+numbersLeft (refused n w) v s = if eqb n 5 then withState v s else v
 
 abbrev pub wholeSaid : {A : Type 0} → (A → List ℕ) → Result A → List ℕ → List ℕ → Whole
 wholeSaid f r v o = whole (numberOf (r .said)) (numbersLeft (r .said) v (r .left .state)) (laid (valuesOf f (r .said)) o) (r .left .buf) (r .left .slotMemory) (r .left .queueMemory)

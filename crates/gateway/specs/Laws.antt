@@ -1,23 +1,26 @@
 -- The ways out of the exports, each with what led there.
 use mathlib.Core.Path.{_≡_, refl, sym, ap, _∙_}
-use mathlib.Core.Bool.{Bool, true, false}
+use mathlib.Core.Bool.{true}
 use mathlib.Core.List.{List, [], _∷_}
 use Prim.Native.Nat.{ℕ, _+_}
 use lib.ListN.{length}
 use lib.Dec.{leb}
-use Rattle.text.specs.Text.{partOf, partAt, orFront}
+use Rattle.text.specs.Text.{partOf, partAt}
 use Rattle.outcome.specs.Outcome.{Outcome}
+use Rattle.outcome.specs.Laws.{ways}
 use Rattle.answers.specs.declared.Answer.{Answer}
 use Rattle.slot.specs.Slot as slots
 use Rattle.slot.specs.declared.Slot.{Slot}
 use Rattle.slot.specs.declared.Turned.{Turned}
+use Rattle.slot.specs.declared.Reset.{Reset}
 use Rattle.queue.specs.Queue.{Got, ours, putInto}
 use Rattle.queue.specs.Queue as queues
 use Rattle.queue.specs.declared.Queue.{Queue}
 use Rattle.queue.specs.declared.Put.{Put}
 use Rattle.queue.specs.declared.Taken.{Taken}
-use Rattle.ingress.specs.Ingress.{Result, world, advanced, result, written, taking}
-use Rattle.ingress.specs.declared.State.{State}
+use Rattle.turn.specs.Turn.{world, choice}
+use Rattle.ingress.specs.Ingress.{Result, advanced, result, written, taking}
+use Rattle.turn.specs.declared.State.{State}
 use Rattle.ingress.specs.declared.Advanced.{Advanced}
 use Rattle.ingress.specs.declared.Written.{Written}
 use Rattle.numbers.specs.Numbers.{heldNumber, answerOf, slotOf, queueOf, stateOf, withSlot, withQueue, laid}
@@ -35,16 +38,11 @@ part-is s o place len p e a g q h = h ∙ (λ i. laid (g i ∷ length (e i) ∷ 
 pub look-is : (o : List ℕ) (x : Slot) (h : ℕ) → h ≡ heldNumber (x .held) → (q : List ℕ) → q ≡ laid (1 ∷ h ∷ x .number ∷ x .len ∷ []) o → q ≡ laid (readValues (record { there = true; slot = x })) o
 look-is o x h e q f = f ∙ ap (λ (n : ℕ). laid (1 ∷ n ∷ x .number ∷ x .len ∷ []) o) e
 
-front-at : (b : Bool) → 0 ≡ orFront b 0
-unfolding orFront
-front-at true = refl
-front-at false = refl
-
 pub slot-part : (v m o : List ℕ) (s : Slot) → s ≡ slotOf v → (p : List ℕ) → p ≡ partOf m 0 (s .len) → (q : List ℕ) → q ≡ laid (0 ∷ length p ∷ []) o → q ≡ laid (partValues m 0 (slotOf v .len)) o
 unfolding partAt
 slot-part v m o s es p e q f =
     f
-    ∙ (λ i. laid (front-at (leb (0 + s .len) (length m)) i ∷ length (e i) ∷ []) o)
+    ∙ (λ i. laid (ways (λ n. 0 ≡ n) (leb (0 + s .len) (length m)) (λ w. refl) (λ w. refl) i ∷ length (e i) ∷ []) o)
     ∙ ap (λ (y : Slot). laid (partValues m 0 (y .len)) o) es
 
 -- a signal: the slot s read from the numbers v, the answer a from the array w, the call's outcome r with the memory k that it left
@@ -54,10 +52,10 @@ signal-is v w p m s es a ea r k e x q u f =
     ∙ ap (λ (y : Turned). signalSaid (slots.after (slots.outcome y) k) v) (sym q)
     ∙ ap (λ (z : slots.After). signalSaid z v) (e ∙ (λ i. slots.signalled (es i) (ea i) p m))
 
-pub reset-is : (v m : List ℕ) (s : Slot) → s ≡ slotOf v → (r : Turned) → slots.outcome r ≡ slots.wasReset s m → (x : Turned) → r ≡ x → (u : List ℕ) → u ≡ numbersBy withSlot (slots.outcome x) v → call (numberOf (slots.outcome x)) u ≡ resetSaid (slots.wasReset (slotOf v) m) v
+pub reset-is : (v m : List ℕ) (s : Slot) → s ≡ slotOf v → (r : Reset) → slots.resetting r ≡ slots.wasReset s m → (x : Reset) → r ≡ x → (u : List ℕ) → u ≡ numbersBy withSlot (slots.resetting x) v → call (numberOf (slots.resetting x)) u ≡ resetSaid (slots.wasReset (slotOf v) m) v
 reset-is v m s es r e x q u f =
-    ap (call (numberOf (slots.outcome x))) f
-    ∙ ap (λ (y : Turned). resetSaid (slots.outcome y) v) (sym q)
+    ap (call (numberOf (slots.resetting x))) f
+    ∙ ap (λ (y : Reset). resetSaid (slots.resetting y) v) (sym q)
     ∙ ap (λ (z : Outcome Slot). resetSaid z v) (e ∙ ap (λ (y : Slot). slots.wasReset y m) es)
 
 -- a put: likewise
@@ -75,17 +73,17 @@ take-is v o m s es r e x q u f k g =
 
 -- an advance or a write: from the state s read from the numbers v, with what it left of the three memories
 module _ (v o : List ℕ) (s : State) (es : s ≡ stateOf v) (t b m n b′ m′ n′ : List ℕ) where
-  pub advance-is : (c : ℕ) (r : Advanced) → result s r b′ m′ n′ ≡ advanced t c (world s b m n) → (x : Advanced) → r ≡ x → (u : List ℕ) → u ≡ numbersLeft (result s x b′ m′ n′ .said) v (result s x b′ m′ n′ .left .state) → (k : List ℕ) → k ≡ laid (valuesOf noValues (result s x b′ m′ n′ .said)) o → whole (numberOf (result s x b′ m′ n′ .said)) u k b′ m′ n′ ≡ wholeSaid noValues (advanced t c (world (stateOf v) b m n)) v o
+  pub advance-is : (c : ℕ) (r : Advanced) → result s r b′ m′ n′ ≡ advanced (choice t) c (world s b m n) → (x : Advanced) → r ≡ x → (u : List ℕ) → u ≡ numbersLeft (result s x b′ m′ n′ .said) v (result s x b′ m′ n′ .left .state) → (k : List ℕ) → k ≡ laid (valuesOf noValues (result s x b′ m′ n′ .said)) o → whole (numberOf (result s x b′ m′ n′ .said)) u k b′ m′ n′ ≡ wholeSaid noValues (advanced (choice t) c (world (stateOf v) b m n)) v o
   advance-is c r e x q u f k g =
       (λ i. whole (numberOf (result s x b′ m′ n′ .said)) (f i) (g i) b′ m′ n′)
       ∙ ap (λ (y : Advanced). wholeSaid noValues (result s y b′ m′ n′) v o) (sym q)
-      ∙ ap (λ (z : Result Unit). wholeSaid noValues z v o) (e ∙ ap (λ (y : State). advanced t c (world y b m n)) es)
+      ∙ ap (λ (z : Result Unit). wholeSaid noValues z v o) (e ∙ ap (λ (y : State). advanced (choice t) c (world y b m n)) es)
 
-  pub write-is : (p : List ℕ) (r : Written) → taking s r b′ m′ n′ ≡ written t p (world s b m n) → (x : Written) → r ≡ x → (u : List ℕ) → u ≡ numbersLeft (taking s x b′ m′ n′ .said) v (taking s x b′ m′ n′ .left .state) → (k : List ℕ) → k ≡ laid (valuesOf countValues (taking s x b′ m′ n′ .said)) o → whole (numberOf (taking s x b′ m′ n′ .said)) u k b′ m′ n′ ≡ wholeSaid countValues (written t p (world (stateOf v) b m n)) v o
+  pub write-is : (p : List ℕ) (r : Written) → taking s r b′ m′ n′ ≡ written (choice t) p (world s b m n) → (x : Written) → r ≡ x → (u : List ℕ) → u ≡ numbersLeft (taking s x b′ m′ n′ .said) v (taking s x b′ m′ n′ .left .state) → (k : List ℕ) → k ≡ laid (valuesOf countValues (taking s x b′ m′ n′ .said)) o → whole (numberOf (taking s x b′ m′ n′ .said)) u k b′ m′ n′ ≡ wholeSaid countValues (written (choice t) p (world (stateOf v) b m n)) v o
   write-is p r e x q u f k g =
       (λ i. whole (numberOf (taking s x b′ m′ n′ .said)) (f i) (g i) b′ m′ n′)
       ∙ ap (λ (y : Written). wholeSaid countValues (taking s y b′ m′ n′) v o) (sym q)
-      ∙ ap (λ (z : Result ℕ). wholeSaid countValues z v o) (e ∙ ap (λ (y : State). written t p (world y b m n)) es)
+      ∙ ap (λ (z : Result ℕ). wholeSaid countValues z v o) (e ∙ ap (λ (y : State). written (choice t) p (world y b m n)) es)
 
 -- Each export's promise determines the number that it returns and all that it leaves.
 pub call-one : (w : Call) (r q : ℕ) (o p : List ℕ) → call r o ≡ w → call q p ≡ w → (r ≡ q) × (o ≡ p)

@@ -4,10 +4,11 @@
 ghost use mathlib.Core.Path.{_≡_};
 ghost use lib.ListN.{getD};
 ghost use Rattle.table.specs.Table.{ruling};
-ghost use Rattle.digest.specs.Digest.{digested};
+ghost use Rattle.digest.specs.Digest.{digest};
 ghost use Rattle.slot.specs.Slot.{newSlot, signalled, wasReset, wasRead};
 ghost use Rattle.queue.specs.Queue.{ours, newQueue, capacityOf, putInto, taken};
-ghost use Rattle.ingress.specs.Ingress.{world, advanced, written, cleared};
+ghost use Rattle.turn.specs.Turn.{world, choice};
+ghost use Rattle.ingress.specs.Ingress.{advanced, written, cleared};
 ghost use Rattle.numbers.specs.Numbers.{answerOf, slotOf, queueOf, stateOf, withEnd, withSlot, withQueue, laid, answerValues};
 ghost use Rattle.gateway.specs.Gateway.{call, said, countValues, partValues, resetSaid, turn, signalSaid, putSaid, readValues, took, takeSaid, whole, wholeSaid, noValues};
 use digest::Digested;
@@ -19,6 +20,7 @@ use queue::Put;
 use queue::Queue;
 use queue::Taken;
 use slot::Looked;
+use slot::Reset;
 use slot::Slot;
 use slot::Turned;
 use table::Checked;
@@ -43,7 +45,7 @@ pub extern "C" fn wx_table_check(table: &[u8], out: &mut [u64; OUT]) -> u32
 // Digests an input under a table. Answers kind, number, payload's place and length, bytes consumed; refusal 2 the faulty record's number.
 #[no_mangle]
 pub extern "C" fn wx_digest(table: &[u8], input: &[u8], out: &mut [u64; OUT]) -> u32
-    ensures { λ r. ⌜ call r (now (out .exit)) ≡ said answerValues (digested (now (table .entry)) (now (input .entry))) (now (out .entry)) ⌝ }
+    ensures { λ r. ⌜ call r (now (out .exit)) ≡ said answerValues (digest (now (table .entry)) (now (input .entry))) (now (out .entry)) ⌝ }
 {
     match digest::digest(table, input) {
         Digested::Is(a) => {
@@ -128,11 +130,11 @@ pub extern "C" fn wx_slot_reset(state: &mut [u64; NUMBERS], mem: &[u8]) -> u32
 {
     let slot = numbers::slot_of(state);
     match slot.reset(mem) {
-        Turned::Is(freed) => {
+        Reset::Is(freed) => {
             numbers::put_slot(state, freed);
             0
         }
-        Turned::BadLength => 3,
+        Reset::BadLength => 3,
     }
 }
 
@@ -219,7 +221,7 @@ pub extern "C" fn wx_ingress_advance(
     queue_mem: &mut [u8],
     out: &mut [u64; OUT],
 ) -> u32
-    ensures { λ r. ⌜ whole r (now (state .exit)) (now (out .exit)) (now (buf .exit)) (now («slot_mem» .exit)) (now («queue_mem» .exit)) ≡ wholeSaid noValues (advanced (now (table .entry)) commit (world (stateOf (now (state .entry))) (now (buf .entry)) (now («slot_mem» .entry)) (now («queue_mem» .entry)))) (now (state .entry)) (now (out .entry)) ⌝ }
+    ensures { λ r. ⌜ whole r (now (state .exit)) (now (out .exit)) (now (buf .exit)) (now («slot_mem» .exit)) (now («queue_mem» .exit)) ≡ wholeSaid noValues (advanced (choice (now (table .entry))) commit (world (stateOf (now (state .entry))) (now (buf .entry)) (now («slot_mem» .entry)) (now («queue_mem» .entry)))) (now (state .entry)) (now (out .entry)) ⌝ }
 {
     match ingress::advance(
         numbers::state_of(state),
@@ -258,7 +260,7 @@ pub extern "C" fn wx_ingress_write(
     queue_mem: &mut [u8],
     out: &mut [u64; OUT],
 ) -> u32
-    ensures { λ r. ⌜ whole r (now (state .exit)) (now (out .exit)) (now (buf .exit)) (now («slot_mem» .exit)) (now («queue_mem» .exit)) ≡ wholeSaid countValues (written (now (table .entry)) (now (piece .entry)) (world (stateOf (now (state .entry))) (now (buf .entry)) (now («slot_mem» .entry)) (now («queue_mem» .entry)))) (now (state .entry)) (now (out .entry)) ⌝ }
+    ensures { λ r. ⌜ whole r (now (state .exit)) (now (out .exit)) (now (buf .exit)) (now («slot_mem» .exit)) (now («queue_mem» .exit)) ≡ wholeSaid countValues (written (choice (now (table .entry))) (now (piece .entry)) (world (stateOf (now (state .entry))) (now (buf .entry)) (now («slot_mem» .entry)) (now («queue_mem» .entry)))) (now (state .entry)) (now (out .entry)) ⌝ }
 {
     match ingress::write(
         numbers::state_of(state),

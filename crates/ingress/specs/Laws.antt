@@ -1,31 +1,26 @@
--- Laws of the ingress. What it needs of the layers below are the laws that they export.
+-- Laws of the ingress for its programs. What it needs of the layers below are the laws that they export.
 use mathlib.Core.Path.{_≡_, refl, sym, ap, _∙_}
 use mathlib.Core.Bool.{Bool, true, false, _&&_, not}
 use mathlib.Core.List.{List, [], _∷_}
-use Prim.Native.Nat.{ℕ, zero, suc, _+_, _-_, _%_, _≤_, _<_, min}
+use Prim.Native.Nat.{ℕ, zero, suc, _+_, _-_, _≤_, _<_, min}
 use native.Mathlib.Omega.{arith}
 use lib.ListN.{length, getD, take, drop, length-drop}
 use lib.Seq.{length-take-le}
 use lib.Dec.{eqb, leb, ltb}
 use borrow.Author.Tests.{le-leb, lt-leb, le-ltb, lt-ltb, leb-true, ltb-false}
-use Rattle.text.specs.Text.{partOf}
-use Rattle.moves.specs.Moves.{put, moved}
-use Rattle.digest.specs.Digest.{digestChecked}
-use Rattle.digest.specs.Theorem.{checked-within}
-use Rattle.answers.specs.declared.Answer.{Answer}
-use Rattle.slot.specs.Slot.{signalled}
-use Rattle.slot.specs.Slot as slots
-use Rattle.slot.specs.declared.Turned.{Turned}
 use Rattle.text.specs.Logic.{and-both}
+use Rattle.moves.specs.Moves.{put}
 use Rattle.outcome.specs.Outcome.{Outcome, answered, refused, if_then_else_}
 use Rattle.outcome.specs.Laws.{ways, same-way}
 use Rattle.table.specs.Table.{ruling}
-use Rattle.queue.specs.Queue.{ours, putInto, capacityOf, inBounds}
-use Rattle.queue.specs.Queue as queues
-use Rattle.queue.specs.declared.Put.{Put}
-use Rattle.ingress.specs.declared.State.{State}
-use Rattle.ingress.specs.declared.Stepped.{Stepped}
-use Rattle.ingress.specs.declared.Stepped.the-variants as steps
+use Rattle.queue.specs.Queue.{ours, capacityOf, inBounds}
+use Rattle.turn.specs.declared.State.{State}
+use Rattle.turn.specs.declared.Stepped.{Stepped}
+use Rattle.turn.specs.declared.Stepped.the-variants as steps
+use Rattle.turn.specs.Turn.{withEnd, isRefused, World, world, withState, Choice, Step, went, stuck, once, stepped}
+use Rattle.turn.specs.Laws.{left-by, once-end, once-less}
+use Rattle.turn.specs.Kept.{Good}
+use Rattle.ingress.specs.declared.Checks.{Checks}
 use Rattle.ingress.specs.declared.Wrote.{Wrote}
 use Rattle.ingress.specs.declared.Wrote.the-variants as writes
 use Rattle.ingress.specs.declared.Written.{Written}
@@ -33,147 +28,75 @@ use Rattle.ingress.specs.declared.Written.the-variants as takes
 use Rattle.ingress.specs.declared.Advanced.{Advanced}
 use Rattle.ingress.specs.declared.Advanced.the-variants as advances
 use Rattle.ingress.specs.declared.Ran.{Ran}
-use Rattle.ingress.specs.declared.Ran.the-variants as runs
-use Rattle.ingress.specs.declared.Delivered.{Delivered}
-use Rattle.ingress.specs.declared.Delivered.the-variants as delivers
 use Rattle.ingress.specs.Story.{Passed}
-use Rattle.ingress.specs.Ingress.{isNotice, Delivery, toQueue, toSlot, deliver, delivery, World, world, Step, went, stuck, onward, answered-by, once, stepped, End, finished, full, thenRun, runBy, run, ran, isSound, Result, done, refusedAt, underTable, checks, unlessRefused, ended, committed, advanced, outcome, stateAfter, result, Writing, wrote, stopped, copied, afterCopy, writeOnce, thenWrite, writeBy, write, writing, answering, written, bytesTaken, stateTaken, taking}
-
--- where a delivery went: x is what the queue or the slot answered, with the memory that it left
-module _ (s : State) (a : Answer) (p m n : List ℕ) where
-  pub to-queue : isNotice (a .kind) ≡ true → (r : Put) (k : List ℕ) → queues.after (queues.outcome r) k ≡ putInto ours (s .queue) (a .number % 256) p n → (x : Put) → r ≡ x → toQueue s m (queues.after (queues.outcome x) k) ≡ deliver s a p m n
-  unfolding deliver
-  to-queue h r k e x q = ap (λ (y : Put). toQueue s m (queues.after (queues.outcome y) k)) (sym q) ∙ ap (toQueue s m) e ∙ rw h
-
-  pub to-slot : isNotice (a .kind) ≡ false → (r : Turned) (k : List ℕ) → slots.after (slots.outcome r) k ≡ signalled (s .slot) a p m → (x : Turned) → r ≡ x → toSlot s n (slots.after (slots.outcome x) k) ≡ deliver s a p m n
-  unfolding deliver
-  to-slot h r k e x q = ap (λ (y : Turned). toSlot s n (slots.after (slots.outcome y) k)) (sym q) ∙ ap (toSlot s n) e ∙ rw h
-
--- the ways out of `step`
-module _ (t : List ℕ) (s : State) (b m n : List ℕ) (a : Answer) (ea : a ≡ digestChecked t (take (s .end) b)) (p : List ℕ) (ep : p ≡ partOf (take (s .end) b) (a .place) (a .len)) (r : Delivered) (k l : List ℕ) (er : delivery s r k l ≡ deliver s a p m n) where
-  at-delivery : onward (world s b m n) a (delivery s r k l) ≡ once t (world s b m n)
-  unfolding once answered-by
-  at-delivery =
-      ap (onward (world s b m n) a) (er ∙ ap (λ (x : List ℕ). deliver s a x m n) ep)
-      ∙ ap (answered-by (world s b m n)) ea
-
-  pub step-full : r ≡ delivers.Waits → stuck (world s b k l) ≡ once t (world s b m n)
-  unfolding onward
-  step-full q = rw q at at-delivery
-
-  pub step-is : (x : State) → r ≡ delivers.Is x → (c : List ℕ) → c ≡ moved b (a .consumed) (s .end) → went (world (record { end = s .end - a .consumed; slot = x .slot; queue = x .queue }) c k l) (a .consumed) ≡ once t (world s b m n)
-  unfolding onward
-  step-is x q c v =
-      (λ i. went (world (record { end = s .end - a .consumed; slot = x .slot; queue = x .queue }) (v i) k l) (a .consumed))
-      ∙ (rw q at at-delivery)
-
--- what is consumed lies in what is held
-pub step-room : (t : List ℕ) (s : State) (b : List ℕ) (a : Answer) → a ≡ digestChecked t (take (s .end) b) → s .end ≤ length b → a .consumed ≤ s .end
-step-room t s b a e h = omega (arith, ap (λ (x : Answer). x .consumed) e, checked-within t (take (s .end) b), length-take-le (s .end) b h)
-
--- a turn that consumed n bytes leaves n fewer
-onward-end : (w : World) (a : Answer) (d : Delivery) (v : World) (n : ℕ) → onward w a d ≡ went v n → v .state .end ≡ w .state .end - n
-unfolding onward
-onward-end w a d v n =
-    ways (λ s. s ≡ went v n → v .state .end ≡ w .state .end - n) (d .waits)
-    (λ q h. let z : _≡_ {A = ℕ} 0 1 = cc in absurd (omega arith))
-    (λ q h. ap end-of (sym h) ∙ ap (λ (k : ℕ). w .state .end - k) (ap bytes-of h))
-  where
-    end-of : Step → ℕ
-    end-of (went x k) = x .state .end
-    end-of (stuck x) = 0
-
-    bytes-of : Step → ℕ
-    bytes-of (went x k) = k
-    bytes-of (stuck x) = 0
-
-pub once-end : (t : List ℕ) (w v : World) (n : ℕ) → once t w ≡ went v n → v .state .end ≡ w .state .end - n
-unfolding once answered-by
-once-end t w v n h =
-    let a = digestChecked t (take (w .state .end) (w .buf)) in
-    let d = deliver (w .state) a (partOf (take (w .state .end) (w .buf)) (a .place) (a .len)) (w .slotMemory) (w .queueMemory) in
-    onward-end w a d v n h
+use Rattle.ingress.specs.Ingress.{Result, done, refusedAt, thenRun, runBy, run, ran, isSound, underTable, checks, refusal, judged, unlessRefused, committed, advanced, advanceSays, result, Writing, wrote, stopped, copied, afterCopy, writeOnce, thenWrite, writeBy, writeOn, writing, answering, written, writeSays, taking}
 
 -- fuel does not matter
-then-same : (s : Step) (f g : World → End) → ((v : World) (n : ℕ) → s ≡ went v n → 1 ≤ n → f v ≡ g v) → thenRun s f ≡ thenRun s g
+then-same : (s : Step) (f g : World → Result (Unit {0})) → ((v : World) (n : ℕ) → s ≡ went v n → 1 ≤ n → f v ≡ g v) → thenRun s f ≡ thenRun s g
 unfolding thenRun
-then-same (went v n) f g h = same-way (finished v) (leb 1 n) (λ q. h v n refl (leb-true 1 n q))
+then-same (went v n) f g h = same-way (done tt v) (leb 1 n) (λ q. h v n refl (leb-true 1 n q))
 then-same (stuck v) f g h = refl
 
-same-fuel : (n k : ℕ) (t : List ℕ) (w : World) → w .state .end < n → w .state .end < k → runBy n t w ≡ runBy k t w
+same-fuel : (n k : ℕ) (c : Choice) (w : World) → w .state .end < n → w .state .end < k → runBy n c w ≡ runBy k c w
 unfolding runBy
-same-fuel zero k t w h g = absurd (omega arith)
-same-fuel (suc n) zero t w h g = absurd (omega arith)
-same-fuel (suc n) (suc k) t w h g =
-    same-way (finished w) (leb 1 (w .state .end))
-    (λ q. then-same (once t w) (runBy n t) (runBy k t) (λ v m e l.
-    let z = leb-true 1 (w .state .end) q in
-    same-fuel n k t v (omega (arith, once-end t w v m e)) (omega (arith, once-end t w v m e))))
+same-fuel zero k c w h g = absurd (omega arith)
+same-fuel (suc n) zero c w h g = absurd (omega arith)
+same-fuel (suc n) (suc k) c w h g =
+    same-way (done tt w) (leb 1 (w .state .end))
+    (λ q. then-same (once c w) (runBy n c) (runBy k c) (λ v m e l. same-fuel n k c v (omega (arith, once-end c w v m (sym e))) (omega (arith, once-end c w v m (sym e)))))
 
-run-step : (t : List ℕ) (w : World) → run t w ≡ (if leb 1 (w .state .end) then thenRun (once t w) (run t) else finished w)
+run-step : (c : Choice) (w : World) → run c w ≡ (if leb 1 (w .state .end) then thenRun (once c w) (run c) else done tt w)
 unfolding run runBy
-run-step t w =
-    same-way (finished w) (leb 1 (w .state .end))
-    (λ q. then-same (once t w) (runBy (w .state .end) t) (run t) (λ v m e l.
-    let z = leb-true 1 (w .state .end) q in
-    same-fuel (w .state .end) (suc (v .state .end)) t v (omega (arith, once-end t w v m e)) (omega arith)))
+run-step c w =
+    same-way (done tt w) (leb 1 (w .state .end))
+    (λ q. then-same (once c w) (runBy (w .state .end) c) (run c) (λ v m e l. same-fuel (w .state .end) (suc (v .state .end)) c v (omega (arith, once-end c w v m (sym e))) (omega arith)))
 
 -- the ways on from a state, and out
-module _ (t : List ℕ) (w : World) where
-  pub run-empty : w .state .end ≤ 0 → finished w ≡ run t w
-  run-empty h = sym (run-step t w ∙ rw (lt-leb 1 (w .state .end) (omega arith)))
+module _ (c : Choice) (w : World) where
+  pub run-empty : w .state .end ≤ 0 → done tt w ≡ run c w
+  run-empty h = sym (run-step c w ∙ rw (lt-leb 1 (w .state .end) (omega arith)))
 
   module _ (h : 0 < w .state .end) where
-    at-turn : thenRun (once t w) (run t) ≡ run t w
-    at-turn = sym (run-step t w ∙ rw (le-leb 1 (w .state .end) h))
+    at-turn : thenRun (once c w) (run c) ≡ run c w
+    at-turn = sym (run-step c w ∙ rw (le-leb 1 (w .state .end) h))
 
-    pub run-full : (v : World) → stuck v ≡ once t w → full v ≡ run t w
+    run-full : (v : World) → stuck v ≡ once c w → refusedAt 5 [] v ≡ run c w
     unfolding thenRun
-    run-full v e = ap (λ (x : Step). thenRun x (run t)) e ∙ at-turn
+    run-full v e = ap (λ (x : Step). thenRun x (run c)) e ∙ at-turn
 
-    pub run-still : (v : World) (n : ℕ) → went v n ≡ once t w → n ≡ 0 → finished v ≡ run t w
+    run-still : (v : World) (n : ℕ) → went v n ≡ once c w → n ≡ 0 → done tt v ≡ run c w
     unfolding thenRun
-    run-still v n e z = (rw z) ∙ ap (λ (x : Step). thenRun x (run t)) e ∙ at-turn
+    run-still v n e z = (rw z) ∙ ap (λ (x : Step). thenRun x (run c)) e ∙ at-turn
 
-    pub run-goes : (v : World) (n : ℕ) → went v n ≡ once t w → (n ≡ 0 → ⊥) → run t v ≡ run t w
+    pub run-goes : (v : World) (n : ℕ) → went v n ≡ once c w → (n ≡ 0 → ⊥) → run c v ≡ run c w
     unfolding thenRun
-    run-goes v n e z = (rw (le-leb 1 n (omega arith))) ∙ ap (λ (x : Step). thenRun x (run t)) e ∙ at-turn
+    run-goes v n e z = (rw (le-leb 1 n (omega arith))) ∙ ap (λ (x : Step). thenRun x (run c)) e ∙ at-turn
 
 -- the loop: what is to be run from w₀ is what is to be run from w
-pub record Going (t : List ℕ) (w₀ w : World) : Type 0 where
-  pub same : run t w₀ ≡ run t w
-  pub inside : w .state .end ≤ length (w .buf)
+pub record Going (c : Choice) (w₀ w : World) : Type 0 where
+  pub same : run c w₀ ≡ run c w
   pub bufLong : length (w .buf) ≡ length (w₀ .buf)
   pub slotLong : length (w .slotMemory) ≡ length (w₀ .slotMemory)
   pub queueLong : length (w .queueMemory) ≡ length (w₀ .queueMemory)
 
-going-on : (t : List ℕ) (w₀ w v : World) (n : ℕ) → Going t w₀ w → 0 < w .state .end → went v n ≡ once t w → (n ≡ 0 → ⊥) → length (v .buf) ≡ length (w .buf) → length (v .slotMemory) ≡ length (w .slotMemory) → length (v .queueMemory) ≡ length (w .queueMemory) → Going t w₀ v
-going-on t w₀ w v n g h e z a b c =
-    record {
-      same = g .same ∙ sym (run-goes t w h v n e z);
-      inside = omega (arith, once-end t w v n (sym e), g .inside);
-      bufLong = a ∙ g .bufLong;
-      slotLong = b ∙ g .slotLong;
-      queueLong = c ∙ g .queueLong;
-    }
-
--- the same from what `step` answered
-module _ (t : List ℕ) (w₀ w : World) (g : Going t w₀ w) (h : 0 < w .state .end) (s : State) (r : Stepped) (b m n : List ℕ) (e : stepped s r b m n ≡ once t w) where
-  turned : (x : Stepped) → r ≡ x → stepped s x b m n ≡ once t w
+-- the ways on and out, from what `step` answered
+module _ (c : Choice) (w₀ w : World) (g : Going c w₀ w) (h : 0 < w .state .end) (s : State) (r : Stepped) (b m n : List ℕ) (e : stepped s r b m n ≡ once c w) where
+  turned : (x : Stepped) → r ≡ x → stepped s x b m n ≡ once c w
   turned x q = ap (λ (y : Stepped). stepped s y b m n) (sym q) ∙ e
 
-  pub turn-full : r ≡ steps.Full → full (world s b m n) ≡ run t w₀
-  turn-full q = run-full t w h (world s b m n) (turned steps.Full q) ∙ sym (g .same)
+  pub turn-full : r ≡ steps.Full → refusedAt 5 [] (world s b m n) ≡ run c w₀
+  turn-full q = run-full c w h (world s b m n) (turned steps.Full q) ∙ sym (g .same)
 
   module _ (x : State) (k : ℕ) (q : r ≡ steps.Is x k) where
-    pub turn-still : k ≡ 0 → finished (world x b m n) ≡ run t w₀
-    turn-still z = run-still t w h (world x b m n) k (turned (steps.Is x k) q) z ∙ sym (g .same)
+    pub turn-still : k ≡ 0 → done tt (world x b m n) ≡ run c w₀
+    turn-still z = run-still c w h (world x b m n) k (turned (steps.Is x k) q) z ∙ sym (g .same)
 
     pub turn-less : (k ≡ 0 → ⊥) → x .end < w .state .end
-    turn-less z = omega (arith, once-end t w (world x b m n) k (sym (turned (steps.Is x k) q)))
+    turn-less z = omega (arith, once-end c w (world x b m n) k (turned (steps.Is x k) q))
 
-    pub turn-on : (k ≡ 0 → ⊥) → length b ≡ length (w .buf) → length m ≡ length (w .slotMemory) → length n ≡ length (w .queueMemory) → Going t w₀ (world x b m n)
-    turn-on z = going-on t w₀ w (world x b m n) k g h (turned (steps.Is x k) q) z
+    pub turn-on : (k ≡ 0 → ⊥) → length b ≡ length (w .buf) → length m ≡ length (w .slotMemory) → length n ≡ length (w .queueMemory) → Going c w₀ (world x b m n)
+    turn-on z i j l =
+        record { same = g .same ∙ sym (run-goes c w h (world x b m n) k (turned (steps.Is x k) q) z); bufLong = i ∙ g .bufLong; slotLong = j ∙ g .slotLong; queueLong = l ∙ g .queueLong }
 
 -- `isSound`
 module _ (s : State) (b m n : ℕ) where
@@ -190,7 +113,7 @@ module _ (s : State) (b m n : ℕ) where
     unfolding isSound
     sound-queue g = rw (le-leb (s .end) b h, le-leb (s .slot .len) m g)
 
-  pub sound-parts : isSound s b m n ≡ true → (s .end ≤ b) × ((s .slot .len ≤ m) × (inBounds (capacityOf ours n) (s .queue) ≡ true))
+  sound-parts : isSound s b m n ≡ true → (s .end ≤ b) × ((s .slot .len ≤ m) × (inBounds (capacityOf ours n) (s .queue) ≡ true))
   unfolding isSound
   sound-parts h =
       let x = and-both (leb (s .end) b) (leb (s .slot .len) m && inBounds (capacityOf ours n) (s .queue)) h in
@@ -198,131 +121,100 @@ module _ (s : State) (b m n : ℕ) where
       (leb-true (s .end) b (x .0), (leb-true (s .slot .len) m (y .0), y .1))
 
 -- `checks`
-module _ (t : List ℕ) (s : State) (b m n : ℕ) where
-  pub checks-long : 4096 < b → refused 1 [] ≡ checks t s b m n
+module _ (c : Choice) (s : State) (b m n : ℕ) where
+  pub checks-long : 4096 < b → refused 1 [] ≡ checks c s b m n
   unfolding checks
   checks-long h = rw (lt-ltb 4096 b h)
 
   module _ (l : b ≤ 4096) where
-    pub checks-table : (k : ℕ) → refused 2 (k ∷ []) ≡ ruling t → refused 2 (k ∷ []) ≡ checks t s b m n
+    pub checks-table : (k : ℕ) → refused 2 (k ∷ []) ≡ ruling (c .table) → refused 2 (k ∷ []) ≡ checks c s b m n
     unfolding checks underTable
     checks-table k e = rw (le-ltb 4096 b l, sym e)
 
-    pub checks-state : (k : ℕ) → answered k ≡ ruling t → (c : Bool) → isSound s b m n ≡ c → _≡_ {A = Outcome (Unit {0})} (if not c then refused 3 [] else answered tt) (checks t s b m n)
+    pub checks-state : (k : ℕ) → answered k ≡ ruling (c .table) → (x : Bool) → isSound s b m n ≡ x → _≡_ {A = Outcome (Unit {0})} (if not x then refused 3 [] else answered tt) (checks c s b m n)
     unfolding checks underTable
-    checks-state k e c h = rw (le-ltb 4096 b l, sym e, h)
+    checks-state k e x h = rw (le-ltb 4096 b l, sym e, h)
 
--- what a call may rely on that isn't refused 1, 2 or 3
-pub record Good (t : List ℕ) (w : World) : Type 0 where
-  pub long : length (w .buf) ≤ 4096
-  pub records : ℕ
-  pub ruled : ruling t ≡ answered records
-  pub sound : isSound (w .state) (length (w .buf)) (length (w .slotMemory)) (length (w .queueMemory)) ≡ true
+module _ (c : Choice) (w : World) where
+  -- what `judge` answered, where a match tells which it was
+  pub judged-as : (r : Checks) → refusal r ≡ judged c w → (x : Checks) → r ≡ x → refusal x ≡ judged c w
+  judged-as r e x q = ap refusal (sym q) ∙ e
 
-passed-is : (t : List ℕ) (w : World) (a c : Bool) (r : Outcome ℕ) → ltb 4096 (length (w .buf)) ≡ a → isSound (w .state) (length (w .buf)) (length (w .slotMemory)) (length (w .queueMemory)) ≡ c → ruling t ≡ r → _≡_ {A = Outcome (Unit {0})} (answered tt) (if a then refused 1 [] else underTable r (if not c then refused 3 [] else answered tt)) → Good t w
-unfolding underTable
-passed-is t w false true (answered k) l s q e = record { long = ltb-false 4096 (length (w .buf)) l; records = k; ruled = q; sound = s }
-passed-is t w false false (answered k) l s q e = let z : _≡_ {A = ℕ} 0 1 = cc in absurd (omega arith)
-passed-is t w false c (refused n v) l s q e = let z : _≡_ {A = ℕ} 0 1 = cc in absurd (omega arith)
-passed-is t w true c r l s q e = let z : _≡_ {A = ℕ} 0 1 = cc in absurd (omega arith)
+  -- what isn't refused 1, 2 or 3 is good
+  passed-is : (a x : Bool) (r : Outcome ℕ) → ltb 4096 (length (w .buf)) ≡ a → isSound (w .state) (length (w .buf)) (length (w .slotMemory)) (length (w .queueMemory)) ≡ x → ruling (c .table) ≡ r → _≡_ {A = Outcome (Unit {0})} (answered tt) (if a then refused 1 [] else underTable r (if not x then refused 3 [] else answered tt)) → Good c w
+  unfolding underTable
+  passed-is false true (answered k) l s q e =
+      let p = sound-parts (w .state) (length (w .buf)) (length (w .slotMemory)) (length (w .queueMemory)) s in
+      record { long = ltb-false 4096 (length (w .buf)) l; records = k; ruled = q; inside = p .0; slotFits = p .1 .0; queueFits = p .1 .1 }
+  passed-is false false (answered k) l s q e = let z : _≡_ {A = ℕ} 0 1 = cc in absurd (omega arith)
+  passed-is false x (refused n v) l s q e = let z : _≡_ {A = ℕ} 0 1 = cc in absurd (omega arith)
+  passed-is true x r l s q e = let z : _≡_ {A = ℕ} 0 1 = cc in absurd (omega arith)
 
-pub passed : (t : List ℕ) (w : World) → Passed w t → Good t w
-unfolding checks
-passed t w e = passed-is t w _ _ _ refl refl refl e
+  pub passed : Passed c w → Good c w
+  unfolding checks
+  passed e = passed-is _ _ _ refl refl refl e
 
-pub passes : (t : List ℕ) (w : World) → Good t w → Passed w t
-unfolding checks underTable
-passes t w g = rw (le-ltb 4096 (length (w .buf)) (g .long), g .ruled, g .sound)
-
-pub good-inside : (t : List ℕ) (w : World) → Good t w → w .state .end ≤ length (w .buf)
-good-inside t w g = sound-parts (w .state) (length (w .buf)) (length (w .slotMemory)) (length (w .queueMemory)) (g .sound) .0
+  pub passes : Good c w → Passed c w
+  unfolding checks underTable
+  passes g =
+      let s = sym (sound-queue (w .state) (length (w .buf)) (length (w .slotMemory)) (length (w .queueMemory)) (g .inside) (g .slotFits)) ∙ g .queueFits in
+      rw (le-ltb 4096 (length (w .buf)) (g .long), g .ruled, s)
 
 -- the ways out of `advance`
-module _ (t : List ℕ) (c : ℕ) (w : World) where
-  pub advance-refused : (n : ℕ) (v : List ℕ) → refused n v ≡ checks t (w .state) (length (w .buf)) (length (w .slotMemory)) (length (w .queueMemory)) → refusedAt n v w ≡ advanced t c w
+module _ (c : Choice) (n : ℕ) (w : World) where
+  pub advance-refused : (k : ℕ) (v : List ℕ) → refused k v ≡ judged c w → refusedAt k v w ≡ advanced c n w
   unfolding advanced unlessRefused
-  advance-refused n v e = rw (sym e)
+  advance-refused k v e = rw (sym e)
 
-  module _ (g : Passed w t) where
-    pub advance-room : length (w .buf) - w .state .end < c → refusedAt 4 [] w ≡ advanced t c w
+  module _ (g : Passed c w) where
+    pub advance-room : length (w .buf) - w .state .end < n → refusedAt 4 [] w ≡ advanced c n w
     unfolding advanced unlessRefused
-    advance-room h = rw (sym g, lt-ltb (length (w .buf) - w .state .end) c h)
+    advance-room h = rw (sym g, lt-ltb (length (w .buf) - w .state .end) n h)
 
-    module _ (h : c ≤ length (w .buf) - w .state .end) where
-      pub at-run : ended (run t (committed w c)) ≡ advanced t c w
+    module _ (h : n ≤ length (w .buf) - w .state .end) where
+      pub at-run : run c (committed w n) ≡ advanced c n w
       unfolding advanced unlessRefused
-      at-run = rw (sym g, le-ltb (length (w .buf) - w .state .end) c h)
+      at-run = rw (sym g, le-ltb (length (w .buf) - w .state .end) n h)
 
-      module _ (r : Ran) (b m n : List ℕ) (p : ran r b m n ≡ run t (committed w c)) (x : State) where
-        pub advance-done : r ≡ runs.Is x → done tt (world x b m n) ≡ advanced t c w
-        unfolding ended
-        advance-done q = ap (λ (y : Ran). ended (ran y b m n)) (sym q) ∙ ap ended p ∙ at-run
+      pub advance-ran : (r : Ran) (b m q : List ℕ) (y : State) → y ≡ committed w n .state → ran r b m q ≡ run c (withState w y) → (x : Ran) → r ≡ x → ran x b m q ≡ advanced c n w
+      advance-ran r b m q y v p x e = ap (λ (z : Ran). ran z b m q) (sym e) ∙ p ∙ ap (λ (z : State). run c (withState w z)) v ∙ at-run
 
-        pub advance-full : r ≡ runs.Full x → refusedAt 5 [] (world x b m n) ≡ advanced t c w
-        unfolding ended
-        advance-full q = ap (λ (y : Ran). ended (ran y b m n)) (sym q) ∙ ap ended p ∙ at-run
-
--- no turn makes more of what is held
-abbrev end-of : End → ℕ
-end-of (finished w) = w .state .end
-end-of (full w) = w .state .end
-
-abbrev step-end : Step → ℕ
-step-end (went w n) = w .state .end
-step-end (stuck w) = w .state .end
-
-onward-less : (w : World) (a : Answer) (d : Delivery) → step-end (onward w a d) ≤ w .state .end
-unfolding onward
-onward-less w a d = ways (λ s. step-end s ≤ w .state .end) (d .waits) (λ q. omega arith) (λ q. omega arith)
-
-once-less : (t : List ℕ) (w : World) → step-end (once t w) ≤ w .state .end
-unfolding once answered-by
-once-less t w =
-    let a = digestChecked t (take (w .state .end) (w .buf)) in
-    let d = deliver (w .state) a (partOf (take (w .state .end) (w .buf)) (a .place) (a .len)) (w .slotMemory) (w .queueMemory) in
-    onward-less w a d
-
-then-less : (s : Step) (f : World → End) → ((v : World) → end-of (f v) ≤ v .state .end) → end-of (thenRun s f) ≤ step-end s
+-- a run makes no more of what is held
+then-less : (s : Step) (f : World → Result (Unit {0})) → ((v : World) → f v .left .state .end ≤ v .state .end) → thenRun s f .left .state .end ≤ left-by s .state .end
 unfolding thenRun
-then-less (went v n) f h = ways (λ r. end-of r ≤ v .state .end) (leb 1 n) (λ q. h v) (λ q. omega arith)
+then-less (went v n) f h = ways (λ (r : Result (Unit {0})). r .left .state .end ≤ v .state .end) (leb 1 n) (λ q. h v) (λ q. omega arith)
 then-less (stuck v) f h = omega arith
 
-run-by-less : (n : ℕ) (t : List ℕ) (w : World) → end-of (runBy n t w) ≤ w .state .end
+run-by-less : (n : ℕ) (c : Choice) (w : World) → runBy n c w .left .state .end ≤ w .state .end
 unfolding runBy
-run-by-less zero t w = omega arith
-run-by-less (suc n) t w =
-    ways (λ r. end-of r ≤ w .state .end) (leb 1 (w .state .end))
-    (λ q. omega (arith, then-less (once t w) (runBy n t) (run-by-less n t), once-less t w))
+run-by-less zero c w = omega arith
+run-by-less (suc n) c w =
+    ways (λ (r : Result (Unit {0})). r .left .state .end ≤ w .state .end) (leb 1 (w .state .end))
+    (λ q. omega (arith, then-less (once c w) (runBy n c) (run-by-less n c), once-less c w))
     (λ q. omega arith)
 
-pub run-less : (t : List ℕ) (w : World) → end-of (run t w) ≤ w .state .end
+run-less : (c : Choice) (w : World) → run c w .left .state .end ≤ w .state .end
 unfolding run
-run-less t w = run-by-less (suc (w .state .end)) t w
+run-less c w = run-by-less (suc (w .state .end)) c w
 
 -- the ways out of a copy
-module _ (t p : List ℕ) (w : World) where
-  pub copy-none : min (length p) (length (w .buf) - w .state .end) ≡ 0 → wrote 0 w ≡ writeOnce t p w
+module _ (c : Choice) (p : List ℕ) (w : World) where
+  pub copy-none : min (length p) (length (w .buf) - w .state .end) ≡ 0 → wrote 0 w ≡ writeOnce c p w
   unfolding writeOnce
   copy-none e = rw (lt-leb 1 (min (length p) (length (w .buf) - w .state .end)) (omega arith))
 
   module _ (n : ℕ) (e : n ≡ min (length p) (length (w .buf) - w .state .end)) (h : n ≡ 0 → ⊥) where
-    at-copy : afterCopy (run t (copied w (take n p))) n ≡ writeOnce t p w
+    at-copy : afterCopy (run c (copied w (take n p))) n ≡ writeOnce c p w
     unfolding writeOnce
     at-copy = rw e (rw (le-leb 1 (min (length p) (length (w .buf) - w .state .end)) (omega arith)))
 
-    pub copied-is : (b : List ℕ) → b ≡ put (w .buf) (w .state .end) (take n p) → world (record { end = w .state .end + n; slot = w .state .slot; queue = w .state .queue }) b (w .slotMemory) (w .queueMemory) ≡ copied w (take n p)
-    copied-is b v =
+    copied-is : (b : List ℕ) (y : State) → b ≡ put (w .buf) (w .state .end) (take n p) → y ≡ withEnd (w .state) (w .state .end + n) → world y b (w .slotMemory) (w .queueMemory) ≡ copied w (take n p)
+    copied-is b y v u =
         let l : n ≡ length (take n p) = sym (length-take-le n p (omega arith)) in
-        λ i. world (record { end = w .state .end + l i; slot = w .state .slot; queue = w .state .queue }) (v i) (w .slotMemory) (w .queueMemory)
+        (λ i. world (u i) (v i) (w .slotMemory) (w .queueMemory)) ∙ (λ i. committed (world (w .state) (put (w .buf) (w .state .end) (take n p)) (w .slotMemory) (w .queueMemory)) (l i))
 
-    module _ (r : Ran) (b m q : List ℕ) (y : World) (c : y ≡ copied w (take n p)) (k : ran r b m q ≡ run t y) (x : State) where
-      pub copy-is : r ≡ runs.Is x → wrote n (world x b m q) ≡ writeOnce t p w
-      unfolding afterCopy
-      copy-is v = ap (λ (z : Ran). afterCopy (ran z b m q) n) (sym v) ∙ ap (λ (z : End). afterCopy z n) (k ∙ ap (run t) c) ∙ at-copy
-
-      pub copy-full : r ≡ runs.Full x → stopped n (world x b m q) ≡ writeOnce t p w
-      unfolding afterCopy
-      copy-full v = ap (λ (z : Ran). afterCopy (ran z b m q) n) (sym v) ∙ ap (λ (z : End). afterCopy z n) (k ∙ ap (run t) c) ∙ at-copy
+    pub copy-ran : (b : List ℕ) (y : State) → b ≡ put (w .buf) (w .state .end) (take n p) → y ≡ withEnd (w .state) (w .state .end + n) → (r : Ran) (d m q : List ℕ) → ran r d m q ≡ run c (world y b (w .slotMemory) (w .queueMemory)) → (x : Ran) → r ≡ x → afterCopy (ran x d m q) n ≡ writeOnce c p w
+    copy-ran b y v u r d m q k x e = ap (λ (z : Ran). afterCopy (ran z d m q) n) (sym e) ∙ ap (λ (z : Result (Unit {0})). afterCopy z n) (k ∙ ap (run c) (copied-is b y v u)) ∙ at-copy
 
 -- a copy takes no more than there is, and leaves an end in the buffer
 abbrev pub bytes-of : Writing → ℕ
@@ -333,26 +225,24 @@ abbrev left-of : Writing → World
 left-of (wrote n w) = w
 left-of (stopped n w) = w
 
-after-copy : (r : End) (n : ℕ) → (bytes-of (afterCopy r n) ≡ n) × (left-of (afterCopy r n) .state .end ≡ end-of r)
-unfolding afterCopy
-after-copy (finished w) n = (refl, refl)
-after-copy (full w) n = (refl, refl)
+after-copy : (r : Result (Unit {0})) (n : ℕ) → (bytes-of (afterCopy r n) ≡ n) × (left-of (afterCopy r n) ≡ r .left)
+after-copy r n = ways (λ x. (bytes-of x ≡ n) × (left-of x ≡ r .left)) (isRefused (r .said)) (λ q. (refl, refl)) (λ q. (refl, refl))
 
-module _ (t p : List ℕ) (w : World) where
-  pub once-taken : bytes-of (writeOnce t p w) ≤ length p
+module _ (c : Choice) (p : List ℕ) (w : World) where
+  pub once-taken : bytes-of (writeOnce c p w) ≤ length p
   unfolding writeOnce
   once-taken =
       let n = min (length p) (length (w .buf) - w .state .end) in
-      ways (λ r. bytes-of r ≤ length p) (leb 1 n) (λ q. omega (arith, after-copy (run t (copied w (take n p))) n .0)) (λ q. omega arith)
+      ways (λ r. bytes-of r ≤ length p) (leb 1 n) (λ q. omega (arith, after-copy (run c (copied w (take n p))) n .0)) (λ q. omega arith)
 
   module _ (h : w .state .end ≤ length (w .buf)) where
-    once-inside : left-of (writeOnce t p w) .state .end ≤ length (w .buf)
+    once-inside : left-of (writeOnce c p w) .state .end ≤ length (w .buf)
     unfolding writeOnce
     once-inside =
         let n = min (length p) (length (w .buf) - w .state .end) in
         let k : n ≤ length p = omega arith in
         ways (λ r. left-of r .state .end ≤ length (w .buf)) (leb 1 n)
-        (λ q. omega (arith, after-copy (run t (copied w (take n p))) n .1, run-less t (copied w (take n p)), length-take-le n p k))
+        (λ q. omega (arith, ap (λ (y : World). y .state .end) (after-copy (run c (copied w (take n p))) n .1), run-less c (copied w (take n p)), length-take-le n p k))
         (λ q. h)
 
 -- a write's fuel does not matter
@@ -361,25 +251,25 @@ unfolding thenWrite
 write-same (wrote n v) k f g h = same-way (wrote k v) (leb 1 n) (λ q. h v n refl (leb-true 1 n q))
 write-same (stopped n v) k f g h = refl
 
-same-write : (n m : ℕ) (t p : List ℕ) (k : ℕ) (w : World) → length p - k < n → length p - k < m → writeBy n t p k w ≡ writeBy m t p k w
+same-write : (n m : ℕ) (c : Choice) (p : List ℕ) (k : ℕ) (w : World) → length p - k < n → length p - k < m → writeBy n c p k w ≡ writeBy m c p k w
 unfolding writeBy
-same-write zero m t p k w h g = absurd (omega arith)
-same-write (suc n) zero t p k w h g = absurd (omega arith)
-same-write (suc n) (suc m) t p k w h g =
-    write-same (writeOnce t (drop k p) w) k (writeBy n t p) (writeBy m t p) (λ v j e l.
-    let z : j ≤ length p - k = omega (arith, once-taken t (drop k p) w, length-drop k p) in
-    same-write n m t p (k + j) v (omega arith) (omega arith))
+same-write zero m c p k w h g = absurd (omega arith)
+same-write (suc n) zero c p k w h g = absurd (omega arith)
+same-write (suc n) (suc m) c p k w h g =
+    write-same (writeOnce c (drop k p) w) k (writeBy n c p) (writeBy m c p) (λ v j e l.
+    let z : j ≤ length p - k = omega (arith, once-taken c (drop k p) w, length-drop k p) in
+    same-write n m c p (k + j) v (omega arith) (omega arith))
 
-write-step : (t p : List ℕ) (k : ℕ) (w : World) → write t p k w ≡ thenWrite (writeOnce t (drop k p) w) k (write t p)
-unfolding write writeBy
-write-step t p k w =
-    write-same (writeOnce t (drop k p) w) k (writeBy (length p - k) t p) (write t p) (λ v j e l.
-    let z : j ≤ length p - k = omega (arith, once-taken t (drop k p) w, length-drop k p) in
-    same-write (length p - k) (suc (length p - (k + j))) t p (k + j) v (omega arith) (omega arith))
+write-step : (c : Choice) (p : List ℕ) (k : ℕ) (w : World) → writeOn c p k w ≡ thenWrite (writeOnce c (drop k p) w) k (writeOn c p)
+unfolding writeOn writeBy
+write-step c p k w =
+    write-same (writeOnce c (drop k p) w) k (writeBy (length p - k) c p) (writeOn c p) (λ v j e l.
+    let z : j ≤ length p - k = omega (arith, once-taken c (drop k p) w, length-drop k p) in
+    same-write (length p - k) (suc (length p - (k + j))) c p (k + j) v (omega arith) (omega arith))
 
 -- the loop of a write: what is to be written from w₀ is what is to be written from w, with k bytes taken
-pub record Writes (t p : List ℕ) (w₀ : World) (k : ℕ) (w : World) : Type 0 where
-  pub same : write t p 0 w₀ ≡ write t p k w
+pub record Writes (c : Choice) (p : List ℕ) (w₀ : World) (k : ℕ) (w : World) : Type 0 where
+  pub same : writeOn c p 0 w₀ ≡ writeOn c p k w
   pub inside : w .state .end ≤ length (w .buf)
   pub within : k ≤ length p
   pub bufLong : length (w .buf) ≡ length (w₀ .buf)
@@ -387,35 +277,35 @@ pub record Writes (t p : List ℕ) (w₀ : World) (k : ℕ) (w : World) : Type 0
   pub queueLong : length (w .queueMemory) ≡ length (w₀ .queueMemory)
 
 -- the ways on and out, from what `write_once` answered for the bytes d not yet taken
-module _ (t p : List ℕ) (w₀ : World) (k : ℕ) (w : World) (g : Writes t p w₀ k w) (d : List ℕ) (f : d ≡ drop k p) (r : Wrote) (b m q : List ℕ) (e : writing r b m q ≡ writeOnce t d w) where
-  copied-on : (x : Wrote) → r ≡ x → writing x b m q ≡ writeOnce t (drop k p) w
-  copied-on x v = ap (λ (y : Wrote). writing y b m q) (sym v) ∙ e ∙ ap (λ (y : List ℕ). writeOnce t y w) f
+module _ (c : Choice) (p : List ℕ) (w₀ : World) (k : ℕ) (w : World) (g : Writes c p w₀ k w) (d : List ℕ) (f : d ≡ drop k p) (r : Wrote) (b m q : List ℕ) (e : writing r b m q ≡ writeOnce c d w) where
+  copied-on : (x : Wrote) → r ≡ x → writing x b m q ≡ writeOnce c (drop k p) w
+  copied-on x v = ap (λ (y : Wrote). writing y b m q) (sym v) ∙ e ∙ ap (λ (y : List ℕ). writeOnce c y w) f
 
-  at-write : (x : Wrote) → r ≡ x → thenWrite (writing x b m q) k (write t p) ≡ write t p 0 w₀
-  at-write x v = ap (λ (y : Writing). thenWrite y k (write t p)) (copied-on x v) ∙ sym (write-step t p k w) ∙ sym (g .same)
+  at-write : (x : Wrote) → r ≡ x → thenWrite (writing x b m q) k (writeOn c p) ≡ writeOn c p 0 w₀
+  at-write x v = ap (λ (y : Writing). thenWrite y k (writeOn c p)) (copied-on x v) ∙ sym (write-step c p k w) ∙ sym (g .same)
 
   module _ (x : State) (n : ℕ) where
-    pub on-full : r ≡ writes.Full x n → stopped (k + n) (world x b m q) ≡ write t p 0 w₀
+    pub on-full : r ≡ writes.Full x n → stopped (k + n) (world x b m q) ≡ writeOn c p 0 w₀
     unfolding thenWrite
     on-full v = at-write (writes.Full x n) v
 
     pub full-room : r ≡ writes.Full x n → k + n ≤ length p
-    full-room v = omega (arith, ap bytes-of (copied-on (writes.Full x n) v), once-taken t (drop k p) w, length-drop k p, g .within)
+    full-room v = omega (arith, ap bytes-of (copied-on (writes.Full x n) v), once-taken c (drop k p) w, length-drop k p, g .within)
 
     module _ (v : r ≡ writes.Is x n) where
-      pub on-still : n ≡ 0 → wrote k (world x b m q) ≡ write t p 0 w₀
+      pub on-still : n ≡ 0 → wrote k (world x b m q) ≡ writeOn c p 0 w₀
       unfolding thenWrite
       on-still z = rw (lt-leb 1 n (omega arith)) at (at-write (writes.Is x n) v)
 
       pub on-room : k + n ≤ length p
-      on-room = omega (arith, ap bytes-of (copied-on (writes.Is x n) v), once-taken t (drop k p) w, length-drop k p, g .within)
+      on-room = omega (arith, ap bytes-of (copied-on (writes.Is x n) v), once-taken c (drop k p) w, length-drop k p, g .within)
 
-      pub on-again : (n ≡ 0 → ⊥) → length b ≡ length (w .buf) → length m ≡ length (w .slotMemory) → length q ≡ length (w .queueMemory) → Writes t p w₀ (k + n) (world x b m q)
+      pub on-again : (n ≡ 0 → ⊥) → length b ≡ length (w .buf) → length m ≡ length (w .slotMemory) → length q ≡ length (w .queueMemory) → Writes c p w₀ (k + n) (world x b m q)
       unfolding thenWrite
       on-again z h i j =
           record {
             same = sym (rw (le-leb 1 n (omega arith)) at (at-write (writes.Is x n) v));
-            inside = omega (arith, ap (λ (y : Writing). left-of y .state .end) (copied-on (writes.Is x n) v), once-inside t (drop k p) w (g .inside));
+            inside = omega (arith, ap (λ (y : Writing). left-of y .state .end) (copied-on (writes.Is x n) v), once-inside c (drop k p) w (g .inside));
             within = on-room;
             bufLong = h ∙ g .bufLong;
             slotLong = i ∙ g .slotLong;
@@ -423,24 +313,14 @@ module _ (t p : List ℕ) (w₀ : World) (k : ℕ) (w : World) (g : Writes t p w
           }
 
 -- the ways out of `write`
-module _ (t p : List ℕ) (w : World) where
-  pub write-refused : (n : ℕ) (v : List ℕ) → refused n v ≡ checks t (w .state) (length (w .buf)) (length (w .slotMemory)) (length (w .queueMemory)) → refusedAt n v w ≡ written t p w
+module _ (c : Choice) (p : List ℕ) (w : World) where
+  pub write-refused : (n : ℕ) (v : List ℕ) → refused n v ≡ judged c w → refusedAt n v w ≡ written c p w
   unfolding written unlessRefused
   write-refused n v e = rw (sym e)
 
-  module _ (g : Passed w t) where
-    pub at-writing : answering (write t p 0 w) ≡ written t p w
-    unfolding written unlessRefused
-    at-writing = rw (sym g)
-
-    module _ (r : Wrote) (b m q : List ℕ) (e : writing r b m q ≡ write t p 0 w) (x : State) (n : ℕ) where
-      pub write-is : r ≡ writes.Is x n → done n (world x b m q) ≡ written t p w
-      unfolding answering
-      write-is v = ap (λ (y : Wrote). answering (writing y b m q)) (sym v) ∙ ap answering e ∙ at-writing
-
-      pub write-full : r ≡ writes.Full x n → refusedAt 5 (n ∷ []) (world x b m q) ≡ written t p w
-      unfolding answering
-      write-full v = ap (λ (y : Wrote). answering (writing y b m q)) (sym v) ∙ ap answering e ∙ at-writing
+  pub write-wrote : Passed c w → (r : Wrote) (b m q : List ℕ) → writing r b m q ≡ writeOn c p 0 w → (x : Wrote) → r ≡ x → answering (writing x b m q) ≡ written c p w
+  unfolding written unlessRefused
+  write-wrote g r b m q e x v = ap (λ (y : Wrote). answering (writing y b m q)) (sym v) ∙ ap answering e ∙ rw (sym g)
 
 -- The promises of `advance` and `write` determine the answer and every byte of the three memories: each can be read off the result.
 abbrev advanced-of : Outcome (Unit {0}) → State → Advanced
@@ -452,7 +332,7 @@ advanced-of (refused k v) s =
     else if eqb k 4 then advances.NoRoom
     else advances.Full s
 
-advanced-back : (s : State) (r : Advanced) → advanced-of (outcome r) (stateAfter s r) ≡ r
+advanced-back : (s : State) (r : Advanced) → advanced-of (advanceSays s r .0) (advanceSays s r .1) ≡ r
 advanced-back s (advances.Is x) = refl
 advanced-back s advances.TooLong = refl
 advanced-back s (advances.BadTable k) = refl
@@ -468,7 +348,7 @@ written-of (refused k v) s =
     else if eqb k 3 then takes.BadState
     else takes.Full s (getD v 0 0)
 
-written-back : (s : State) (r : Written) → written-of (bytesTaken r) (stateTaken s r) ≡ r
+written-back : (s : State) (r : Written) → written-of (writeSays s r .0) (writeSays s r .1) ≡ r
 written-back s (takes.Is x n) = refl
 written-back s takes.TooLong = refl
 written-back s (takes.BadTable k) = refl

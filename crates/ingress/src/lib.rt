@@ -1,125 +1,15 @@
-// The blocking half of atat's ingress.rs by document 01: digest what is in the buffer, deliver, move the rest to the front.
+// The blocking half of atat's ingress.rs by document 01: turns, one after the other, until nothing more is consumed.
 // The state is a struct by value beside lent slices; the buffer, the slot's memory and the queue's memory are the caller's.
-// It relies on the promises of digester, slot and queue, and opens none of their definitions.
+// It relies on the promises below it, and opens none of their definitions. No public function has a `requires`.
 ghost use mathlib.Core.Path.{_≡_};
-ghost use Prim.Native.Nat.{_≤_, min};
+ghost use Prim.Native.Nat.{_≤_};
 ghost use lib.ListN.{length, take};
-ghost use Rattle.ingress.specs.Ingress.{isNotice, deliver, delivery, world, once, stepped, run, ran, isSound, checks, refusal, advanced, result, writeOnce, writing, write, written, bytesTaken, taking, cleared};
+ghost use Rattle.turn.specs.Turn.{world, choice};
+ghost use Rattle.ingress.specs.Ingress.{run, ran, isSound, checks, refusal, advanced, result, writeOnce, writing, writeOn, written, taking, cleared};
 ghost use Rattle.ingress.specs.Story.{Keeps, committedBytes, NothingLeft, NothingAfter, tookOf};
-use answers::Answer;
-use answers::Kind;
-use queue::Put;
-use queue::Queue;
-use slot::Slot;
-use slot::Turned;
 use table::Checked;
-
-// Where the bytes in the buffer end, and the slot and the queue beside it.
-pub struct State {
-    pub end: usize,
-    pub slot: Slot,
-    pub queue: Queue,
-}
-
-// What a delivery leaves, or that it must wait: the queue is full.
-pub enum Delivered {
-    Is(State),
-    Waits,
-}
-
-fn is_notice(kind: Kind) -> bool
-    ensures { λ r. ⌜ r ≡ isNotice kind ⌝ }
-{
-    match kind {
-        Kind::None => false,
-        Kind::Ok => false,
-        Kind::Prompt => false,
-        Kind::Cme => false,
-        Kind::Cms => false,
-        Kind::Unknown => false,
-        Kind::NotAllowed => false,
-        Kind::Error => false,
-        Kind::NoCarrier => false,
-        Kind::Busy => false,
-        Kind::NoAnswer => false,
-        Kind::NoDialtone => false,
-        Kind::Custom => false,
-        Kind::Notice => true,
-    }
-}
-
-// A notice goes to the queue as a record, any other answer to the slot as a signal; None delivers nothing.
-fn deliver(
-    state: State,
-    a: Answer,
-    p: &[u8],
-    slot_mem: &mut [u8],
-    queue_mem: &mut [u8],
-) -> Delivered
-    ensures { λ r. ⌜ delivery state r (now («slot_mem» .exit)) (now («queue_mem» .exit)) ≡ deliver state a (now (p .entry)) (now («slot_mem» .entry)) (now («queue_mem» .entry)) ⌝ }
-{
-    let kind = a.kind;
-    let slot = state.slot;
-    let queue = state.queue;
-    if is_notice(kind) {
-        return match queue.put(queue_mem, (a.number % 256) as u8, p) {
-            Put::Is(q) => Delivered::Is(State {
-                end: state.end,
-                slot: slot,
-                queue: q,
-            }),
-            Put::BadBounds => Delivered::Waits,
-            Put::Full => Delivered::Waits,
-        };
-    }
-    match slot.signal(a, p, slot_mem) {
-        Turned::Is(x) => Delivered::Is(State {
-            end: state.end,
-            slot: x,
-            queue: queue,
-        }),
-        Turned::BadLength => Delivered::Waits,
-    }
-}
-
-// One turn: the next state and the bytes consumed, or that its notice must wait.
-pub enum Stepped {
-    Is(State, usize),
-    Full,
-}
-
-// Digests what is in the buffer, delivers, and moves the rest to the front.
-fn step(
-    table: &[u8],
-    state: State,
-    buf: &mut [u8],
-    slot_mem: &mut [u8],
-    queue_mem: &mut [u8],
-) -> Stepped
-    requires { ⌜ state .end ≤ length (now buf) ⌝ }
-    ensures { λ r. ⌜ stepped state r (now (buf .exit)) (now («slot_mem» .exit)) (now («queue_mem» .exit)) ≡ once (now (table .entry)) (world state (now (buf .entry)) (now («slot_mem» .entry)) (now («queue_mem» .entry))) ⌝ }
-{
-    let end = state.end;
-    let a = digest::digest_checked(table, &buf[..end]);
-    let n = a.consumed;
-    let p = digest::payload(&buf[..end], a.place, a.len);
-    match deliver(state, a, p, slot_mem, queue_mem) {
-        Delivered::Waits => Stepped::Full,
-        Delivered::Is(next) => {
-            let slot = next.slot;
-            let queue = next.queue;
-            moves::move_down(buf, n, end);
-            Stepped::Is(
-                State {
-                    end: end - n,
-                    slot: slot,
-                    queue: queue,
-                },
-                n,
-            )
-        }
-    }
-}
+use turn::State;
+use turn::Stepped;
 
 // How an advance ends: nothing more is consumed, or a notice met a full queue, with the state that is left.
 pub enum Ran {
@@ -129,12 +19,11 @@ pub enum Ran {
 
 // Turns until the digest consumes 0 or nothing is left.
 fn run(table: &[u8], state: State, buf: &mut [u8], slot_mem: &mut [u8], queue_mem: &mut [u8]) -> Ran
-    requires { ⌜ state .end ≤ length (now buf) ⌝ }
-    ensures { λ r. ⌜ ran r (now (buf .exit)) (now («slot_mem» .exit)) (now («queue_mem» .exit)) ≡ run (now (table .entry)) (world state (now (buf .entry)) (now («slot_mem» .entry)) (now («queue_mem» .entry))) ⌝ }
+    ensures { λ r. ⌜ ran r (now (buf .exit)) (now («slot_mem» .exit)) (now («queue_mem» .exit)) ≡ run (choice (now (table .entry))) (world state (now (buf .entry)) (now («slot_mem» .entry)) (now («queue_mem» .entry))) ⌝ }
 {
     let mut s = state;
     while 0 < s.end {
-        match step(table, s, buf, slot_mem, queue_mem) {
+        match turn::step(table, s, buf, slot_mem, queue_mem) {
             Stepped::Full => {
                 return Ran::Full(s);
             }
@@ -174,7 +63,7 @@ pub enum Checks {
 
 // Refusals 1, 2 and 3 in this order, for memories of these lengths.
 fn judge(state: State, table: &[u8], buf: usize, slot_mem: usize, queue_mem: usize) -> Checks
-    ensures { λ r. ⌜ refusal r ≡ checks (now (table .entry)) state buf «slot_mem» «queue_mem» ⌝ }
+    ensures { λ r. ⌜ refusal r ≡ checks (choice (now (table .entry))) state buf «slot_mem» «queue_mem» ⌝ }
 {
     if digest::LONGEST < buf {
         return Checks::TooLong;
@@ -208,9 +97,9 @@ pub fn advance(
     slot_mem: &mut [u8],
     queue_mem: &mut [u8],
 ) -> Advanced
-    ensures { λ r. ⌜ result state r (now (buf .exit)) (now («slot_mem» .exit)) (now («queue_mem» .exit)) ≡ advanced (now (table .entry)) commit (world state (now (buf .entry)) (now («slot_mem» .entry)) (now («queue_mem» .entry))) ⌝ }
-    ensures keeps { λ r. ⌜ Keeps (now (table .entry)) (world state (now (buf .entry)) (now («slot_mem» .entry)) (now («queue_mem» .entry))) (committedBytes (world state (now (buf .entry)) (now («slot_mem» .entry)) (now («queue_mem» .entry))) commit) (result state r (now (buf .exit)) (now («slot_mem» .exit)) (now («queue_mem» .exit))) ⌝ }
-    ensures nothing_left { λ r. ⌜ NothingLeft (now (table .entry)) (result state r (now (buf .exit)) (now («slot_mem» .exit)) (now («queue_mem» .exit))) ⌝ }
+    ensures { λ r. ⌜ result state r (now (buf .exit)) (now («slot_mem» .exit)) (now («queue_mem» .exit)) ≡ advanced (choice (now (table .entry))) commit (world state (now (buf .entry)) (now («slot_mem» .entry)) (now («queue_mem» .entry))) ⌝ }
+    ensures keeps { λ r. ⌜ Keeps (choice (now (table .entry))) (world state (now (buf .entry)) (now («slot_mem» .entry)) (now («queue_mem» .entry))) (committedBytes (world state (now (buf .entry)) (now («slot_mem» .entry)) (now («queue_mem» .entry))) commit) (result state r (now (buf .exit)) (now («slot_mem» .exit)) (now («queue_mem» .exit))) ⌝ }
+    ensures nothing_left { λ r. ⌜ NothingLeft (choice (now (table .entry))) (result state r (now (buf .exit)) (now («slot_mem» .exit)) (now («queue_mem» .exit))) ⌝ }
 {
     let room = buf.len();
     match judge(state, table, room, slot_mem.len(), queue_mem.len()) {
@@ -222,29 +111,18 @@ pub fn advance(
             if room - end < commit {
                 return Advanced::NoRoom;
             }
-            let slot = state.slot;
-            let queue = state.queue;
-            let committed = State {
-                end: end + commit,
-                slot: slot,
-                queue: queue,
-            };
-            match run(table, committed, buf, slot_mem, queue_mem) {
+            match run(
+                table,
+                state.with_end(end + commit),
+                buf,
+                slot_mem,
+                queue_mem,
+            ) {
                 Ran::Is(s) => Advanced::Is(s),
                 Ran::Full(s) => Advanced::Full(s),
             }
         }
     }
-}
-
-// How many of len bytes fit into the room.
-fn fitting(len: usize, room: usize) -> usize
-    ensures { λ r. ⌜ r ≡ min len room ⌝ }
-{
-    if room < len {
-        return room;
-    }
-    len
 }
 
 // How a copy, or a write, ends: the state that is left and the bytes taken; or with a notice that met a full queue.
@@ -263,22 +141,15 @@ fn write_once(
     queue_mem: &mut [u8],
 ) -> Wrote
     requires { ⌜ state .end ≤ length (now buf) ⌝ }
-    ensures { λ r. ⌜ writing r (now (buf .exit)) (now («slot_mem» .exit)) (now («queue_mem» .exit)) ≡ writeOnce (now (table .entry)) (now (bytes .entry)) (world state (now (buf .entry)) (now («slot_mem» .entry)) (now («queue_mem» .entry))) ⌝ }
+    ensures { λ r. ⌜ writing r (now (buf .exit)) (now («slot_mem» .exit)) (now («queue_mem» .exit)) ≡ writeOnce (choice (now (table .entry))) (now (bytes .entry)) (world state (now (buf .entry)) (now («slot_mem» .entry)) (now («queue_mem» .entry))) ⌝ }
 {
     let end = state.end;
-    let n = fitting(bytes.len(), buf.len() - end);
+    let n = turn::fitting(bytes.len(), buf.len() - end);
     if n == 0 {
         return Wrote::Is(state, 0);
     }
     moves::put(buf, end, &bytes[..n]);
-    let slot = state.slot;
-    let queue = state.queue;
-    let copied = State {
-        end: end + n,
-        slot: slot,
-        queue: queue,
-    };
-    match run(table, copied, buf, slot_mem, queue_mem) {
+    match run(table, state.with_end(end + n), buf, slot_mem, queue_mem) {
         Ran::Is(s) => Wrote::Is(s, n),
         Ran::Full(s) => Wrote::Full(s, n),
     }
@@ -294,7 +165,7 @@ fn write_on(
     queue_mem: &mut [u8],
 ) -> Wrote
     requires { ⌜ state .end ≤ length (now buf) ⌝ }
-    ensures { λ r. ⌜ writing r (now (buf .exit)) (now («slot_mem» .exit)) (now («queue_mem» .exit)) ≡ write (now (table .entry)) (now (piece .entry)) 0 (world state (now (buf .entry)) (now («slot_mem» .entry)) (now («queue_mem» .entry))) ⌝ }
+    ensures { λ r. ⌜ writing r (now (buf .exit)) (now («slot_mem» .exit)) (now («queue_mem» .exit)) ≡ writeOn (choice (now (table .entry))) (now (piece .entry)) 0 (world state (now (buf .entry)) (now («slot_mem» .entry)) (now («queue_mem» .entry))) ⌝ }
 {
     let mut s = state;
     let mut taken = 0;
@@ -334,9 +205,9 @@ pub fn write(
     slot_mem: &mut [u8],
     queue_mem: &mut [u8],
 ) -> Written
-    ensures { λ r. ⌜ taking state r (now (buf .exit)) (now («slot_mem» .exit)) (now («queue_mem» .exit)) ≡ written (now (table .entry)) (now (piece .entry)) (world state (now (buf .entry)) (now («slot_mem» .entry)) (now («queue_mem» .entry))) ⌝ }
-    ensures keeps { λ r. ⌜ Keeps (now (table .entry)) (world state (now (buf .entry)) (now («slot_mem» .entry)) (now («queue_mem» .entry))) (take (tookOf (bytesTaken r)) (now (piece .entry))) (taking state r (now (buf .exit)) (now («slot_mem» .exit)) (now («queue_mem» .exit))) ⌝ }
-    ensures nothing_left { λ r. ⌜ NothingAfter (now (table .entry)) (taking state r (now (buf .exit)) (now («slot_mem» .exit)) (now («queue_mem» .exit))) ⌝ }
+    ensures { λ r. ⌜ taking state r (now (buf .exit)) (now («slot_mem» .exit)) (now («queue_mem» .exit)) ≡ written (choice (now (table .entry))) (now (piece .entry)) (world state (now (buf .entry)) (now («slot_mem» .entry)) (now («queue_mem» .entry))) ⌝ }
+    ensures keeps { λ r. ⌜ Keeps (choice (now (table .entry))) (world state (now (buf .entry)) (now («slot_mem» .entry)) (now («queue_mem» .entry))) (take (tookOf (taking state r (now (buf .exit)) (now («slot_mem» .exit)) (now («queue_mem» .exit)) .said)) (now (piece .entry))) (taking state r (now (buf .exit)) (now («slot_mem» .exit)) (now («queue_mem» .exit))) ⌝ }
+    ensures nothing_left { λ r. ⌜ NothingAfter (choice (now (table .entry))) (taking state r (now (buf .exit)) (now («slot_mem» .exit)) (now («queue_mem» .exit))) ⌝ }
 {
     match judge(state, table, buf.len(), slot_mem.len(), queue_mem.len()) {
         Checks::TooLong => Written::TooLong,

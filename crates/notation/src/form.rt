@@ -1,7 +1,6 @@
 // The form of a line, and the state that it starts from where it has one.
-use super::LENGTH;
-use super::read;
-use super::read::Amount;
+use fields::Amount;
+use fields::LENGTH;
 
 // A written state. The slot holds an Ok.
 pub struct Start {
@@ -24,24 +23,24 @@ pub enum Form {
 
 // The number k of a written state.
 fn state_number(s: &[u8], k: usize, most: u32) -> Amount {
-    read::number(read::part_of(s, k, b','), most)
+    fields::number(fields::part_of(s, k, b','), most)
 }
 
-// END,SIGNALLED,LENGTH,SLOT-LOST,START,COUNT,QUEUE-LOST: the slot's part.
+// END,SIGNALLED,LENGTH,SLOT-LOST,START,COUNT,QUEUE-LOST: the end and the slot's part.
 fn started(s: &[u8]) -> Form {
-    if read::parts(s, b',') != 7 {
+    if fields::parts(s, b',') != 7 {
         return Form::Bad;
     }
-    let Amount::Is(end) = state_number(s, 0, read::MOST) else {
+    let Amount::Is(end) = state_number(s, 0, fields::MOST) else {
         return Form::Bad;
     };
     let Amount::Is(flag) = state_number(s, 1, 1) else {
         return Form::Bad;
     };
-    let Amount::Is(len) = state_number(s, 2, read::MOST) else {
+    let Amount::Is(len) = state_number(s, 2, fields::MOST) else {
         return Form::Bad;
     };
-    let Amount::Is(lost) = state_number(s, 3, read::MOST) else {
+    let Amount::Is(lost) = state_number(s, 3, fields::MOST) else {
         return Form::Bad;
     };
     queue_started(s, end as usize, flag == 1, len as usize, lost)
@@ -49,13 +48,13 @@ fn started(s: &[u8]) -> Form {
 
 // The rest of a written state.
 fn queue_started(s: &[u8], end: usize, signalled: bool, len: usize, slot_lost: u32) -> Form {
-    let Amount::Is(start) = state_number(s, 4, read::MOST) else {
+    let Amount::Is(start) = state_number(s, 4, fields::MOST) else {
         return Form::Bad;
     };
-    let Amount::Is(count) = state_number(s, 5, read::MOST) else {
+    let Amount::Is(count) = state_number(s, 5, fields::MOST) else {
         return Form::Bad;
     };
-    let Amount::Is(lost) = state_number(s, 6, read::MOST) else {
+    let Amount::Is(lost) = state_number(s, 6, fields::MOST) else {
         return Form::Bad;
     };
     Form::From(Start {
@@ -74,9 +73,9 @@ pub fn form_of(line: &[u8]) -> Form {
     if line.len() == LENGTH {
         return Form::Bad;
     }
-    let first = read::part_of(line, 0, b' ');
-    let n = read::parts(line, b' ');
-    if read::seek(first, 0, b',') < first.len() {
+    let first = fields::part_of(line, 0, b' ');
+    let n = fields::parts(line, b' ');
+    if fields::seek(first, 0, b',') < first.len() {
         if n == 6 {
             return started(first);
         }

@@ -1,5 +1,5 @@
-// The notation of the program compare, read and printed: lines in, one line of answer each. It is a harness and promises only that it doesn't trip;
-// what is answered is held to a file of another origin (tests/model.py).
+// The notation of the program compare: lines in, one line of answer each. The forms of a line and the ops of a script are read here, what they are made of
+// in `fields`; `say` prints. It is part of a harness and promises only that it doesn't trip; what is answered is held to a file of another origin (tests/model.py).
 //
 // A line has at most 65,535 bytes before its end, and its fields stand apart by one space. Blank lines and lines that begin with `#` are skipped.
 // A word or a comma in the first field tells the form of a line, else the number of its fields does. No form begins with a word as yet.
@@ -16,12 +16,4 @@
 // A digest case answers KIND NUMBER PLACE LENGTH CONSUMED, `-` for no number. The others answer a part for each op, each ended by `;`, a space, and the last
 // state. What doesn't read in this notation, or is over a limit, is answered `bad line`, and nothing of the line is done.
 pub mod form;
-pub mod input;
 pub mod op;
-pub mod read;
-pub mod say;
-
-// How long a memory of the harness is: one more than a line may be.
-pub const LENGTH: usize = 65536;
-
-pub type Memory = [u8; LENGTH];

@@ -1,9 +1,8 @@
 // The ops of a script, read.
-use super::Memory;
-use super::read;
-use super::read::Amount;
-use super::read::Filled;
 use answers::Kind;
+use fields::Amount;
+use fields::Filled;
+use fields::Memory;
 
 // An op. Its last number is how many bytes it has; they were read into the piece's memory.
 pub enum Op {
@@ -42,7 +41,7 @@ fn most(letter: u8) -> u32 {
     match letter {
         b'P' => 255,
         b'E' => 65535,
-        _ => read::MOST,
+        _ => fields::MOST,
     }
 }
 
@@ -76,16 +75,16 @@ fn takes_number(letter: u8) -> bool {
 
 // Reads an op, its bytes into the piece's memory.
 pub fn read_op(s: &[u8], piece: &mut Memory) -> Op {
-    let letter = read::byte_at(s, 0);
-    let rest = read::between(s, 1, s.len());
+    let letter = fields::byte_at(s, 0);
+    let rest = fields::between(s, 1, s.len());
     if takes_bytes(letter) {
-        return match read::data(rest, piece) {
+        return match fields::data(rest, piece) {
             Filled::Is(n) => op_of_bytes(letter, n),
             Filled::Bad => Op::Bad,
         };
     }
     if takes_number(letter) {
-        return match read::number(rest, most(letter)) {
+        return match fields::number(rest, most(letter)) {
             Amount::Is(n) => op_of_number(letter, n),
             Amount::Bad => Op::Bad,
         };
@@ -112,10 +111,10 @@ fn is_good(s: &[u8], piece: &mut Memory) -> bool {
 
 // How many ops a script has.
 pub fn count(ops: &[u8]) -> usize {
-    if read::is_none(ops) {
+    if fields::is_none(ops) {
         return 0;
     }
-    read::parts(ops, b';')
+    fields::parts(ops, b';')
 }
 
 // Does each op of a script read?
@@ -123,11 +122,11 @@ pub fn are_good(ops: &[u8], piece: &mut Memory) -> bool {
     let mut from = 0;
     let mut left = count(ops);
     while 0 < left {
-        let to = read::seek(ops, from, b';');
-        if !is_good(read::between(ops, from, to), piece) {
+        let to = fields::seek(ops, from, b';');
+        if !is_good(fields::between(ops, from, to), piece) {
             return false;
         }
-        from = read::plus(to, 1);
+        from = fields::plus(to, 1);
         left -= 1;
     }
     true

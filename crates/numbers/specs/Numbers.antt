@@ -1,7 +1,8 @@
 -- What each number of a lent array means: a state as nine numbers, and what a call answers at the front of an array of five.
-use mathlib.Core.List.{List, [], _∷_, _++_}
+use mathlib.Core.List.{List, [], _∷_}
 use Prim.Native.Nat.{ℕ, min}
 use lib.ListN.{getD}
+use lib.Seq.{sets}
 use lib.Dec.{ltb}
 use Rattle.outcome.specs.Outcome.{if_then_else_}
 use Rattle.answers.specs.declared.Kind.{Kind}
@@ -11,7 +12,7 @@ use Rattle.slot.specs.declared.Held.{Held}
 use Rattle.slot.specs.declared.Held.the-variants.{Heard, Capacity}
 use Rattle.slot.specs.declared.Slot.{Slot}
 use Rattle.queue.specs.declared.Queue.{Queue}
-use Rattle.ingress.specs.declared.State.{State}
+use Rattle.turn.specs.declared.State.{State}
 
 -- the number of each kind
 abbrev pub kindNumber : Kind → ℕ
@@ -86,23 +87,22 @@ slotNumbers x = (if x .signalled then 1 else 0) ∷ heldNumber (x .held) ∷ x .
 abbrev pub queueNumbers : Queue → List ℕ
 queueNumbers x = x .start ∷ x .count ∷ x .lost ∷ []
 
-abbrev pub stateNumbers : State → List ℕ
-stateNumbers s = s .end ∷ (slotNumbers (s .slot) ++ queueNumbers (s .queue))
-
--- the nine numbers with another end, another slot or another queue, the others as they stood
+-- the nine numbers with another end, another slot or another queue, the others as they stood; and with all three
 abbrev pub withEnd : List ℕ → ℕ → List ℕ
-withEnd v n = n ∷ getD v 1 0 ∷ getD v 2 0 ∷ getD v 3 0 ∷ getD v 4 0 ∷ getD v 5 0 ∷ getD v 6 0 ∷ getD v 7 0 ∷ getD v 8 0 ∷ []
+withEnd v n = sets v 0 (n ∷ [])
 
 abbrev pub withSlot : List ℕ → Slot → List ℕ
-withSlot v x = getD v 0 0 ∷ (slotNumbers x ++ (getD v 6 0 ∷ getD v 7 0 ∷ getD v 8 0 ∷ []))
+withSlot v x = sets v 1 (slotNumbers x)
 
 abbrev pub withQueue : List ℕ → Queue → List ℕ
-withQueue v x = getD v 0 0 ∷ getD v 1 0 ∷ getD v 2 0 ∷ getD v 3 0 ∷ getD v 4 0 ∷ getD v 5 0 ∷ queueNumbers x
+withQueue v x = sets v 6 (queueNumbers x)
 
--- The values v that a call answers stand at the front of the lent array of five; its other numbers stay as they were, with no value all of them.
+abbrev pub withState : List ℕ → State → List ℕ
+withState v s = withQueue (withSlot (withEnd v (s .end)) (s .slot)) (s .queue)
+
+-- The values v that a call answers stand at the front of the lent array; its other numbers stay as they were.
 abbrev pub laid : List ℕ → List ℕ → List ℕ
-laid [] o = o
-laid (x ∷ v) o = x ∷ getD v 0 (getD o 1 0) ∷ getD v 1 (getD o 2 0) ∷ getD v 2 (getD o 3 0) ∷ getD v 3 (getD o 4 0) ∷ []
+laid v o = sets o 0 v
 
 -- an answer of the digester: kind, number, place, length, bytes consumed
 abbrev pub answerValues : Answer → List ℕ

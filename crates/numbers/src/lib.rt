@@ -4,13 +4,13 @@ ghost use mathlib.Core.Path.{_≡_};
 ghost use mathlib.Core.List.{[], _∷_};
 ghost use Rattle.text.specs.Text.{partAt};
 ghost use Rattle.outcome.specs.Outcome.{if_then_else_};
-ghost use Rattle.numbers.specs.Numbers.{kindNumber, kindOf, word, heldNumber, heldOf, answerOf, slotOf, queueOf, stateOf, stateNumbers, withEnd, withSlot, withQueue, laid, answerValues};
+ghost use Rattle.numbers.specs.Numbers.{kindNumber, kindOf, word, heldNumber, heldOf, answerOf, slotOf, queueOf, stateOf, withEnd, withSlot, withQueue, withState, laid, answerValues};
 use answers::Answer;
 use answers::Kind;
-use ingress::State;
 use queue::Queue;
 use slot::Held;
 use slot::Slot;
+use turn::State;
 
 // How many numbers a call may answer, and how many a state has.
 pub const OUT: usize = 5;
@@ -22,22 +22,22 @@ pub const END: usize = 0;
 
 // of the slot, whether it is signalled (0: free), what it holds (0 to 13 a kind, 14 CapacityError), the answer's number,
 // the stored payload's length and the lost answers;
-pub const SIGNALLED: usize = 1;
+const SIGNALLED: usize = 1;
 
-pub const HELD: usize = 2;
+const HELD: usize = 2;
 
-pub const NUMBER: usize = 3;
+const NUMBER: usize = 3;
 
-pub const LEN: usize = 4;
+const LEN: usize = 4;
 
-pub const SLOT_LOST: usize = 5;
+const SLOT_LOST: usize = 5;
 
 // of the queue, the ring's start, how many records it holds and the lost notices.
-pub const START: usize = 6;
+const START: usize = 6;
 
-pub const COUNT: usize = 7;
+const COUNT: usize = 7;
 
-pub const QUEUE_LOST: usize = 8;
+const QUEUE_LOST: usize = 8;
 
 // The number of each kind.
 fn kind_number(kind: Kind) -> u64
@@ -176,18 +176,7 @@ pub fn state_of(state: &[u64; NUMBERS]) -> State
 pub fn put_end(state: &mut [u64; NUMBERS], end: usize)
     ensures { λ _. ⌜ now (state .exit) ≡ withEnd (now (state .entry)) end ⌝ }
 {
-    let end = end as u64;
-    *state = [
-        end,
-        state[SIGNALLED],
-        state[HELD],
-        state[NUMBER],
-        state[LEN],
-        state[SLOT_LOST],
-        state[START],
-        state[COUNT],
-        state[QUEUE_LOST],
-    ];
+    state[END] = end as u64;
 }
 
 // Another slot, the other numbers as they stood.
@@ -195,75 +184,54 @@ pub fn put_slot(state: &mut [u64; NUMBERS], x: Slot)
     ensures { λ _. ⌜ now (state .exit) ≡ withSlot (now (state .entry)) x ⌝ }
 {
     let held = x.held;
-    *state = [
-        state[END],
-        flag_number(x.signalled),
-        held_number(held),
-        x.number as u64,
-        x.len as u64,
-        x.lost as u64,
-        state[START],
-        state[COUNT],
-        state[QUEUE_LOST],
-    ];
+    state[SIGNALLED] = flag_number(x.signalled);
+    state[HELD] = held_number(held);
+    state[NUMBER] = x.number as u64;
+    state[LEN] = x.len as u64;
+    state[SLOT_LOST] = x.lost as u64;
 }
 
 // Another queue, the other numbers as they stood.
 pub fn put_queue(state: &mut [u64; NUMBERS], x: Queue)
     ensures { λ _. ⌜ now (state .exit) ≡ withQueue (now (state .entry)) x ⌝ }
 {
-    *state = [
-        state[END],
-        state[SIGNALLED],
-        state[HELD],
-        state[NUMBER],
-        state[LEN],
-        state[SLOT_LOST],
-        x.start as u64,
-        x.count as u64,
-        x.lost as u64,
-    ];
+    state[START] = x.start as u64;
+    state[COUNT] = x.count as u64;
+    state[QUEUE_LOST] = x.lost as u64;
 }
 
 // A state as its nine numbers.
 pub fn put_state(state: &mut [u64; NUMBERS], s: State)
-    ensures { λ _. ⌜ now (state .exit) ≡ stateNumbers s ⌝ }
+    ensures { λ _. ⌜ now (state .exit) ≡ withState (now (state .entry)) s ⌝ }
 {
-    let slot = s.slot;
-    let held = slot.held;
-    let queue = s.queue;
-    *state = [
-        s.end as u64,
-        flag_number(slot.signalled),
-        held_number(held),
-        slot.number as u64,
-        slot.len as u64,
-        slot.lost as u64,
-        queue.start as u64,
-        queue.count as u64,
-        queue.lost as u64,
-    ];
+    put_end(state, s.end);
+    put_slot(state, s.slot);
+    put_queue(state, s.queue);
 }
 
 // One number at the front of what a call answers.
 pub fn lay_one(out: &mut [u64; OUT], a: u64)
     ensures { λ _. ⌜ now (out .exit) ≡ laid (a ∷ []) (now (out .entry)) ⌝ }
 {
-    *out = [a, out[1], out[2], out[3], out[4]];
+    out[0] = a;
 }
 
 // Two numbers.
 pub fn lay_two(out: &mut [u64; OUT], a: u64, b: u64)
     ensures { λ _. ⌜ now (out .exit) ≡ laid (a ∷ b ∷ []) (now (out .entry)) ⌝ }
 {
-    *out = [a, b, out[2], out[3], out[4]];
+    out[0] = a;
+    out[1] = b;
 }
 
 // Four numbers.
 pub fn lay_four(out: &mut [u64; OUT], a: u64, b: u64, c: u64, d: u64)
     ensures { λ _. ⌜ now (out .exit) ≡ laid (a ∷ b ∷ c ∷ d ∷ []) (now (out .entry)) ⌝ }
 {
-    *out = [a, b, c, d, out[4]];
+    out[0] = a;
+    out[1] = b;
+    out[2] = c;
+    out[3] = d;
 }
 
 // An answer of the digester: kind, number, place, length, bytes consumed.
@@ -271,13 +239,11 @@ pub fn lay_answer(out: &mut [u64; OUT], a: Answer)
     ensures { λ _. ⌜ now (out .exit) ≡ laid (answerValues a) (now (out .entry)) ⌝ }
 {
     let kind = a.kind;
-    *out = [
-        kind_number(kind),
-        a.number as u64,
-        a.place as u64,
-        a.len as u64,
-        a.consumed as u64,
-    ];
+    out[0] = kind_number(kind);
+    out[1] = a.number as u64;
+    out[2] = a.place as u64;
+    out[3] = a.len as u64;
+    out[4] = a.consumed as u64;
 }
 
 // Where a part of a memory begins: at its place, or at the front where it doesn't fit.

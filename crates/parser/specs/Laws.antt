@@ -25,21 +25,23 @@ use Rattle.parser.specs.declared.Numeric.{Numeric}
 use Rattle.parser.specs.declared.Numeric.the-variants as numeric
 use Rattle.parser.specs.declared.Notice.the-variants as notice
 use Rattle.lines.specs.Lines.{crlf}
-use Rattle.parser.specs.Parser.{pick, lineEnding, isDigit, valueAfter, value, atMost, digitsAt, ifEnded, endedRun, tailAt, ifHead, numericAt, atFound, numericError, customPrompt, wrapped, breaksOff, through, ifColon, ifBare, unlessBroken, noticeText, afterEnding, noticeAt}
+use Rattle.outcome.specs.Outcome.{if_then_else_}
+use Rattle.outcome.specs.Laws.{ways}
+use Rattle.parser.specs.Parser.{lineEnding, isDigit, value, digitsAt, endedRun, tailAt, numericAt, atFound, numericError, customPrompt, wrapped, breaksOff, through, noticeText, afterEnding, noticeAt}
 
 -- `lineEnding`
 module _ (s : List ℕ) (p : ℕ) where
   pub ending-lf : stands (bytes "\n") s p ≡ true → 1 ≡ lineEnding s p
-  unfolding lineEnding pick
+  unfolding lineEnding
   ending-lf h = rw h
 
   module _ (g : stands (bytes "\n") s p ≡ false) where
     pub ending-crlf : stands crlf s p ≡ true → 2 ≡ lineEnding s p
-    unfolding lineEnding pick
+    unfolding lineEnding
     ending-crlf h = rw (g, h)
 
     pub ending-none : stands crlf s p ≡ false → 0 ≡ lineEnding s p
-    unfolding lineEnding pick
+    unfolding lineEnding
     ending-none h = rw (g, h)
 
   -- a line ending lies in the list
@@ -47,10 +49,10 @@ module _ (s : List ℕ) (p : ℕ) where
   unfolding lineEnding
   ending-fits h = go (stands (bytes "\n") s p) refl (stands crlf s p) refl h
     where
-      go : (a : Bool) → stands (bytes "\n") s p ≡ a → (b : Bool) → stands crlf s p ≡ b → 0 < pick a 1 (pick b 2 0) → p + pick a 1 (pick b 2 0) ≤ length s
-      go true e b f l = unfold pick in stands-fits (bytes "\n") s p (omega arith) e
-      go false e true f l = unfold pick in stands-fits crlf s p (omega arith) f
-      go false e false f l = absurd (unfold pick in omega arith)
+      go : (a : Bool) → stands (bytes "\n") s p ≡ a → (b : Bool) → stands crlf s p ≡ b → 0 < (if a then 1 else if b then 2 else 0) → p + (if a then 1 else if b then 2 else 0) ≤ length s
+      go true e b f l = stands-fits (bytes "\n") s p (omega arith) e
+      go false e true f l = stands-fits crlf s p (omega arith) f
+      go false e false f l = absurd (omega arith)
 
 -- `isDigit` and the run of digits
 pub digit-low : (b : ℕ) → b < 48 → false ≡ isDigit b
@@ -67,26 +69,21 @@ digit-bounds b e = let w = and-both (leb 48 b) (leb b 57) e in (leb-true 48 b (w
 
 module _ (s : List ℕ) (i a : ℕ) where
   value-more : i < length s → isDigit (getD s i 0) ≡ true → value a (drop i s) ≡ value (a * 10 + (getD s i 0 - 48)) (drop (i + 1) s)
-  unfolding value valueAfter
+  unfolding value
   value-more h e = rw (add-one, drop-cons s i 0 h, e)
 
   value-stop : i < length s → isDigit (getD s i 0) ≡ false → value a (drop i s) ≡ a
-  unfolding value valueAfter
+  unfolding value
   value-stop h e = rw (drop-cons s i 0 h, e)
 
   value-end : length s ≤ i → value a (drop i s) ≡ a
   unfolding value
   value-end h = rw (drop-of-length-le s h)
 
-grows-after : (b : Bool) (a r : ℕ) → a ≤ r → a ≤ valueAfter b a r
-unfolding valueAfter
-grows-after true a r h = h
-grows-after false a r h = omega arith
-
 value-grows : (a : ℕ) (s : List ℕ) → a ≤ value a s
 unfolding value
 value-grows a [] = omega arith
-value-grows a (x ∷ s) = grows-after (isDigit x) a (value (a * 10 + (x - 48)) s) (omega (arith, value-grows (a * 10 + (x - 48)) s))
+value-grows a (x ∷ s) = ways (λ n. a ≤ n) (isDigit x) (λ e. omega (arith, value-grows (a * 10 + (x - 48)) s)) (λ e. omega arith)
 
 -- the loop of `digits_at`: the digits from p up to i have the value a
 pub record Sofar (s : List ℕ) (p i a : ℕ) : Type 0 where
@@ -99,7 +96,7 @@ sofar-none s p = record { small = omega arith; digits = refl; is = refl }
 
 module _ (s : List ℕ) (p i a : ℕ) (w : Sofar s p i a) where
   run-is : past isDigit s i ≡ i → value a (drop i s) ≡ a → Value a i ≡ digitsAt s p
-  unfolding digitsAt atMost
+  unfolding digitsAt
   run-is h g = rw (w .is ∙ g, w .digits ∙ h, le-leb a 65535 (w .small))
 
   pub run-end : length s ≤ i → Value a i ≡ digitsAt s p
@@ -114,7 +111,7 @@ module _ (s : List ℕ) (p i a : ℕ) (w : Sofar s p i a) where
       value-on = rw v (w .is ∙ value-more s i a h d)
 
       pub run-large : 65535 < a * 10 + (x - 48) → TooLarge ≡ digitsAt s p
-      unfolding digitsAt atMost
+      unfolding digitsAt
       run-large g = rw (lt-leb (value 0 (drop p s)) 65535 (omega (arith, value-on, value-grows (a * 10 + (x - 48)) (drop (i + 1) s))))
 
       pub run-more : a * 10 + (x - 48) ≤ 65535 → Sofar s p (i + 1) (a * 10 + (x - 48))
@@ -131,34 +128,31 @@ module _ (s : List ℕ) (p a : ℕ) (u : a ≡ past (isBlank blanks.Run) s p) (r
   tail-large e = rw e at at-run
 
   module _ (v b : ℕ) (e : r ≡ Value v b) where
-    at-value : ifEnded (ltb a b && ltb 0 (lineEnding s b)) (record { code = v; start = a; stop = b; end = b + lineEnding s b }) ≡ tailAt s p
+    at-value : (if ltb a b && ltb 0 (lineEnding s b) then numeric.Is (record { code = v; start = a; stop = b; end = b + lineEnding s b }) else numeric.Nothing) ≡ tailAt s p
     unfolding endedRun
     at-value = rw e at at-run
 
     pub tail-bare : b ≤ a → numeric.Nothing ≡ tailAt s p
-    unfolding ifEnded
     tail-bare h = rw (le-ltb a b h) at at-value
 
     module _ (h : a < b) (n : ℕ) (w : n ≡ lineEnding s b) where
-      at-ending : ifEnded (ltb 0 n) (record { code = v; start = a; stop = b; end = b + n }) ≡ tailAt s p
+      at-ending : (if ltb 0 n then numeric.Is (record { code = v; start = a; stop = b; end = b + n }) else numeric.Nothing) ≡ tailAt s p
       at-ending = rw w (rw (lt-ltb a b h) at at-value)
 
       pub tail-open : n ≡ 0 → numeric.Nothing ≡ tailAt s p
-      unfolding ifEnded
       tail-open z = rw z at at-ending
 
       pub tail-is : (n ≡ 0 → ⊥) → numeric.Is (record { code = v; start = a; stop = b; end = b + n }) ≡ tailAt s p
-      unfolding ifEnded
       tail-is z = rw (lt-ltb 0 n (omega arith)) at at-ending
 
 -- `numericAt`
 module _ (h s : List ℕ) where
   pub numeric-off : (p : ℕ) → stands h s p ≡ false → numeric.Nothing ≡ numericAt h s p
-  unfolding numericAt ifHead
+  unfolding numericAt
   numeric-off p e = rw e
 
   pub numeric-tail : (p : ℕ) → stands h s p ≡ true → tailAt s (p + length h) ≡ numericAt h s p
-  unfolding numericAt ifHead
+  unfolding numericAt
   numeric-tail p e = rw e
 
 -- custom prompts
@@ -241,38 +235,35 @@ module _ (x s : List ℕ) (k : ℕ) where
 -- the ways out of `notice_text`
 module _ (x s : List ℕ) (k : ℕ) where
   pub text-broken : breaksOff x s k ≡ true → notice.Unfinished ≡ noticeText x s k
-  unfolding noticeText unlessBroken
+  unfolding noticeText
   text-broken e = rw e
 
   module _ (u : breaksOff x s k ≡ false) where
-    whole : ifBare (stands x s k && stands crlf s (k + length x)) (k + length x + 2) (ifColon (stands x s k && stands (bytes ":") s (k + length x)) (through (findIn crlf s (k + length x + 1)))) ≡ noticeText x s k
-    unfolding noticeText unlessBroken
+    whole : (if stands x s k && stands crlf s (k + length x) then notice.Ended (k + length x + 2) else if stands x s k && stands (bytes ":") s (k + length x) then through (findIn crlf s (k + length x + 1)) else notice.Nothing) ≡ noticeText x s k
+    unfolding noticeText
     whole = rw (u, stands-append x crlf s k, stands-append x (bytes ":") s k)
 
     pub text-off : stands x s k ≡ false → notice.Nothing ≡ noticeText x s k
-    unfolding ifBare ifColon
     text-off e = rw e at whole
 
     module _ (w : stands x s k ≡ true) where
-      behind : ifBare (stands crlf s (k + length x)) (k + length x + 2) (ifColon (stands (bytes ":") s (k + length x)) (through (findIn crlf s (k + length x + 1)))) ≡ noticeText x s k
+      behind : (if stands crlf s (k + length x) then notice.Ended (k + length x + 2) else if stands (bytes ":") s (k + length x) then through (findIn crlf s (k + length x + 1)) else notice.Nothing) ≡ noticeText x s k
       behind = rw w at whole
 
       pub text-bare : stands crlf s (k + length x) ≡ true → notice.Ended (k + length x + 2) ≡ noticeText x s k
-      unfolding ifBare
       text-bare e = rw e at behind
 
       module _ (v : stands crlf s (k + length x) ≡ false) where
         pub text-other : stands (bytes ":") s (k + length x) ≡ false → notice.Nothing ≡ noticeText x s k
-        unfolding ifBare ifColon
         text-other e = rw (v, e) at behind
 
         module _ (z : stands (bytes ":") s (k + length x) ≡ true) (r : Found) (q : r ≡ findIn crlf s (k + length x + 1)) where
           pub text-through : (p : ℕ) → r ≡ At p → notice.Ended (p + 2) ≡ noticeText x s k
-          unfolding ifBare ifColon through
+          unfolding through
           text-through p e = ap through (sym e ∙ q) ∙ (rw (v, z) at behind)
 
           pub text-open : r ≡ Nothing → notice.Nothing ≡ noticeText x s k
-          unfolding ifBare ifColon through
+          unfolding through
           text-open e = ap through (sym e ∙ q) ∙ (rw (v, z) at behind)
 
 -- `noticeAt`
@@ -290,8 +281,8 @@ module _ (x s : List ℕ) (p n : ℕ) (q : n ≡ lineEnding s p) where
       go (suc m) y = unfold afterEnding in refl
 
 -- a notice lies in the input, from its place on
-ended-bounds : (x s : List ℕ) (k : ℕ) (b c : Bool) (r : Found) → stands (x ++ crlf) s k ≡ b → findIn crlf s (k + length x + 1) ≡ r → (end : ℕ) → ifBare b (k + length x + 2) (ifColon c (through r)) ≡ notice.Ended end → (k ≤ end) × (end ≤ length s)
-unfolding ifBare ifColon through
+ended-bounds : (x s : List ℕ) (k : ℕ) (b c : Bool) (r : Found) → stands (x ++ crlf) s k ≡ b → findIn crlf s (k + length x + 1) ≡ r → (end : ℕ) → (if b then notice.Ended (k + length x + 2) else if c then through r else notice.Nothing) ≡ notice.Ended end → (k ≤ end) × (end ≤ length s)
+unfolding through
 ended-bounds x s k true c r e f end h =
     let g = stands-fits (x ++ crlf) s k (omega (arith, length-append x crlf)) e in
     let q : k + length x + 2 ≡ end = cc in
@@ -303,8 +294,7 @@ ended-bounds x s k false true (At q) e f end h =
 ended-bounds x s k false true Nothing e f end h = let z : _≡_ {A = ℕ} 0 1 = cc in absurd (omega arith)
 ended-bounds x s k false false r e f end h = let z : _≡_ {A = ℕ} 0 1 = cc in absurd (omega arith)
 
-unbroken-bounds : (x s : List ℕ) (k : ℕ) (a : Bool) (end : ℕ) → unlessBroken a (ifBare (stands (x ++ crlf) s k) (k + length x + 2) (ifColon (stands (x ++ bytes ":") s k) (through (findIn crlf s (k + length x + 1))))) ≡ notice.Ended end → (k ≤ end) × (end ≤ length s)
-unfolding unlessBroken
+unbroken-bounds : (x s : List ℕ) (k : ℕ) (a : Bool) (end : ℕ) → (if a then notice.Unfinished else if stands (x ++ crlf) s k then notice.Ended (k + length x + 2) else if stands (x ++ bytes ":") s k then through (findIn crlf s (k + length x + 1)) else notice.Nothing) ≡ notice.Ended end → (k ≤ end) × (end ≤ length s)
 unbroken-bounds x s k true end h = let z : _≡_ {A = ℕ} 0 1 = cc in absurd (omega arith)
 unbroken-bounds x s k false end h = ended-bounds x s k (stands (x ++ crlf) s k) (stands (x ++ bytes ":") s k) (findIn crlf s (k + length x + 1)) refl refl end h
 
@@ -320,8 +310,7 @@ unfolding noticeAt
 notice-bounds x s p end h = opened-bounds (lineEnding s p) x s p end h
 
 -- a numeric error lies in the input
-ended-end : (s : List ℕ) (a v b : ℕ) (c : Bool) → (c ≡ true → 0 < lineEnding s b) → (d : Digits) → ifEnded c (record { code = v; start = a; stop = b; end = b + lineEnding s b }) ≡ numeric.Is d → d .end ≤ length s
-unfolding ifEnded
+ended-end : (s : List ℕ) (a v b : ℕ) (c : Bool) → (c ≡ true → 0 < lineEnding s b) → (d : Digits) → (if c then numeric.Is (record { code = v; start = a; stop = b; end = b + lineEnding s b }) else numeric.Nothing) ≡ numeric.Is d → d .end ≤ length s
 ended-end s a v b true h d e =
     let q : b + lineEnding s b ≡ d .end = ap endOf e in
     omega (arith, ending-fits s b (h refl))
@@ -336,8 +325,8 @@ unfolding endedRun
 run-bounds s a (Value v b) d e = ended-end s a v b (ltb a b && ltb 0 (lineEnding s b)) (λ h. ltb-true 0 (lineEnding s b) (and-both (ltb a b) (ltb 0 (lineEnding s b)) h .1)) d e
 run-bounds s a TooLarge d e = let z : _≡_ {A = ℕ} 0 1 = cc in absurd (omega arith)
 
-numeric-bounds : (h s : List ℕ) (p : ℕ) (b : Bool) (d : Digits) → ifHead b (tailAt s (p + length h)) ≡ numeric.Is d → d .end ≤ length s
-unfolding ifHead tailAt
+numeric-bounds : (h s : List ℕ) (p : ℕ) (b : Bool) (d : Digits) → (if b then tailAt s (p + length h) else numeric.Nothing) ≡ numeric.Is d → d .end ≤ length s
+unfolding tailAt
 numeric-bounds h s p true d e = run-bounds s (past (isBlank blanks.Run) s (p + length h)) (digitsAt s (past (isBlank blanks.Run) s (p + length h))) d e
 numeric-bounds h s p false d e = let z : _≡_ {A = ℕ} 0 1 = cc in absurd (omega arith)
 

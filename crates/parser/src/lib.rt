@@ -1,5 +1,5 @@
 // What may stand at a place of the buffer, one function for each form: the numeric errors, the prompts, the custom lines and the notices.
-// Named after the functions of atat's `parser` module; the order in which the forms are tried is the digester's.
+// They answer by places what atat's `parser` module reads with nom; the order in which the forms are tried is the digester's.
 // Every function is total: a place past the end holds nothing, and an empty text has a stated answer.
 ghost use mathlib.Core.Path.{_≡_};
 ghost use mathlib.Core.List.{[], _∷_};
@@ -79,7 +79,7 @@ pub enum Numeric {
 }
 
 // The rest of a numeric error behind its head: run blanks, the digits, LF or CRLF.
-pub fn tail_at(buf: &[u8], place: usize) -> Numeric
+fn tail_at(buf: &[u8], place: usize) -> Numeric
     ensures { λ r. ⌜ r ≡ tailAt (now (buf .entry)) place ⌝ }
 {
     let start = text::skip(Blanks::Run, buf, place);
@@ -139,7 +139,7 @@ pub fn custom_prompt(buf: &[u8], from: usize, x: &[u8]) -> bool
 }
 
 // A custom line: do CRLF, the text and CRLF stand in buf at `place`?
-pub fn custom_at(buf: &[u8], place: usize, x: &[u8]) -> bool
+fn custom_at(buf: &[u8], place: usize, x: &[u8]) -> bool
     ensures { λ r. ⌜ r ≡ stands (wrapped (now (x .entry))) (now (buf .entry)) place ⌝ }
 {
     if !text::matches_at(buf, place, &lines::CRLF) {
@@ -174,7 +174,7 @@ pub enum Notice {
     Nothing,
 }
 
-// Does the input break off at or after `at`, which is not past its end, within the text and one CR?
+// Does the input end before or inside the text that is to stand at `at`, right after it, or after it and one CR?
 fn breaks_off(buf: &[u8], at: usize, x: &[u8]) -> bool
     ensures { λ r. ⌜ r ≡ breaksOff (now (x .entry)) (now (buf .entry)) at ⌝ }
 {

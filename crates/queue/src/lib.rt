@@ -6,13 +6,13 @@ ghost use Prim.Native.Nat.{_≤_, _<_};
 ghost use Rattle.queue.specs.Queue.{ours, capacityOf, startIn, inBounds, ringPlace, newQueue, lostOne, after, putInto, outcome, taken, taking};
 
 // How long a record is, how much of that its head, how long the longest payload, and how many records there are at most.
-pub const RECORD: usize = 132;
+const RECORD: usize = 132;
 
-pub const HEAD: usize = 4;
+const HEAD: usize = 4;
 
-pub const LONGEST: usize = 128;
+const LONGEST: usize = 128;
 
-pub const MOST: usize = 16;
+const MOST: usize = 16;
 
 // The ring: where it starts, how many records it holds, and how many notices were lost.
 pub struct Queue {

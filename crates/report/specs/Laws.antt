@@ -1,93 +1,44 @@
--- Laws of the report: texts one after the other, how long they are, and the loops over digits, bytes and lines.
+-- Laws of the report: how long its texts are, and the loop over steps.
 use mathlib.Core.Path.{_≡_, refl, sym, ap, _∙_}
-use mathlib.Core.Logic.{inr}
 use mathlib.Core.Bool.{Bool, true, false}
 use mathlib.Core.List.{List, [], _∷_, _++_, append-nil, append-assoc}
-use Prim.Native.Nat.{ℕ, zero, suc, _+_, _-_, _*_, _/_, _%_, _≤_, _<_}
+use Prim.Native.Nat.{ℕ, _+_, _-_, _*_, _≤_, _<_}
 use native.Mathlib.Omega.{arith}
-use lib.ListN.{length, getD, take, drop, set, length-append, length-drop, length-set, take-append-drop, drop-of-length-le}
-use lib.Seq.{take-all, take-suc, drop-cons, drop-drop, drop-set-lt, getD-set-same, length-take-le}
+use lib.ListN.{length, drop, length-append, length-drop}
+use lib.Seq.{length-take-le}
 use lib.Dec.{leb}
-use borrow.Author.Tests.{le-leb, lt-leb, lt-ltb, le-ltb, leb-true, leb-false}
-use Rattle.outcome.specs.Outcome.{if_then_else_}
-use Rattle.outcome.specs.Laws.{ways, same-way}
+use borrow.Author.Tests.{lt-ltb, le-ltb, leb-true, leb-false}
+use Rattle.outcome.specs.Laws.{ways}
 use Rattle.text.specs.Bytes.{bytes}
 use Rattle.text.specs.Text.{partOf}
 use Rattle.text.specs.Laws.{part-is, part-none}
-use Rattle.moves.specs.Moves.{put}
-use Rattle.moves.specs.Laws.{put-is, put-length, put-held, put-elsewhere}
+use Rattle.ink.specs.Ink.{Ink, inked, ink, decimal, hex}
+use Rattle.ink.specs.Laws.{ink-none, ink-at, then-ink, decimal-length, hex-length}
 use Rattle.answers.specs.declared.Kind.{Kind}
 use Rattle.answers.specs.declared.Kind.the-variants as kind
 use Rattle.answers.specs.declared.Answer.{Answer}
 use Rattle.answers.specs.Answer.{Number, none, number, numberOf, isFound}
-use Rattle.digest.specs.Digest.{digestChecked}
-use Rattle.digest.specs.Theorem.{checked-inside, checked-within}
+use Rattle.digest.specs.Calls.{checked-inside}
+use Rattle.steps.specs.declared.Step.{Step}
+use Rattle.steps.specs.declared.Stepped.the-variants.{Is, End}
+use Rattle.steps.specs.Steps.{stepsFrom, steps, firstOf, eaten}
+use Rattle.steps.specs.Laws.{Begins, Run, steps-run, steps-more, at-end, at-step, step-within, eaten-within}
 use Rattle.report.specs.declared.Drawn.{Drawn}
 use Rattle.report.specs.declared.Reported.{Reported}
 use Rattle.report.specs.declared.Reported.the-variants as saying
-use Rattle.report.specs.Report.{Ink, inked, ink, decimalBy, decimal, hexDigit, hex, nameOf, numberText, payloadText, valueOf, lineOf, Lines, linesBy, lines, whole, textOf, Drawing, drawn, draw, Reporting, is, short, report, reported}
-
--- no text
-pub ink-none : (o : List ℕ) (n : ℕ) → n ≤ length o → inked o n ≡ ink o n []
-ink-none o n h =
-    let e : n ≡ n + 0 = omega arith in
-    let p : o ≡ put o n [] = sym (ap (λ (l : List ℕ). l ++ drop (n + 0) o) (append-nil (take n o)) ∙ ap (λ (k : ℕ). take n o ++ drop k o) (sym e) ∙ take-append-drop n o) ∙ put-is o n [] (omega arith) in
-    λ i. inked (p i) (e i)
-
--- one text after another
-put-put : (o : List ℕ) (n : ℕ) (p q : List ℕ) → n + length p + length q ≤ length o → put (put o n p) (n + length p) q ≡ put o n (p ++ q)
-put-put o n p q h =
-    let l = put-length o n p in
-    let a = length-append p q in
-    let d : drop (n + length p + length q) (put o n p) ≡ drop (n + length p + length q) o =
-    sym (take-all (length o) (drop (n + length p + length q) (put o n p)) (rw length-drop (omega arith)))
-    ∙ put-elsewhere o n p (n + length p + length q) (length o) (inr (omega arith))
-    ∙ take-all (length o) (drop (n + length p + length q) o) (rw length-drop (omega arith)) in
-    let k : n + length p + length q ≡ n + length (p ++ q) = omega arith in
-    sym (put-is (put o n p) (n + length p) q (omega arith))
-    ∙ (λ i. put-held o n p (omega arith) i ++ q ++ d i)
-    ∙ ap (λ (x : ℕ). take n o ++ p ++ q ++ drop x o) k
-    ∙ ap (λ (x : List ℕ). x ++ drop (n + length (p ++ q)) o) (append-assoc (take n o) p q)
-    ∙ put-is o n (p ++ q) (omega arith)
-
-pub ink-more : (o : List ℕ) (n : ℕ) (p q : List ℕ) → n + length p + length q ≤ length o → ink (put o n p) (n + length p) q ≡ ink o n (p ++ q)
-ink-more o n p q h =
-    let k : n + length p + length q ≡ n + length (p ++ q) = omega (arith, length-append p q) in
-    λ i. inked (put-put o n p q h i) (k i)
-
--- what is inked after what was inked
-pub then-ink : (o : List ℕ) (n : ℕ) (p q o′ : List ℕ) (n′ : ℕ) (r : Ink) → inked o′ n′ ≡ ink o n p → r ≡ ink o′ n′ q → n + length p + length q ≤ length o → r ≡ ink o n (p ++ q)
-then-ink o n p q o′ n′ r e f h = f ∙ ap (λ (x : Ink). ink (x .out) (x .at) q) e ∙ ink-more o n p q h
-
-pub same-text : (r : Ink) (o : List ℕ) (n : ℕ) (p q : List ℕ) → r ≡ ink o n p → p ≡ q → r ≡ ink o n q
-same-text r o n p q e f = e ∙ ap (ink o n) f
+use Rattle.report.specs.Report.{nameOf, numberText, payloadText, valueOf, lineOf, lines, textOf, Drawing, drawn, draw, Reporting, is, short, report, reported}
 
 -- how long the texts are
-decimal-by-length : (f n : ℕ) → length (decimalBy f n) ≤ f
-unfolding decimalBy
-decimal-by-length zero n = omega arith
-decimal-by-length (suc f) n =
-    ways (λ r. length (r ++ ((48 + n % 10) ∷ [])) ≤ suc f) (leb 1 (n / 10)) (λ q. let h = decimal-by-length f (n / 10) in rw length-append (omega arith)) (λ q. omega arith)
-
-pub decimal-length : (n : ℕ) → length (decimal n) ≤ 20
-unfolding decimal
-decimal-length n = decimal-by-length 20 n
-
-pub hex-length : (p : List ℕ) → length (hex p) ≡ 2 * length p
-unfolding hex
-hex-length [] = refl
-hex-length (b ∷ p) = let e = hex-length p in omega arith
-
-pub payload-length : (p : List ℕ) → length (payloadText p) ≤ 1 + 2 * length p
+payload-length : (p : List ℕ) → length (payloadText p) ≤ 1 + 2 * length p
 unfolding payloadText
 payload-length [] = omega arith
 payload-length (b ∷ p) = let e = hex-length (b ∷ p) in omega arith
 
-pub value-length : (m : Number) (p : List ℕ) → length (valueOf m p) ≤ 21 + 2 * length p
+value-length : (m : Number) (p : List ℕ) → length (valueOf m p) ≤ 21 + 2 * length p
 value-length none p = omega (arith, payload-length p)
 value-length (number n) p = omega (arith, decimal-length n)
 
-pub name-length : (k : Kind) → length (nameOf k) ≤ 11
+name-length : (k : Kind) → length (nameOf k) ≤ 11
 name-length kind.None = omega arith
 name-length kind.Ok = omega arith
 name-length kind.Prompt = omega arith
@@ -103,113 +54,11 @@ name-length kind.NoDialtone = omega arith
 name-length kind.Custom = omega arith
 name-length kind.Notice = omega arith
 
--- the digits: what is to be written of n is what is to be written of m, before the digits that stand from k on
-pub record Counting (n : ℕ) (d₀ : List ℕ) (d : List ℕ) (k m : ℕ) : Type 0 where
-  pub same : decimal n ≡ decimalBy k m ++ drop k d
-  pub within : k ≤ 20
-  pub long : length d ≡ length d₀
-  pub twenty : length d₀ ≡ 20
-
-drop-set : (d : List ℕ) (k x : ℕ) → k < length d → drop k (set d k x) ≡ x ∷ drop (k + 1) d
-drop-set d k x h =
-    let l : k < length (set d k x) = rw length-set h in
-    let e : suc k ≡ k + 1 = omega arith in
-    drop-cons (set d k x) k 0 l ∙ (λ i. getD-set-same d k x 0 h i ∷ drop-set-lt (suc k) d k x (omega arith) i) ∙ ap (λ (j : ℕ). x ∷ drop j d) e
-
-module _ (n : ℕ) (d₀ d : List ℕ) (k m : ℕ) (c : Counting n d₀ d (k + 1) m) where
-  at-digit : decimal n ≡ (if leb 1 (m / 10) then decimalBy k (m / 10) else []) ++ ((48 + m % 10) ∷ []) ++ drop (k + 1) d
-  unfolding decimalBy
-  at-digit = let e : k + 1 ≡ suc k = omega arith in c .same ∙ ap (λ (j : ℕ). decimalBy j m ++ drop (k + 1) d) e
-
-  module _ (x : ℕ) (v : x ≡ 48 + m % 10) where
-    pub digit-last : m / 10 ≡ 0 → drop k (set d k x) ≡ decimal n
-    digit-last z =
-        drop-set d k x (omega (arith, c .within, c .long, c .twenty)) ∙ ap (λ (y : ℕ). y ∷ drop (k + 1) d) v ∙ sym (at-digit ∙ rw (lt-leb 1 (m / 10) (omega arith)))
-
-    pub digit-more : (m / 10 ≡ 0 → ⊥) → Counting n d₀ (set d k x) k (m / 10)
-    digit-more z =
-        record {
-          same =
-              at-digit
-              ∙ rw (le-leb 1 (m / 10) (omega arith)) (append-assoc (decimalBy k (m / 10)) ((48 + m % 10) ∷ []) (drop (k + 1) d)
-              ∙ ap (λ (y : List ℕ). decimalBy k (m / 10) ++ y) (sym (drop-set d k x (omega (arith, c .within, c .long, c .twenty)) ∙ ap (λ (y : ℕ). y ∷ drop (k + 1) d) v)));
-          within = omega (arith, c .within);
-          long = rw length-set (c .long);
-          twenty = c .twenty;
-        }
-
-pub digits-start : (n : ℕ) (d : List ℕ) → length d ≡ 20 → Counting n d d 20 n
-unfolding decimal
-digits-start n d h =
-    record {
-      same = sym (append-nil (decimalBy 20 n)) ∙ ap (λ (y : List ℕ). decimalBy 20 n ++ y) (sym (drop-of-length-le d {i = 20} (omega arith)));
-      within = omega arith;
-      long = refl;
-      twenty = h;
-    }
-
-pub digits-end : (n : ℕ) (d₀ d : List ℕ) (k m : ℕ) → Counting n d₀ d k m → k ≤ 0 → drop k d ≡ decimal n
-unfolding decimalBy
-digits-end n d₀ d k m c h = let z : k ≡ 0 = omega arith in sym (c .same ∙ ap (λ (j : ℕ). decimalBy j m ++ drop k d) z)
-
-pub digits-text : (d : List ℕ) (k n : ℕ) → length d ≡ 20 → drop k d ≡ decimal n → take (20 - k) (drop k d) ≡ decimal n
-digits-text d k n l e = take-all (20 - k) (drop k d) (rw length-drop (omega arith)) ∙ e
-
--- hexadecimal: one byte more
-hex-append : (p q : List ℕ) → hex (p ++ q) ≡ hex p ++ hex q
-unfolding hex
-hex-append [] q = refl
-hex-append (b ∷ p) q = ap (λ (r : List ℕ). hexDigit (b / 16) ∷ hexDigit (b % 16) ∷ r) (hex-append p q)
-
-pub hex-below : (n : ℕ) → n < 10 → 48 + n ≡ hexDigit n
-unfolding hexDigit
-hex-below n h = rw (lt-ltb n 10 h)
-
-pub hex-above : (n : ℕ) → 10 ≤ n → 55 + n ≡ hexDigit n
-unfolding hexDigit
-hex-above n h = rw (le-ltb n 10 h)
-
-pub record Hexing (p : List ℕ) (o₀ : List ℕ) (at : ℕ) (o : List ℕ) (i n : ℕ) : Type 0 where
-  pub same : inked o n ≡ ink o₀ at (hex (take i p))
-  pub within : i ≤ length p
-  pub room : at + 2 * length p ≤ length o₀
-  pub long : length o ≡ length o₀
-
-module _ (p o₀ : List ℕ) (at : ℕ) (o : List ℕ) (i n : ℕ) (c : Hexing p o₀ at o i n) where
-  taken-length : length (hex (take i p)) ≡ 2 * i
-  taken-length = omega (arith, hex-length (take i p), length-take-le i p (c .within))
-
-  hexing-at : n ≡ at + 2 * i
-  hexing-at = ap (λ (x : Ink). x .at) (c .same) ∙ (let e = taken-length in omega arith)
-
-  pub hexing-room : i < length p → n + 2 ≤ length o
-  hexing-room h = omega (arith, hexing-at, c .room, c .long)
-
-  pub hexing-more : i < length p → (x y : ℕ) → x ≡ hexDigit (getD p i 0 / 16) → y ≡ hexDigit (getD p i 0 % 16) → (o′ : List ℕ) (n′ : ℕ) → inked o′ n′ ≡ ink o n (x ∷ y ∷ []) → length o′ ≡ length o → Hexing p o₀ at o′ (i + 1) n′
-  unfolding hex
-  hexing-more h x y u v o′ n′ e l =
-      let s : suc i ≡ i + 1 = omega arith in
-      let t : hex (take i p) ++ (x ∷ y ∷ []) ≡ hex (take (i + 1) p) =
-      (λ k. hex (take i p) ++ (u k ∷ v k ∷ [])) ∙ sym (hex-append (take i p) (getD p i 0 ∷ [])) ∙ ap hex (sym (take-suc p i 0 h) ∙ ap (λ (k : ℕ). take k p) s) in
-      record {
-        same = then-ink o₀ at (hex (take i p)) (x ∷ y ∷ []) o n (inked o′ n′) (c .same) e (omega (arith, taken-length, c .room)) ∙ ap (ink o₀ at) t;
-        within = omega arith;
-        room = c .room;
-        long = l ∙ c .long;
-      }
-
-pub hexing-start : (p o : List ℕ) (at : ℕ) → at + 2 * length p ≤ length o → Hexing p o at o 0 at
-unfolding hex
-hexing-start p o at h = record { same = ink-none o at (omega arith); within = omega arith; room = h; long = refl }
-
-pub hexing-end : (p o₀ : List ℕ) (at : ℕ) (o : List ℕ) (i n : ℕ) → Hexing p o₀ at o i n → length p ≤ i → inked o n ≡ ink o₀ at (hex p)
-hexing-end p o₀ at o i n c h = c .same ∙ ap (λ (x : List ℕ). ink o₀ at (hex x)) (take-all i p h)
-
 -- a payload
-pub payload-none : (p o : List ℕ) (at : ℕ) → at ≤ length o → length p ≡ 0 → inked o at ≡ ink o at (payloadText p)
+pub payload-none : (p o : List ℕ) (at : ℕ) → length p ≡ 0 → inked o at ≡ ink o at (payloadText p)
 unfolding payloadText
-payload-none [] o at h e = ink-none o at h
-payload-none (b ∷ p) o at h e = absurd (omega arith)
+payload-none [] o at e = ink-none o at
+payload-none (b ∷ p) o at e = absurd (omega arith)
 
 payload-some : (p : List ℕ) → (length p ≡ 0 → ⊥) → bytes " " ++ hex p ≡ payloadText p
 unfolding payloadText
@@ -218,10 +67,6 @@ payload-some (b ∷ p) h = refl
 
 pub payload-is : (p o : List ℕ) (at : ℕ) → at + (1 + 2 * length p) ≤ length o → (length p ≡ 0 → ⊥) → (o′ : List ℕ) (n′ : ℕ) → inked o′ n′ ≡ ink o at (bytes " ") → (r : Ink) → r ≡ ink o′ n′ (hex p) → r ≡ ink o at (payloadText p)
 payload-is p o at h z o′ n′ e r f = then-ink o at (bytes " ") (hex p) o′ n′ r e f (omega (arith, hex-length p)) ∙ ap (ink o at) (payload-some p z)
-
--- where what was inked ends
-pub ink-at : (o : List ℕ) (n : ℕ) (p o′ : List ℕ) (n′ : ℕ) → inked o′ n′ ≡ ink o n p → n′ ≡ n + length p
-ink-at o n p o′ n′ e = ap (λ (x : Ink). x .at) e
 
 -- a line
 part-short : (s : List ℕ) (p n : ℕ) → length (partOf s p n) ≤ n
@@ -241,25 +86,25 @@ module _ (a : Answer) (s : List ℕ) where
   found-length : length (decimal (a .consumed) ++ (nameOf (a .kind) ++ (texts ++ bytes "\n"))) ≤ 53 + 2 * a .len
   found-length = rw (length-append, length-append, length-append) (omega (arith, decimal-length (a .consumed), name-length (a .kind), text-length))
 
-  pub line-length : length (lineOf a s) ≤ 53 + 2 * a .len
+  line-length : length (lineOf a s) ≤ 53 + 2 * a .len
   unfolding lineOf
   line-length = ways (λ (l : List ℕ). length l ≤ 53 + 2 * a .len) (isFound a) (λ q. found-length) (λ q. omega arith)
 
-  pub line-none : (o : List ℕ) (n : ℕ) → n ≤ length o → isFound a ≡ false → inked o n ≡ ink o n (lineOf a s)
+  pub line-none : (o : List ℕ) (n : ℕ) → isFound a ≡ false → inked o n ≡ ink o n (lineOf a s)
   unfolding lineOf
-  line-none o n h e = rw e (ink-none o n h)
+  line-none o n e = rw e (ink-none o n)
 
   module _ (o : List ℕ) (n : ℕ) (h : n + (53 + 2 * a .len) ≤ length o) (o₁ : List ℕ) (n₁ : ℕ) (e₁ : inked o₁ n₁ ≡ ink o n (decimal (a .consumed))) (l₁ : length o₁ ≡ length o) where
-    pub name-room : n₁ + 11 ≤ length o₁
-    name-room = omega (arith, ink-at o n (decimal (a .consumed)) o₁ n₁ e₁, decimal-length (a .consumed))
-
     module _ (o₂ : List ℕ) (n₂ : ℕ) (e₂ : inked o₂ n₂ ≡ ink o₁ n₁ (nameOf (a .kind))) (l₂ : length o₂ ≡ length o₁) where
       named : inked o₂ n₂ ≡ ink o n (decimal (a .consumed) ++ nameOf (a .kind))
       named = then-ink o n (decimal (a .consumed)) (nameOf (a .kind)) o₁ n₁ (inked o₂ n₂) e₁ e₂ (omega (arith, decimal-length (a .consumed), name-length (a .kind)))
 
       pub value-room : (p : List ℕ) → p ≡ partOf s (a .place) (a .len) → n₂ + (21 + 2 * length p) ≤ length o₂
       value-room p q =
-          omega (arith, ink-at o₁ n₁ (nameOf (a .kind)) o₂ n₂ e₂, ink-at o n (decimal (a .consumed)) o₁ n₁ e₁, decimal-length (a .consumed), name-length (a .kind), ap length q, part-short s (a .place) (a .len))
+          let k = decimal-length (a .consumed) in
+          let l = name-length (a .kind) in
+          let w = ink-at o n (decimal (a .consumed)) (omega arith) o₁ n₁ e₁ in
+          omega (arith, ink-at o₁ n₁ (nameOf (a .kind)) (omega arith) o₂ n₂ e₂, ap length q, part-short s (a .place) (a .len))
 
       module _ (p : List ℕ) (q : p ≡ partOf s (a .place) (a .len)) (o₃ : List ℕ) (n₃ : ℕ) (e₃ : inked o₃ n₃ ≡ ink o₂ n₂ (valueOf (numberOf a) p)) (l₃ : length o₃ ≡ length o₂) where
         valued : inked o₃ n₃ ≡ ink o n (decimal (a .consumed) ++ nameOf (a .kind) ++ texts)
@@ -270,51 +115,34 @@ module _ (a : Answer) (s : List ℕ) where
         front-length : length (decimal (a .consumed) ++ nameOf (a .kind) ++ texts) ≤ 52 + 2 * a .len
         front-length = rw (length-append, length-append) (omega (arith, decimal-length (a .consumed), name-length (a .kind), text-length))
 
-        pub end-room : n₃ + 1 ≤ length o₃
-        end-room = omega (arith, ink-at o n (decimal (a .consumed) ++ nameOf (a .kind) ++ texts) o₃ n₃ valued, front-length)
-
         pub line-some : isFound a ≡ true → (r : Ink) → r ≡ ink o₃ n₃ (10 ∷ []) → r ≡ ink o n (lineOf a s)
         unfolding lineOf
         line-some f r e =
             rw f (then-ink o n (decimal (a .consumed) ++ nameOf (a .kind) ++ texts) (10 ∷ []) o₃ n₃ r valued e (omega (arith, front-length))
             ∙ ap (ink o n) (append-assoc (decimal (a .consumed) ++ nameOf (a .kind)) texts (10 ∷ []) ∙ append-assoc (decimal (a .consumed)) (nameOf (a .kind)) (texts ++ (10 ∷ []))))
 
--- the lines' own equation, without fuel
-abbrev says : List ℕ → Answer
-says s = digestChecked [] s
+-- the lines take at most 55 bytes for each byte
+step-inside : (s : List ℕ) (i : ℕ) (x : Step) → Begins [] s i x → x .answer .len ≤ x .answer .consumed
+step-inside s i x b =
+    let w = checked-inside [] (drop i s) in
+    omega (arith, w .payload, ap (λ (a : Answer). a .consumed) (b .says), ap (λ (a : Answer). a .len) (b .says))
 
--- a line before the others; and the lines of bytes of which nothing is consumed
-abbrev joined : List ℕ → Lines → Lines
-joined l r = record { text = l ++ r .text; left = r .left }
+lines-eaten : (s : List ℕ) (i : ℕ) (l : List Step) → Run [] s i l → length (lines s l) ≤ 55 * eaten l
+unfolding Run lines eaten
+lines-eaten s i [] r = omega arith
+lines-eaten s i (x ∷ l) r =
+    rw length-append (omega (arith, lines-eaten s (i + x .answer .consumed) l (r .1), line-length (x .answer) (drop (x .from) s), step-inside s i x (r .0), r .0 .eats))
 
-abbrev ended : List ℕ → Lines
-ended s = record { text = []; left = length s }
+pub lines-length : (s : List ℕ) → length (lines s (steps [] s)) ≤ 55 * length s
+lines-length s =
+    let r = steps-run [] s 0 in
+    omega (arith, lines-eaten s 0 (steps [] s) r, eaten-within [] s 0 (steps [] s) r (omega arith))
 
-abbrev saidLine : List ℕ → List ℕ
-saidLine s = lineOf (says s) s
-
-lines-same : (n m : ℕ) (s : List ℕ) → length s < n → length s < m → linesBy n s ≡ linesBy m s
-unfolding linesBy
-lines-same zero m s h g = absurd (omega arith)
-lines-same (suc n) zero s h g = absurd (omega arith)
-lines-same (suc n) (suc m) s h g =
-    same-way (ended s) (leb 1 (says s .consumed)) (λ q.
-    let k = leb-true 1 (says s .consumed) q in
-    let l = length-drop (says s .consumed) s in
-    ap (joined (saidLine s)) (lines-same n m (drop (says s .consumed) s) (omega (arith, checked-within [] s)) (omega (arith, checked-within [] s))))
-
-lines-step : (s : List ℕ) → lines s ≡ (if leb 1 (says s .consumed) then joined (saidLine s) (lines (drop (says s .consumed) s)) else ended s)
-unfolding lines linesBy
-lines-step s =
-    same-way (ended s) (leb 1 (says s .consumed)) (λ q.
-    let k = leb-true 1 (says s .consumed) q in
-    let l = length-drop (says s .consumed) s in
-    ap (joined (saidLine s)) (lines-same (length s) (suc (length (drop (says s .consumed) s))) (drop (says s .consumed) s) (omega (arith, checked-within [] s)) (omega arith)))
-
--- the loop over lines: what is to be drawn of s is what was drawn, and what is to be drawn from `at` on
+-- the loop over steps: what is to be drawn of s is what was drawn, and what is to be drawn from `at` on
 pub record Lining (s o₀ : List ℕ) (from : ℕ) (o : List ℕ) (at n : ℕ) : Type 0 where
   pub sofar : List ℕ
-  pub same : lines s ≡ record { text = sofar ++ lines (drop at s) .text; left = lines (drop at s) .left }
+  pub same : lines s (steps [] s) ≡ sofar ++ lines s (stepsFrom [] s at)
+  pub gone : eaten (steps [] s) ≡ at + eaten (stepsFrom [] s at)
   pub inks : inked o n ≡ ink o₀ from sofar
   pub within : at ≤ length s
   pub bound : length sofar ≤ 55 * at
@@ -322,48 +150,58 @@ pub record Lining (s o₀ : List ℕ) (from : ℕ) (o : List ℕ) (at n : ℕ) :
   pub long : length o ≡ length o₀
 
 pub draw-start : (s o : List ℕ) (from : ℕ) → from + 55 * length s ≤ length o → Lining s o from o 0 from
-draw-start s o from h = record { sofar = []; same = refl; inks = ink-none o from (omega arith); within = omega arith; bound = omega arith; room = h; long = refl }
+draw-start s o from h = record { sofar = []; same = refl; gone = omega arith; inks = ink-none o from; within = omega arith; bound = omega arith; room = h; long = refl }
 
-module _ (s o₀ : List ℕ) (from : ℕ) (o : List ℕ) (at n : ℕ) (g : Lining s o₀ from o at n) (d : List ℕ) (f : d ≡ drop at s) (a : Answer) (e : a ≡ says d) where
-  pub rest-length : length d ≡ length s - at
-  rest-length = ap length f ∙ length-drop at s
+module _ (s o₀ : List ℕ) (from : ℕ) (o : List ℕ) (at n : ℕ) (g : Lining s o₀ from o at n) where
+  pub draw-end : End ≡ firstOf (stepsFrom [] s at) → _≡_ {A = Drawing} (record { ink = inked o n; left = length s - at }) (draw o₀ from s)
+  unfolding lines eaten
+  draw-end e =
+      let l = at-end [] s at e in
+      let t : g .sofar ≡ lines s (steps [] s) = sym (g .same ∙ ap (λ (x : List Step). g .sofar ++ lines s x) l ∙ append-nil (g .sofar)) in
+      let k : length s - at ≡ length s - eaten (steps [] s) = omega (arith, g .gone, ap eaten l) in
+      λ i. record { ink = (g .inks ∙ ap (ink o₀ from) t) i; left = k i }
 
-  pub consumed-within : at + a .consumed ≤ length s
-  consumed-within = omega (arith, ap (λ (x : Answer). x .consumed) e, checked-within [] d, rest-length, g .within)
+  module _ (x : Step) (e : Is x ≡ firstOf (stepsFrom [] s at)) where
+    begins : Begins [] s at x
+    begins = at-step [] s at x e
 
-  lines-at : lines (drop at s) ≡ (if leb 1 (a .consumed) then joined (lineOf a d) (lines (drop (a .consumed) d)) else ended d)
-  lines-at = ap lines (sym f) ∙ lines-step d ∙ ap (λ (x : Answer). if leb 1 (x .consumed) then joined (lineOf x d) (lines (drop (x .consumed) d)) else ended d) (sym e)
+    pub draw-eats : 0 < x .answer .consumed
+    draw-eats = begins .eats
 
-  pub draw-still : a .consumed ≡ 0 → _≡_ {A = Drawing} (record { ink = inked o n; left = length d }) (draw o₀ from (lines s))
-  draw-still z =
-      let l : lines (drop at s) ≡ record { text = []; left = length d } = lines-at ∙ rw (lt-leb 1 (a .consumed) (omega arith)) in
-      let k : lines s ≡ record { text = g .sofar; left = length d } = g .same ∙ ap (λ (x : Lines). record { text = g .sofar ++ x .text; left = x .left }) l ∙ ap (λ (x : List ℕ). record { text = x; left = length d }) (append-nil (g .sofar)) in
-      (λ i. record { ink = g .inks i; left = length d }) ∙ ap (draw o₀ from) (sym k)
+    pub draw-within : at + x .answer .consumed ≤ length s
+    draw-within = step-within [] s at (g .within) x begins
 
-  module _ (z : a .consumed ≡ 0 → ⊥) where
-    pub draw-room : n + (53 + 2 * a .len) ≤ length o
+    pub draw-room : n + (53 + 2 * x .answer .len) ≤ length o
     draw-room =
-        let w = checked-inside [] d in
-        omega (arith, ink-at o₀ from (g .sofar) o n (g .inks), g .bound, g .room, g .long, consumed-within, w .payload, ap (λ (x : Answer). x .consumed) e, ap (λ (x : Answer). x .len) e)
+        omega (arith, ink-at o₀ from (g .sofar) (omega (arith, g .bound, g .room, g .within)) o n (g .inks), g .bound, g .room, g .long, draw-within, draw-eats, step-inside s at x begins)
 
-    pub draw-more : (o′ : List ℕ) (n′ : ℕ) → inked o′ n′ ≡ ink o n (lineOf a d) → length o′ ≡ length o → Lining s o₀ from o′ (at + a .consumed) n′
-    draw-more o′ n′ u l =
-        let t = lineOf a d in
-        let w = checked-inside [] d in
-        let p : drop (a .consumed) d ≡ drop (at + a .consumed) s = ap (drop (a .consumed)) f ∙ drop-drop (a .consumed) at s in
-        let q : lines (drop at s) ≡ record { text = t ++ lines (drop (at + a .consumed) s) .text; left = lines (drop (at + a .consumed) s) .left } =
-        lines-at ∙ rw (le-leb 1 (a .consumed) (omega arith)) (ap (λ (x : List ℕ). record { text = t ++ lines x .text; left = lines x .left }) p) in
-        let k = line-length a d in
-        let b : length (g .sofar) + length t ≤ 55 * (at + a .consumed) = omega (arith, g .bound, w .payload, ap (λ (x : Answer). x .consumed) e, ap (λ (x : Answer). x .len) e) in
-        record {
-          sofar = g .sofar ++ t;
-          same = g .same ∙ ap (λ (x : Lines). record { text = g .sofar ++ x .text; left = x .left }) q ∙ ap (λ (x : List ℕ). record { text = x; left = lines (drop (at + a .consumed) s) .left }) (sym (append-assoc (g .sofar) t (lines (drop (at + a .consumed) s) .text)));
-          inks = then-ink o₀ from (g .sofar) t o n (inked o′ n′) (g .inks) u (omega (arith, g .room, consumed-within));
-          within = consumed-within;
-          bound = rw length-append b;
-          room = g .room;
-          long = l ∙ g .long;
-        }
+    module _ (d : List ℕ) (f : d ≡ drop at s) where
+      abbrev said : List ℕ
+      said = lineOf (x .answer) d
+
+      line-first : lines s (stepsFrom [] s at) ≡ said ++ lines s (stepsFrom [] s (at + x .answer .consumed))
+      unfolding lines
+      line-first =
+          ap (lines s) (steps-more [] s at x begins)
+          ∙ ap (λ (y : List ℕ). lineOf (x .answer) y ++ lines s (stepsFrom [] s (at + x .answer .consumed))) (ap (λ (k : ℕ). drop k s) (begins .from) ∙ sym f)
+
+      eaten-first : eaten (stepsFrom [] s at) ≡ x .answer .consumed + eaten (stepsFrom [] s (at + x .answer .consumed))
+      unfolding eaten
+      eaten-first = ap eaten (steps-more [] s at x begins)
+
+      pub draw-more : (o′ : List ℕ) (n′ : ℕ) → inked o′ n′ ≡ ink o n said → length o′ ≡ length o → Lining s o₀ from o′ (at + x .answer .consumed) n′
+      draw-more o′ n′ u l =
+          let b : length (g .sofar) + length said ≤ 55 * (at + x .answer .consumed) = omega (arith, g .bound, line-length (x .answer) d, draw-eats, step-inside s at x begins) in
+          record {
+            sofar = g .sofar ++ said;
+            same = g .same ∙ ap (λ (y : List ℕ). g .sofar ++ y) line-first ∙ sym (append-assoc (g .sofar) said (lines s (stepsFrom [] s (at + x .answer .consumed))));
+            gone = omega (arith, g .gone, eaten-first);
+            inks = then-ink o₀ from (g .sofar) said o n (inked o′ n′) (g .inks) u (omega (arith, g .room, draw-within));
+            within = draw-within;
+            bound = rw length-append b;
+            room = g .room;
+            long = l ∙ g .long;
+          }
 
 -- the ways out of a report
 module _ (s o : List ℕ) where
@@ -382,67 +220,44 @@ module _ (s o : List ℕ) where
 
     module _ (l : length s ≤ 4096) (o₁ : List ℕ) (n₁ : ℕ) (e₁ : inked o₁ n₁ ≡ ink o 0 (bytes "records 0\n")) (l₁ : length o₁ ≡ length o) where
       pub lines-room : n₁ + 55 * length s ≤ length o₁
-      lines-room = omega (arith, ink-at o 0 (bytes "records 0\n") o₁ n₁ e₁)
+      lines-room = omega (arith, ink-at o 0 (bytes "records 0\n") (omega arith) o₁ n₁ e₁)
 
-      module _ (k : length (lines s .text) ≤ 55 * length s) (d : Drawn) (o₂ : List ℕ) (e₂ : drawn d o₂ ≡ draw o₁ n₁ (lines s)) (l₂ : length o₂ ≡ length o₁) where
-        drawn-at : inked o₂ (d .at) ≡ ink o 0 (bytes "records 0\n" ++ lines s .text)
-        drawn-at = then-ink o 0 (bytes "records 0\n") (lines s .text) o₁ n₁ (inked o₂ (d .at)) e₁ (ap (λ (x : Drawing). x .ink) e₂) (omega arith)
+      module _ (k : length (lines s (steps [] s)) ≤ 55 * length s) (d : Drawn) (o₂ : List ℕ) (e₂ : drawn d o₂ ≡ draw o₁ n₁ s) (l₂ : length o₂ ≡ length o₁) where
+        drawn-at : inked o₂ (d .at) ≡ ink o 0 (bytes "records 0\n" ++ lines s (steps [] s))
+        drawn-at = then-ink o 0 (bytes "records 0\n") (lines s (steps [] s)) o₁ n₁ (inked o₂ (d .at)) e₁ (ap (λ (x : Drawing). x .ink) e₂) (omega arith)
 
-        front : length (bytes "records 0\n" ++ lines s .text) ≤ 10 + 55 * length s
+        front : length (bytes "records 0\n" ++ lines s (steps [] s)) ≤ 10 + 55 * length s
         front = rw length-append (omega arith)
 
-        pub word-room : d .at + 4 ≤ length o₂
-        word-room = omega (arith, ink-at o 0 (bytes "records 0\n" ++ lines s .text) o₂ (d .at) drawn-at, front)
-
         module _ (o₃ : List ℕ) (n₃ : ℕ) (e₃ : inked o₃ n₃ ≡ ink o₂ (d .at) (bytes "left")) (l₃ : length o₃ ≡ length o₂) where
-          worded : inked o₃ n₃ ≡ ink o 0 (bytes "records 0\n" ++ lines s .text ++ bytes "left")
-          worded = then-ink o 0 (bytes "records 0\n" ++ lines s .text) (bytes "left") o₂ (d .at) (inked o₃ n₃) drawn-at e₃ (omega (arith, front))
+          worded : inked o₃ n₃ ≡ ink o 0 (bytes "records 0\n" ++ lines s (steps [] s) ++ bytes "left")
+          worded = then-ink o 0 (bytes "records 0\n" ++ lines s (steps [] s)) (bytes "left") o₂ (d .at) (inked o₃ n₃) drawn-at e₃ (omega (arith, front))
 
-          word-front : length (bytes "records 0\n" ++ lines s .text ++ bytes "left") ≤ 14 + 55 * length s
+          word-front : length (bytes "records 0\n" ++ lines s (steps [] s) ++ bytes "left") ≤ 14 + 55 * length s
           word-front = rw length-append (omega (arith, front))
 
           pub left-room : n₃ + 21 ≤ length o₃
-          left-room = omega (arith, ink-at o 0 (bytes "records 0\n" ++ lines s .text ++ bytes "left") o₃ n₃ worded, word-front)
+          left-room = omega (arith, ink-at o 0 (bytes "records 0\n" ++ lines s (steps [] s) ++ bytes "left") (omega (arith, word-front)) o₃ n₃ worded, word-front)
 
           module _ (o₄ : List ℕ) (n₄ : ℕ) (e₄ : inked o₄ n₄ ≡ ink o₃ n₃ (numberText (d .left))) (l₄ : length o₄ ≡ length o₃) where
-            counted : inked o₄ n₄ ≡ ink o 0 (bytes "records 0\n" ++ lines s .text ++ bytes "left" ++ numberText (lines s .left))
+            counted : inked o₄ n₄ ≡ ink o 0 (bytes "records 0\n" ++ lines s (steps [] s) ++ bytes "left" ++ numberText (length s - eaten (steps [] s)))
             counted =
-                then-ink o 0 (bytes "records 0\n" ++ lines s .text ++ bytes "left") (numberText (lines s .left)) o₃ n₃ (inked o₄ n₄) worded (e₄ ∙ ap (λ (x : Drawing). ink o₃ n₃ (numberText (x .left))) e₂)
-                (omega (arith, word-front, decimal-length (lines s .left)))
+                then-ink o 0 (bytes "records 0\n" ++ lines s (steps [] s) ++ bytes "left") (numberText (length s - eaten (steps [] s))) o₃ n₃ (inked o₄ n₄) worded (e₄ ∙ ap (λ (x : Drawing). ink o₃ n₃ (numberText (x .left))) e₂)
+                (omega (arith, word-front, decimal-length (length s - eaten (steps [] s))))
 
-            count-front : length (bytes "records 0\n" ++ lines s .text ++ bytes "left" ++ numberText (lines s .left)) ≤ 35 + 55 * length s
-            count-front = rw length-append (omega (arith, word-front, decimal-length (lines s .left)))
-
-            pub last-room : n₄ + 1 ≤ length o₄
-            last-room = omega (arith, ink-at o 0 (bytes "records 0\n" ++ lines s .text ++ bytes "left" ++ numberText (lines s .left)) o₄ n₄ counted, count-front)
+            count-front : length (bytes "records 0\n" ++ lines s (steps [] s) ++ bytes "left" ++ numberText (length s - eaten (steps [] s))) ≤ 35 + 55 * length s
+            count-front = rw length-append (omega (arith, word-front, decimal-length (length s - eaten (steps [] s))))
 
             pub report-is : (r : Ink) → r ≡ ink o₄ n₄ (bytes "\n") → is r ≡ report s o
-            unfolding textOf whole
+            unfolding textOf
             report-is r e =
                 let a = bytes "records 0\n" in
-                let b = lines s .text in
-                let c = numberText (lines s .left) in
+                let b = lines s (steps [] s) in
+                let c = numberText (length s - eaten (steps [] s)) in
                 let w : a ++ b ++ bytes "left" ++ c ++ bytes "\n" ≡ a ++ (b ++ (bytes "left" ++ (c ++ bytes "\n"))) =
                 append-assoc (a ++ b ++ bytes "left") c (bytes "\n") ∙ append-assoc (a ++ b) (bytes "left") (c ++ bytes "\n") ∙ append-assoc a b (bytes "left" ++ (c ++ bytes "\n")) in
                 let q : a ++ (b ++ (bytes "left" ++ (c ++ bytes "\n"))) ≡ textOf s = rw (le-ltb 4096 (length s) l) in
                 ap is (then-ink o 0 (a ++ b ++ bytes "left" ++ c) (bytes "\n") o₄ n₄ r counted e (omega (arith, count-front)) ∙ ap (ink o 0) (w ∙ q)) ∙ at-text
-
--- the lines take at most 55 bytes for each byte
-lines-by-length : (n : ℕ) (s : List ℕ) → length (linesBy n s .text) ≤ 55 * length s
-unfolding linesBy
-lines-by-length zero s = omega arith
-lines-by-length (suc n) s =
-    ways (λ (r : Lines). length (r .text) ≤ 55 * length s) (leb 1 (says s .consumed))
-    (λ q.
-    let k = leb-true 1 (says s .consumed) q in
-    let l = length-drop (says s .consumed) s in
-    let w = checked-inside [] s in
-    rw length-append (omega (arith, lines-by-length n (drop (says s .consumed) s), line-length (says s) s, w .payload, w .all)))
-    (λ q. omega arith)
-
-pub lines-length : (s : List ℕ) → length (lines s .text) ≤ 55 * length s
-unfolding lines
-lines-length s = lines-by-length (suc (length s)) s
 
 -- the promise of `report` determines its answer and every byte of the memory
 abbrev reported-of : Reporting → Reported

@@ -1,49 +1,21 @@
 -- What atread prints, in document 01's words.
 use mathlib.Core.List.{List, [], _∷_, _++_}
-use Prim.Native.Nat.{ℕ, zero, suc, _+_, _/_, _%_}
+use Prim.Native.Nat.{ℕ, _-_}
 use lib.ListN.{length, drop}
-use lib.Dec.{leb, ltb}
+use lib.Dec.{ltb}
 use Rattle.outcome.specs.Outcome.{if_then_else_}
 use Rattle.text.specs.Bytes.{bytes}
 use Rattle.text.specs.Text.{partOf}
-use Rattle.moves.specs.Moves.{put}
+use Rattle.ink.specs.Ink.{Ink, inked, ink, decimal, hex}
 use Rattle.answers.specs.declared.Kind.{Kind}
 use Rattle.answers.specs.declared.Kind.the-variants as kind
 use Rattle.answers.specs.declared.Answer.{Answer}
 use Rattle.answers.specs.Answer.{Number, none, number, numberOf, isFound}
-use Rattle.digest.specs.Digest.{digestChecked}
+use Rattle.steps.specs.declared.Step.{Step}
+use Rattle.steps.specs.Steps.{steps, eaten}
 use Rattle.report.specs.declared.Drawn.{Drawn}
 use Rattle.report.specs.declared.Reported.{Reported}
 use Rattle.report.specs.declared.Reported.the-variants as says
-
--- memory with a text put into it, and where the text ends
-pub record Ink : Type 0 where
-  pub out : List ℕ
-  pub at : ℕ
-
-abbrev pub inked : List ℕ → ℕ → Ink
-inked o n = record { out = o; at = n }
-
-abbrev pub ink : List ℕ → ℕ → List ℕ → Ink
-ink o n p = inked (put o n p) (n + length p)
-
--- decimal digits without leading zeros, with fuel, of which 20 is enough for 64 bits
-unfoldable pub decimalBy : ℕ → ℕ → List ℕ
-decimalBy zero n = []
-decimalBy (suc f) n = let r = decimalBy f (n / 10) in (if leb 1 (n / 10) then r else []) ++ ((48 + n % 10) ∷ [])
-
-unfoldable pub decimal : ℕ → List ℕ
-unfolding decimalBy
-decimal n = decimalBy 20 n
-
--- two hexadecimal digits for each byte, in upper case
-unfoldable pub hexDigit : ℕ → ℕ
-hexDigit n = if ltb n 10 then 48 + n else 55 + n
-
-unfoldable pub hex : List ℕ → List ℕ
-unfolding hexDigit
-hex [] = []
-hex (b ∷ p) = let r = hex p in hexDigit (b / 16) ∷ hexDigit (b % 16) ∷ r
 
 -- a space and the kind
 abbrev pub nameOf : Kind → List ℕ
@@ -79,31 +51,18 @@ valueOf (number n) p = numberText n
 unfoldable pub lineOf : Answer → List ℕ → List ℕ
 lineOf a s = if isFound a then decimal (a .consumed) ++ (nameOf (a .kind) ++ (valueOf (numberOf a) (partOf s (a .place) (a .len)) ++ bytes "\n")) else []
 
--- the lines, and the bytes left
-pub record Lines : Type 0 where
-  pub text : List ℕ
-  pub left : ℕ
-
--- Digests until 0 is consumed or nothing is left; with fuel, of which one more than the bytes is enough.
-unfoldable pub linesBy : ℕ → List ℕ → Lines
+-- the lines of steps on s
+unfoldable pub lines : List ℕ → List Step → List ℕ
 unfolding lineOf
-linesBy zero s = record { text = []; left = length s }
-linesBy (suc n) s =
-    let a = digestChecked [] s in
-    let r = linesBy n (drop (a .consumed) s) in
-    if leb 1 (a .consumed) then record { text = lineOf a s ++ r .text; left = r .left } else record { text = []; left = length s }
+lines s [] = []
+lines s (x ∷ l) = let r = lines s l in lineOf (x .answer) (drop (x .from) s) ++ r
 
-unfoldable pub lines : List ℕ → Lines
-unfolding linesBy
-lines s = linesBy (suc (length s)) s
-
--- The first line counts the table's records, the last the bytes left; an input over 4,096 bytes is one line.
-unfoldable pub whole : Lines → List ℕ
-whole l = bytes "records 0\n" ++ (l .text ++ (bytes "left" ++ (numberText (l .left) ++ bytes "\n")))
-
+-- Digests under the empty table. The first line counts its records, the last the bytes left; an input over 4,096 bytes is one line.
 unfoldable pub textOf : List ℕ → List ℕ
-unfolding whole lines
-textOf s = if ltb 4096 (length s) then bytes "refused 1\n" else whole (lines s)
+unfolding lines
+textOf s =
+    let l = steps [] s in
+    if ltb 4096 (length s) then bytes "refused 1\n" else bytes "records 0\n" ++ (lines s l ++ (bytes "left" ++ (numberText (length s - eaten l) ++ bytes "\n")))
 
 -- memory with the lines put into it, and the bytes left
 pub record Drawing : Type 0 where
@@ -113,8 +72,8 @@ pub record Drawing : Type 0 where
 abbrev pub drawn : Drawn → List ℕ → Drawing
 drawn r o = record { ink = inked o (r .at); left = r .left }
 
-abbrev pub draw : List ℕ → ℕ → Lines → Drawing
-draw o n l = record { ink = ink o n (l .text); left = l .left }
+abbrev pub draw : List ℕ → ℕ → List ℕ → Drawing
+draw o n s = record { ink = ink o n (lines s (steps [] s)); left = length s - eaten (steps [] s) }
 
 -- What a report leaves: the text at the front of the memory and its length; or a memory that is too short, as it was.
 pub data Reporting : Type 0 where

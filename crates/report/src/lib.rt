@@ -1,83 +1,22 @@
 // What atread prints of an input, by document 01: a line for each item that the digester finds under the empty table.
 // The text is put into lent memory, and every byte of it is promised.
 ghost use mathlib.Core.Path.{_≡_};
-ghost use Prim.Native.Nat.{_≤_, _<_, _+_, _*_};
-ghost use lib.ListN.{length, drop};
-ghost use Rattle.answers.specs.Answer.{numbered, isFound};
-ghost use Rattle.report.specs.Report.{inked, ink, decimal, hexDigit, hex, nameOf, payloadText, numberText, valueOf, lineOf, lines, drawn, draw, reported, report};
+ghost use Prim.Native.Nat.{_≤_, _+_, _*_};
+ghost use lib.ListN.{length};
+ghost use Rattle.answers.specs.Answer.{numbered};
+ghost use Rattle.ink.specs.Ink.{inked, ink};
+ghost use Rattle.report.specs.Report.{nameOf, payloadText, numberText, valueOf, lineOf, drawn, draw, reported, report};
 use answers::Answer;
 use answers::Kind;
+use steps::Stepped;
 
-// Puts a text where it fits, and answers where it ends.
-fn ink(out: &mut [u8], at: usize, text: &[u8]) -> usize
-    requires { ⌜ at + length (now text) ≤ length (now out) ⌝ }
-    ensures { λ r. ⌜ inked (now (out .exit)) r ≡ ink (now (out .entry)) at (now (text .entry)) ⌝ }
-{
-    moves::put(out, at, text);
-    at + text.len()
-}
-
-// A number's decimal digits, the last one first: they stand in d from the answer on.
-fn digits(n: u64, d: &mut [u8]) -> usize
-    requires { ⌜ length (now d) ≡ 20 ⌝ }
-    ensures { λ r. ⌜ (r ≤ 20) × (drop r (now (d .exit)) ≡ decimal n) ⌝ }
-{
-    let mut k = 20;
-    let mut m = n;
-    while 0 < k {
-        k -= 1;
-        d[k] = (48 + m % 10) as u8;
-        m = m / 10;
-        if m == 0 {
-            return k;
-        }
-    }
-    k
-}
-
-// A number in decimal.
-fn plain(out: &mut [u8], at: usize, n: u64) -> usize
-    requires { ⌜ at + 20 ≤ length (now out) ⌝ }
-    ensures { λ r. ⌜ inked (now (out .exit)) r ≡ ink (now (out .entry)) at (decimal n) ⌝ }
-{
-    let mut d = [0u8; 20];
-    let k = digits(n, &mut d);
-    ink(out, at, &d[k..])
-}
-
-// The same, a space before it.
+// A number in decimal, a space before it.
 fn number(out: &mut [u8], at: usize, n: u64) -> usize
     requires { ⌜ at + 21 ≤ length (now out) ⌝ }
     ensures { λ r. ⌜ inked (now (out .exit)) r ≡ ink (now (out .entry)) at (numberText n) ⌝ }
 {
-    let from = ink(out, at, b" ");
-    plain(out, from, n)
-}
-
-// One hexadecimal digit, in upper case.
-fn hex_digit(n: u8) -> u8
-    requires { ⌜ n < 16 ⌝ }
-    ensures { λ r. ⌜ r ≡ hexDigit n ⌝ }
-{
-    if n < 10 {
-        return 48 + n;
-    }
-    55 + n
-}
-
-// Bytes in hexadecimal.
-fn hex(out: &mut [u8], at: usize, p: &[u8]) -> usize
-    requires { ⌜ at + 2 * length (now p) ≤ length (now out) ⌝ }
-    ensures { λ r. ⌜ inked (now (out .exit)) r ≡ ink (now (out .entry)) at (hex (now (p .entry))) ⌝ }
-{
-    let mut i = 0;
-    let mut n = at;
-    while i < p.len() {
-        let pair = [hex_digit(p[i] / 16), hex_digit(p[i] % 16)];
-        n = ink(out, n, &pair);
-        i += 1;
-    }
-    n
+    let from = ink::words(out, at, b" ");
+    ink::decimal(out, from, n)
 }
 
 // A payload that isn't empty in hexadecimal, a space before it.
@@ -88,30 +27,29 @@ fn payload(out: &mut [u8], at: usize, p: &[u8]) -> usize
     if p.len() == 0 {
         return at;
     }
-    let from = ink(out, at, b" ");
-    hex(out, from, p)
+    let from = ink::words(out, at, b" ");
+    ink::hex(out, from, p)
 }
 
-// The kind's name, a space before it; None has none.
+// The kind's name, a space before it.
 fn name(out: &mut [u8], at: usize, kind: Kind) -> usize
-    requires { ⌜ at + 11 ≤ length (now out) ⌝ }
     ensures { λ r. ⌜ inked (now (out .exit)) r ≡ ink (now (out .entry)) at (nameOf kind) ⌝ }
 {
     match kind {
-        Kind::None => ink(out, at, b" none"),
-        Kind::Ok => ink(out, at, b" ok"),
-        Kind::Prompt => ink(out, at, b" prompt"),
-        Kind::Cme => ink(out, at, b" cme"),
-        Kind::Cms => ink(out, at, b" cms"),
-        Kind::Unknown => ink(out, at, b" unknown"),
-        Kind::NotAllowed => ink(out, at, b" notallowed"),
-        Kind::Error => ink(out, at, b" error"),
-        Kind::NoCarrier => ink(out, at, b" nocarrier"),
-        Kind::Busy => ink(out, at, b" busy"),
-        Kind::NoAnswer => ink(out, at, b" noanswer"),
-        Kind::NoDialtone => ink(out, at, b" nodialtone"),
-        Kind::Custom => ink(out, at, b" custom"),
-        Kind::Notice => ink(out, at, b" notice"),
+        Kind::None => ink::words(out, at, b" none"),
+        Kind::Ok => ink::words(out, at, b" ok"),
+        Kind::Prompt => ink::words(out, at, b" prompt"),
+        Kind::Cme => ink::words(out, at, b" cme"),
+        Kind::Cms => ink::words(out, at, b" cms"),
+        Kind::Unknown => ink::words(out, at, b" unknown"),
+        Kind::NotAllowed => ink::words(out, at, b" notallowed"),
+        Kind::Error => ink::words(out, at, b" error"),
+        Kind::NoCarrier => ink::words(out, at, b" nocarrier"),
+        Kind::Busy => ink::words(out, at, b" busy"),
+        Kind::NoAnswer => ink::words(out, at, b" noanswer"),
+        Kind::NoDialtone => ink::words(out, at, b" nodialtone"),
+        Kind::Custom => ink::words(out, at, b" custom"),
+        Kind::Notice => ink::words(out, at, b" notice"),
     }
 }
 
@@ -136,10 +74,10 @@ fn line(out: &mut [u8], at: usize, s: &[u8], a: Answer) -> usize
     }
     let kind = a.kind;
     let p = digest::payload(s, a.place, a.len);
-    let counted = plain(out, at, a.consumed as u64);
+    let counted = ink::decimal(out, at, a.consumed as u64);
     let named = name(out, counted, kind);
     let valued = value(out, named, kind, a.number, p);
-    ink(out, valued, b"\n")
+    ink::words(out, valued, b"\n")
 }
 
 // Where the lines end, and the bytes left.
@@ -148,26 +86,24 @@ pub struct Drawn {
     pub left: usize,
 }
 
-// The lines of s: digests under the empty table until 0 is consumed.
+// The lines of s's steps under the empty table.
 fn draw(out: &mut [u8], from: usize, s: &[u8]) -> Drawn
-    requires { ⌜ (from + 55 * length (now s) ≤ length (now out)) × (length (now s) ≤ 4096) ⌝ }
-    ensures { λ r. ⌜ drawn r (now (out .exit)) ≡ draw (now (out .entry)) from (lines (now (s .entry))) ⌝ }
+    requires { ⌜ from + 55 * length (now s) ≤ length (now out) ⌝ }
+    ensures { λ r. ⌜ drawn r (now (out .exit)) ≡ draw (now (out .entry)) from (now (s .entry)) ⌝ }
 {
     let none = &s[..0];
     let mut at = 0;
     let mut n = from;
     loop {
-        let rest = &s[at..];
-        let a = digest::digest_checked(none, rest);
-        let consumed = a.consumed;
-        if consumed == 0 {
+        let Stepped::Is(x) = steps::next(none, s, at) else {
             return Drawn {
                 at: n,
-                left: rest.len(),
+                left: s.len() - at,
             };
-        }
-        n = line(out, n, rest, a);
-        at += consumed;
+        };
+        let a = x.answer;
+        n = line(out, n, &s[at..], a);
+        at += a.consumed;
     }
 }
 
@@ -188,11 +124,11 @@ pub fn report(input: &[u8], out: &mut [u8]) -> Reported
         return Reported::Short;
     }
     if digest::LONGEST < input.len() {
-        return Reported::Is(ink(out, 0, b"refused 1\n"));
+        return Reported::Is(ink::words(out, 0, b"refused 1\n"));
     }
-    let from = ink(out, 0, b"records 0\n");
+    let from = ink::words(out, 0, b"records 0\n");
     let d = draw(out, from, input);
-    let worded = ink(out, d.at, b"left");
+    let worded = ink::words(out, d.at, b"left");
     let counted = number(out, worded, d.left as u64);
-    Reported::Is(ink(out, counted, b"\n"))
+    Reported::Is(ink::words(out, counted, b"\n"))
 }

@@ -1,6 +1,322 @@
-// The cases of the notation, over the public calls: a line in, its answer out; the notation is in crates/notation/src/lib.rt.
-// It is a harness and promises only that it doesn't trip; what it answers is held to a file of another origin (tests/model.py).
-mod case;
-mod op;
+// A case of the notation: a line's fields made into memories, the calls made over them, and what they answered; the notation is in crates/notation/src/lib.rt.
+// It is part of a harness and promises only that it doesn't trip; what it answers is held to a file of another origin (tests/model.py).
+use answers::Answer;
+use answers::Kind;
+use digest::Digested;
+use fields::Filled;
+use fields::Memory;
+use notation::form::Form;
+use notation::form::Start;
+use ops::Said;
+use queue::Queue;
+use slot::Held;
+use slot::Slot;
+use turn::State;
 
-pub use case::answer;
+// Does each op of a script.
+fn do_all(
+    ops: &[u8],
+    first: Said,
+    piece: &mut Memory,
+    table: &[u8],
+    buf: &mut [u8],
+    slot_mem: &mut [u8],
+    queue_mem: &mut [u8],
+    out: &mut Memory,
+) -> Said {
+    let mut said = first;
+    let mut from = 0;
+    let mut left = notation::op::count(ops);
+    while 0 < left {
+        let to = fields::seek(ops, from, b';');
+        let one = fields::between(ops, from, to);
+        said = ops::do_op(one, said, piece, table, buf, slot_mem, queue_mem, out);
+        from = fields::plus(to, 1);
+        left -= 1;
+    }
+    said
+}
+
+// Says a slot and its memory.
+fn say_slot(x: Slot, slot_mem: &[u8], out: &mut Memory, at: usize) -> usize {
+    let is_signalled = x.signalled;
+    let flag = say_flag(is_signalled, out, at);
+    let named = ops::say_content(x, out, flag);
+    let long = say::and_number(out, named, x.len as u64);
+    let lost = say::and_number(out, long, x.lost as u64);
+    say::memory(out, lost, slot_mem)
+}
+
+// Says whether the slot is free.
+fn say_flag(is_signalled: bool, out: &mut Memory, at: usize) -> usize {
+    if is_signalled {
+        return say::words(out, at, b" slot signalled ");
+    }
+    say::words(out, at, b" slot free ")
+}
+
+// Says a queue and its memory.
+fn say_queue(q: Queue, queue_mem: &[u8], out: &mut Memory, at: usize) -> usize {
+    let head = say::words(out, at, b" queue");
+    let start = say::and_number(out, head, q.start as u64);
+    let count = say::and_number(out, start, q.count as u64);
+    let lost = say::and_number(out, count, q.lost as u64);
+    say::memory(out, lost, queue_mem)
+}
+
+// Says the last state, and ends the line.
+fn say_last(said: Said, buf: &[u8], slot_mem: &[u8], queue_mem: &[u8], out: &mut Memory) -> usize {
+    let now = said.state;
+    let slot = now.slot;
+    let queue = now.queue;
+    let head = say::words(out, said.at, b" end ");
+    let end = say::number(out, head, now.end as u64);
+    let apart = say::words(out, end, b" buffer ");
+    let bytes = say::hex(out, apart, buf);
+    let slotted = say_slot(slot, slot_mem, out, bytes);
+    let queued = say_queue(queue, queue_mem, out, slotted);
+    say::words(out, queued, b"\n")
+}
+
+// Does a script over memories of their own lengths, and says the last state.
+fn run_script(
+    ops: &[u8],
+    first: Said,
+    piece: &mut Memory,
+    table: &[u8],
+    buf: &mut [u8],
+    slot_mem: &mut [u8],
+    queue_mem: &mut [u8],
+    out: &mut Memory,
+) -> usize {
+    let said = do_all(ops, first, piece, table, buf, slot_mem, queue_mem, out);
+    say_last(said, buf, slot_mem, queue_mem, out)
+}
+
+// Cuts the memories to their lengths, none of which is past its memory.
+fn cut_script(
+    ops: &[u8],
+    first: Said,
+    len: Lengths,
+    piece: &mut Memory,
+    table: &[u8],
+    buf: &mut [u8],
+    slot_mem: &mut [u8],
+    queue_mem: &mut [u8],
+    out: &mut Memory,
+) -> usize {
+    let b = len.buf;
+    let s = len.slot;
+    let q = len.queue;
+    if buf.len() < b {
+        return first.at;
+    }
+    if slot_mem.len() < s {
+        return first.at;
+    }
+    if queue_mem.len() < q {
+        return first.at;
+    }
+    run_script(
+        ops,
+        first,
+        piece,
+        text::part(table, 0, len.table),
+        &mut buf[..b],
+        &mut slot_mem[..s],
+        &mut queue_mem[..q],
+        out,
+    )
+}
+
+// How much of the four memories a case uses.
+struct Lengths {
+    table: usize,
+    buf: usize,
+    slot: usize,
+    queue: usize,
+}
+
+// The lengths, or that a field doesn't read.
+enum Loaded {
+    Is(Lengths),
+    Bad,
+}
+
+// Reads four fields from the field k on, each into its memory.
+fn load(
+    line: &[u8],
+    k: usize,
+    table: &mut Memory,
+    buf: &mut Memory,
+    slot_mem: &mut Memory,
+    queue_mem: &mut Memory,
+) -> Loaded {
+    let Filled::Is(t) = fields::data(fields::part_of(line, k, b' '), table) else {
+        return Loaded::Bad;
+    };
+    let second = fields::plus(k, 1);
+    let Filled::Is(b) = fields::data(fields::part_of(line, second, b' '), buf) else {
+        return Loaded::Bad;
+    };
+    let third = fields::plus(k, 2);
+    let Filled::Is(s) = fields::data(fields::part_of(line, third, b' '), slot_mem) else {
+        return Loaded::Bad;
+    };
+    let fourth = fields::plus(k, 3);
+    let Filled::Is(q) = fields::data(fields::part_of(line, fourth, b' '), queue_mem) else {
+        return Loaded::Bad;
+    };
+    Loaded::Is(Lengths {
+        table: t,
+        buf: b,
+        slot: s,
+        queue: q,
+    })
+}
+
+// The case of a script whose memories' fields begin at the field k: nothing is done before all of it reads.
+fn script_case(
+    line: &[u8],
+    k: usize,
+    start: State,
+    piece: &mut Memory,
+    table: &mut Memory,
+    buf: &mut Memory,
+    slot_mem: &mut Memory,
+    queue_mem: &mut Memory,
+    out: &mut Memory,
+    at: usize,
+) -> usize {
+    let Loaded::Is(len) = load(line, k, table, buf, slot_mem, queue_mem) else {
+        return say::bad_line(out, at);
+    };
+    let ops = fields::part_of(line, fields::plus(k, 4), b' ');
+    if !notation::op::are_good(ops, piece) {
+        return say::bad_line(out, at);
+    }
+    let first = Said {
+        state: start,
+        at: at,
+    };
+    cut_script(ops, first, len, piece, table, buf, slot_mem, queue_mem, out)
+}
+
+// The state of a new slot and an empty queue.
+fn fresh() -> State {
+    let slot = Slot::new();
+    let queue = Queue::new();
+    State {
+        end: 0,
+        slot: slot,
+        queue: queue,
+    }
+}
+
+// The state as it is written.
+fn state_of(x: Start) -> State {
+    let slot = Slot {
+        signalled: x.signalled,
+        held: Held::Heard(Kind::Ok),
+        number: 0,
+        len: x.len,
+        lost: x.slot_lost,
+    };
+    let queue = Queue {
+        start: x.start,
+        count: x.count,
+        lost: x.queue_lost,
+    };
+    State {
+        end: x.end,
+        slot: slot,
+        queue: queue,
+    }
+}
+
+// Says a digester's answer, and ends the line.
+fn say_answer(a: Answer, out: &mut Memory, at: usize) -> usize {
+    let kind = a.kind;
+    let named = say::kind_number(out, at, kind, a.number);
+    let place = say::and_number(out, named, a.place as u64);
+    let len = say::and_number(out, place, a.len as u64);
+    let consumed = say::and_number(out, len, a.consumed as u64);
+    say::words(out, consumed, b"\n")
+}
+
+// Digests, and says the answer or the refusal.
+fn do_digest(table: &[u8], input: &[u8], out: &mut Memory, at: usize) -> usize {
+    match digest::digest(table, input) {
+        Digested::Is(a) => say_answer(a, out, at),
+        Digested::TooLong => say::words(out, at, b"refused 1\n"),
+        Digested::BadTable(k) => {
+            let used = say::refusal_of_record(out, at, k);
+            say::words(out, used, b"\n")
+        }
+    }
+}
+
+// The case TABLE INPUT.
+fn digest_case(
+    line: &[u8],
+    table: &mut Memory,
+    buf: &mut Memory,
+    out: &mut Memory,
+    at: usize,
+) -> usize {
+    let Filled::Is(t) = fields::data(fields::part_of(line, 0, b' '), table) else {
+        return say::bad_line(out, at);
+    };
+    let Filled::Is(n) = fields::data(fields::part_of(line, 1, b' '), buf) else {
+        return say::bad_line(out, at);
+    };
+    do_digest(text::part(table, 0, t), text::part(buf, 0, n), out, at)
+}
+
+// What a line asks for: a digest, or a script from a state, its memories' fields from a field on.
+enum Case {
+    Digest,
+    Script(usize, State),
+    Bad,
+}
+
+// The case that a line is.
+fn case_of(line: &[u8]) -> Case {
+    match notation::form::form_of(line) {
+        Form::Digest => Case::Digest,
+        Form::Fresh => Case::Script(0, fresh()),
+        Form::From(x) => Case::Script(1, state_of(x)),
+        Form::Bad => Case::Bad,
+    }
+}
+
+// Answers a line.
+pub fn answer(
+    line: &[u8],
+    piece: &mut Memory,
+    table: &mut Memory,
+    buf: &mut Memory,
+    slot_mem: &mut Memory,
+    queue_mem: &mut Memory,
+    out: &mut Memory,
+    at: usize,
+) -> usize {
+    match case_of(line) {
+        Case::Digest => digest_case(line, table, buf, out, at),
+        Case::Script(k, start) => {
+            script_case(
+                line,
+                k,
+                start,
+                piece,
+                table,
+                buf,
+                slot_mem,
+                queue_mem,
+                out,
+                at,
+            )
+        }
+        Case::Bad => say::bad_line(out, at),
+    }
+}

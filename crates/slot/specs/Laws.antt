@@ -19,9 +19,11 @@ use Rattle.slot.specs.declared.Held.the-variants.{Heard}
 use Rattle.slot.specs.declared.Slot.{Slot}
 use Rattle.slot.specs.declared.Turned.{Turned}
 use Rattle.slot.specs.declared.Turned.the-variants as turns
+use Rattle.slot.specs.declared.Reset.{Reset}
+use Rattle.slot.specs.declared.Reset.the-variants as resets
 use Rattle.slot.specs.declared.Looked.{Looked}
 use Rattle.slot.specs.declared.Looked.the-variants as looks
-use Rattle.slot.specs.Slot.{isResponse, carries, newSlot, lostOne, filled, overflowing, freed, After, after, signalled, outcome, wasReset, Reading, reading, wasRead}
+use Rattle.slot.specs.Slot.{isResponse, carries, newSlot, lostOne, filled, overflowing, freed, After, after, signalled, outcome, wasReset, resetting, Reading, reading, wasRead}
 
 -- two answers with the same outcome are equal
 pub outcome-one : (r q : Turned) → outcome r ≡ outcome q → r ≡ q
@@ -29,6 +31,12 @@ outcome-one (turns.Is x) (turns.Is y) e = cc
 outcome-one (turns.Is x) turns.BadLength e = let z : _≡_ {A = ℕ} 0 1 = cc in absurd (omega arith)
 outcome-one turns.BadLength (turns.Is y) e = let z : _≡_ {A = ℕ} 0 1 = cc in absurd (omega arith)
 outcome-one turns.BadLength turns.BadLength e = refl
+
+pub resetting-one : (r q : Reset) → resetting r ≡ resetting q → r ≡ q
+resetting-one (resets.Is x) (resets.Is y) e = cc
+resetting-one (resets.Is x) resets.BadLength e = let z : _≡_ {A = ℕ} 0 1 = cc in absurd (omega arith)
+resetting-one resets.BadLength (resets.Is y) e = let z : _≡_ {A = ℕ} 0 1 = cc in absurd (omega arith)
+resetting-one resets.BadLength resets.BadLength e = refl
 
 -- the promise of `signal` determines its answer and every byte of the memory
 pub signal-one : (w : After) (r q : Turned) (m n : List ℕ) → after (outcome r) m ≡ w → after (outcome q) n ≡ w → (r ≡ q) × (m ≡ n)

@@ -14,6 +14,8 @@ use Rattle.slot.specs.declared.Held.the-variants.{Heard, Capacity}
 use Rattle.slot.specs.declared.Slot.{Slot}
 use Rattle.slot.specs.declared.Turned.{Turned}
 use Rattle.slot.specs.declared.Turned.the-variants as turns
+use Rattle.slot.specs.declared.Reset.{Reset}
+use Rattle.slot.specs.declared.Reset.the-variants as resets
 use Rattle.slot.specs.declared.Looked.{Looked}
 use Rattle.slot.specs.declared.Looked.the-variants as looks
 
@@ -89,13 +91,18 @@ signalled x a p m =
     else if ltb (length m) (length p) then after (answered (overflowing x)) m
     else after (answered (filled x (a .kind) (a .number) (length p))) (put m 0 p)
 
-unfoldable pub wasReset : Slot → List ℕ → Outcome Slot
-wasReset x m = if ltb (length m) (x .len) then refused 3 [] else answered (freed x)
-
--- document 01's number for each case
+-- document 01's number for each case of a signal's answer
 abbrev pub outcome : Turned → Outcome Slot
 outcome (turns.Is x) = answered x
 outcome turns.BadLength = refused 3 []
+
+unfoldable pub wasReset : Slot → List ℕ → Outcome Slot
+wasReset x m = if ltb (length m) (x .len) then refused 3 [] else answered (freed x)
+
+-- and of a reset's
+abbrev pub resetting : Reset → Outcome Slot
+resetting (resets.Is x) = answered x
+resetting resets.BadLength = refused 3 []
 
 -- What a look says: whether there is an answer, and the slot as it stood.
 pub record Reading : Type 0 where

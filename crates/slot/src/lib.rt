@@ -3,7 +3,7 @@
 // where the stored length is past the memory, and then neither slot nor memory has changed.
 ghost use mathlib.Core.Path.{_≡_};
 ghost use Rattle.text.specs.Text.{partOf, partAt, further};
-ghost use Rattle.slot.specs.Slot.{isResponse, carries, newSlot, lostOne, filled, overflowing, after, signalled, outcome, wasReset, wasRead, reading};
+ghost use Rattle.slot.specs.Slot.{isResponse, carries, newSlot, lostOne, filled, overflowing, after, signalled, outcome, wasReset, resetting, wasRead, reading};
 use answers::Answer;
 use answers::Kind;
 
@@ -21,8 +21,14 @@ pub struct Slot {
     pub lost: u32,
 }
 
-// The next slot, or refusal 3.
+// What a signal leaves: the next slot, or refusal 3.
 pub enum Turned {
+    Is(Slot),
+    BadLength,
+}
+
+// The slot freed, or refusal 3.
+pub enum Reset {
     Is(Slot),
     BadLength,
 }
@@ -159,14 +165,14 @@ impl Slot {
     }
 
     // Frees the slot and changes nothing else.
-    pub fn reset(self, mem: &[u8]) -> Turned
-        ensures { λ r. ⌜ outcome r ≡ wasReset self (now (mem .entry)) ⌝ }
+    pub fn reset(self, mem: &[u8]) -> Reset
+        ensures { λ r. ⌜ resetting r ≡ wasReset self (now (mem .entry)) ⌝ }
     {
         if mem.len() < self.len {
-            return Turned::BadLength;
+            return Reset::BadLength;
         }
         let stored = self.held;
-        Turned::Is(Slot {
+        Reset::Is(Slot {
             signalled: false,
             held: stored,
             number: self.number,

@@ -15,7 +15,8 @@ use Rattle.text.specs.Logic.{and-both}
 use Rattle.text.specs.Text.{among, blanks, isBlank, stands}
 use Rattle.text.specs.Laws.{part-is}
 use Rattle.text.specs.declared.Blanks.the-variants.{Run}
-use Rattle.outcome.specs.Outcome.{Outcome, answered, refused}
+use Rattle.outcome.specs.Outcome.{Outcome, answered, refused, if_then_else_}
+use Rattle.outcome.specs.Laws.{ways}
 use Rattle.table.specs.declared.Mark.{Mark}
 use Rattle.table.specs.declared.Mark.the-variants.{Notice, Success, Error, Prompt}
 use Rattle.table.specs.declared.Record.{Record}
@@ -25,7 +26,7 @@ use Rattle.table.specs.declared.Next.{Next}
 use Rattle.table.specs.declared.Next.the-variants as next
 use Rattle.table.specs.declared.Checked.{Checked}
 use Rattle.table.specs.declared.Checked.the-variants as checks
-use Rattle.table.specs.Table.{isPlain, allPlain, isText, orFaulty, textAt, promptAt, ifMark, marked, unlessEnd, recordAt, textOf, endOf, goodIf, goodAt, noMore, thenRule, rulingBy, ruling, outcome, thenRead, nthFrom, markNumber, sameMark, hereOrNext, thenNext, nextBy, nextOf, Token, tokenOf, thenTokens, tokensBy, tokens, Entry, entryOf, consIf, ofMark, entries}
+use Rattle.table.specs.Table.{isPlain, allPlain, isText, textAt, promptAt, recordAt, textOf, endOf, goodIf, goodAt, thenRule, rulingBy, ruling, outcome, markNumber, sameMark, thenNext, nextBy, nextOf, Token, tokenOf, thenTokens, tokensBy, tokens, Entry, entryOf, ofMark, entries}
 
 -- The check's promise determines its answer.
 pub outcome-one : (r q : Checked) → outcome r ≡ outcome q → r ≡ q
@@ -120,60 +121,56 @@ text-end t e =
 -- `textAt` and `promptAt`
 module _ (m : Mark) (p : ℕ) (t : List ℕ) (k : ℕ) where
   pub text-cut : length t ≤ k → Faulty ≡ textAt m p t k
-  unfolding textAt orFaulty
+  unfolding textAt
   text-cut h = rw (le-ltb (k + getD t k 0) (length t) (omega arith))
 
   module _ (l : ℕ) (e : l ≡ getD t k 0) where
     pub text-past : length t ≤ k + l → Faulty ≡ textAt m p t k
-    unfolding textAt orFaulty
+    unfolding textAt
     text-past h = rw (le-ltb (k + getD t k 0) (length t) (rw e at h))
 
     pub text-read : k + l < length t → Is (record { mark = m; prompt = p; place = k + 1; len = l }) ≡ textAt m p t k
-    unfolding textAt orFaulty
+    unfolding textAt
     text-read h = rw (e, lt-ltb (k + getD t k 0) (length t) (rw e at h))
 
 module _ (t : List ℕ) (k : ℕ) where
   pub prompt-cut : length t ≤ k → Faulty ≡ promptAt t k
-  unfolding promptAt orFaulty
+  unfolding promptAt
   prompt-cut h = rw (le-ltb k (length t) h)
 
   pub prompt-read : k < length t → textAt Prompt (getD t k 0) t (k + 1) ≡ promptAt t k
-  unfolding promptAt orFaulty
+  unfolding promptAt
   prompt-read h = rw (lt-ltb k (length t) h)
 
 -- `recordAt`: one level for each mark that doesn't stand
 module _ (t : List ℕ) (at : ℕ) where
   pub read-end : length t ≤ at → End ≡ recordAt t at
-  unfolding recordAt unlessEnd
+  unfolding recordAt
   read-end h = rw (le-leb (length t) at h)
 
   module _ (p : at < length t) where
-    at-mark : marked t at ≡ recordAt t at
-    unfolding recordAt unlessEnd
-    at-mark = rw (lt-leb (length t) at p)
-
     pub read-notice : stands (bytes "UR") t at ≡ true → textAt Notice 0 t (at + 2) ≡ recordAt t at
-    unfolding marked ifMark
-    read-notice h = (rw h) ∙ at-mark
+    unfolding recordAt
+    read-notice h = rw (lt-leb (length t) at p, h)
 
     module _ (u : stands (bytes "UR") t at ≡ false) where
       pub read-success : stands (bytes "CS") t at ≡ true → textAt Success 0 t (at + 2) ≡ recordAt t at
-      unfolding marked ifMark
-      read-success h = (rw (u, h)) ∙ at-mark
+      unfolding recordAt
+      read-success h = rw (lt-leb (length t) at p, u, h)
 
       module _ (s : stands (bytes "CS") t at ≡ false) where
         pub read-error : stands (bytes "CE") t at ≡ true → textAt Error 0 t (at + 2) ≡ recordAt t at
-        unfolding marked ifMark
-        read-error h = (rw (u, s, h)) ∙ at-mark
+        unfolding recordAt
+        read-error h = rw (lt-leb (length t) at p, u, s, h)
 
         module _ (e : stands (bytes "CE") t at ≡ false) where
           pub read-prompt : stands (bytes "CP") t at ≡ true → promptAt t (at + 2) ≡ recordAt t at
-          unfolding marked ifMark
-          read-prompt h = (rw (u, s, e, h)) ∙ at-mark
+          unfolding recordAt
+          read-prompt h = rw (lt-leb (length t) at p, u, s, e, h)
 
           pub read-none : stands (bytes "CP") t at ≡ false → Faulty ≡ recordAt t at
-          unfolding marked ifMark
-          read-none h = (rw (u, s, e, h)) ∙ at-mark
+          unfolding recordAt
+          read-none h = rw (lt-leb (length t) at p, u, s, e, h)
 
 -- a record lies in its table
 abbrev Inside : List ℕ → Read → Type 0
@@ -181,44 +178,27 @@ Inside t (Is r) = r .place + r .len ≤ length t
 Inside t Faulty = Unit {0}
 Inside t End = Unit {0}
 
-faulty-inside : (t : List ℕ) (b : Bool) (r : Read) → (b ≡ true → Inside t r) → Inside t (orFaulty b r)
-unfolding orFaulty
-faulty-inside t true r h = h refl
-faulty-inside t false r h = tt
-
 text-inside : (m : Mark) (p : ℕ) (t : List ℕ) (k : ℕ) → Inside t (textAt m p t k)
 unfolding textAt
-text-inside m p t k =
-    faulty-inside t (ltb (k + getD t k 0) (length t)) (Is (record { mark = m; prompt = p; place = k + 1; len = getD t k 0 }))
-    (λ e. omega (arith, ltb-true (k + getD t k 0) (length t) e))
+text-inside m p t k = ways (Inside t) (ltb (k + getD t k 0) (length t)) (λ e. omega (arith, ltb-true (k + getD t k 0) (length t) e)) (λ e. tt)
 
-either-inside : (t : List ℕ) (b : Bool) (r q : Read) → Inside t r → Inside t q → Inside t (ifMark b r q)
-unfolding ifMark
-either-inside t true r q h g = h
-either-inside t false r q h g = g
-
-marked-inside : (t : List ℕ) (at : ℕ) → Inside t (marked t at)
-unfolding marked promptAt
-marked-inside t at =
-    let k = at + 2 in
-    either-inside t (stands (bytes "UR") t at) (textAt Notice 0 t k) _ (text-inside Notice 0 t k)
-    (either-inside t (stands (bytes "CS") t at) (textAt Success 0 t k) _ (text-inside Success 0 t k)
-    (either-inside t (stands (bytes "CE") t at) (textAt Error 0 t k) _ (text-inside Error 0 t k)
-    (either-inside t (stands (bytes "CP") t at) (promptAt t k) Faulty
-    (faulty-inside t (ltb k (length t)) (textAt Prompt (getD t k 0) t (k + 1)) (λ e. text-inside Prompt (getD t k 0) t (k + 1)))
-    tt)))
+prompt-inside : (t : List ℕ) (k : ℕ) → Inside t (promptAt t k)
+unfolding promptAt
+prompt-inside t k = ways (Inside t) (ltb k (length t)) (λ e. text-inside Prompt (getD t k 0) t (k + 1)) (λ e. tt)
 
 read-inside : (t : List ℕ) (at : ℕ) → Inside t (recordAt t at)
 unfolding recordAt
-read-inside t at = go (leb (length t) at)
-  where
-    go : (b : Bool) → Inside t (unlessEnd b (marked t at))
-    go true = unfold unlessEnd in tt
-    go false = unfold unlessEnd in marked-inside t at
+read-inside t at =
+    let k = at + 2 in
+    ways (Inside t) (leb (length t) at) (λ e. tt)
+    (λ e. ways (Inside t) (stands (bytes "UR") t at) (λ f. text-inside Notice 0 t k)
+    (λ f. ways (Inside t) (stands (bytes "CS") t at) (λ g. text-inside Success 0 t k)
+    (λ g. ways (Inside t) (stands (bytes "CE") t at) (λ h. text-inside Error 0 t k)
+    (λ h. ways (Inside t) (stands (bytes "CP") t at) (λ i. prompt-inside t k) (λ i. tt)))))
 
 good-inside : (t : List ℕ) (r : Read) → Inside t r → Inside t (goodIf t r)
 unfolding goodIf
-good-inside t (Is r) h = faulty-inside t (isText (textOf t r)) (Is r) (λ e. h)
+good-inside t (Is r) h = ways (Inside t) (isText (textOf t r)) (λ e. h) (λ e. tt)
 good-inside t Faulty h = tt
 good-inside t End h = tt
 
@@ -244,11 +224,6 @@ abbrev numberOf : Outcome ℕ → ℕ
 numberOf (answered n) = 2
 numberOf (refused n v) = n
 
-more-two : (b : Bool) (n : ℕ) → numberOf (noMore b n) ≡ 2
-unfolding noMore
-more-two true n = refl
-more-two false n = refl
-
 then-two : (q : Read) (n : ℕ) (f : ℕ → Outcome ℕ) → ((p : ℕ) → numberOf (f p) ≡ 2) → numberOf (thenRule q n f) ≡ 2
 unfolding thenRule
 then-two (Is r) n f h = h (endOf r)
@@ -257,7 +232,7 @@ then-two End n f h = refl
 
 ruling-by-two : (k : ℕ) (t : List ℕ) (at n : ℕ) → numberOf (rulingBy k t at n) ≡ 2
 unfolding rulingBy
-ruling-by-two zero t at n = more-two (leb (length t) at) n
+ruling-by-two zero t at n = ways (λ o. numberOf o ≡ 2) (leb (length t) at) (λ e. refl) (λ e. refl)
 ruling-by-two (suc k) t at n = then-two (goodAt t at) n (λ p. rulingBy k t p (n + 1)) (λ p. ruling-by-two k t p (n + 1))
 
 pub ruling-two : (t : List ℕ) (n : ℕ) (v : List ℕ) → ruling t ≡ refused n v → n ≡ 2
@@ -294,42 +269,15 @@ module _ (t : List ℕ) (at n : ℕ) (w : Counting t at n) where
     check-more r e = record { few = omega arith; is = rw e at at-read }
 
   module _ (h : 64 ≤ n) where
-    at-last : ruling t ≡ noMore (leb (length t) at) n
+    at-last : ruling t ≡ (if leb (length t) at then answered n else refused 2 (n ∷ []))
     unfolding rulingBy
     at-last = let e : 64 - n ≡ 0 = omega arith in w .is ∙ ap (λ (k : ℕ). rulingBy k t at n) e
 
     pub check-full : length t ≤ at → answered n ≡ ruling t
-    unfolding noMore
     check-full e = sym (rw (le-leb (length t) at e) at at-last)
 
     pub check-over : at < length t → refused 2 (n ∷ []) ≡ ruling t
-    unfolding noMore
     check-over e = sym (rw (lt-leb (length t) at e) at at-last)
-
--- the loop of `nth`: the record sought is number `left` from `at` on
-module _ (t : List ℕ) (k at left : ℕ) (w : nthFrom k t 0 ≡ nthFrom left t at) where
-  module _ (h : 0 < left) (q : Read) (p : q ≡ recordAt t at) where
-    at-nth : nthFrom k t 0 ≡ thenRead q (λ x. nthFrom (left - 1) t x)
-    unfolding nthFrom
-    at-nth =
-        let e : left ≡ suc (left - 1) = omega arith in
-        w ∙ ap (λ (n : ℕ). nthFrom n t at) e ∙ ap (λ (y : Read). thenRead y (λ x. nthFrom (left - 1) t x)) (sym p)
-
-    pub nth-end : q ≡ End → End ≡ nthFrom k t 0
-    unfolding thenRead
-    nth-end e = sym (rw e at at-nth)
-
-    pub nth-faulty : q ≡ Faulty → Faulty ≡ nthFrom k t 0
-    unfolding thenRead
-    nth-faulty e = sym (rw e at at-nth)
-
-    pub nth-more : (r : Record) → q ≡ Is r → nthFrom k t 0 ≡ nthFrom (left - 1) t (r .place + r .len)
-    unfolding thenRead endOf
-    nth-more r e = rw e at at-nth
-
-  pub nth-here : left ≤ 0 → (q : Read) → q ≡ recordAt t at → q ≡ nthFrom k t 0
-  unfolding nthFrom
-  nth-here h q p = let e : left ≡ 0 = omega arith in p ∙ sym (w ∙ ap (λ (n : ℕ). nthFrom n t at) e)
 
 -- `goodIf` by cases
 module _ (t : List ℕ) (at : ℕ) (q : Read) (p : q ≡ recordAt t at) where
@@ -342,16 +290,14 @@ module _ (t : List ℕ) (at : ℕ) (q : Read) (p : q ≡ recordAt t at) where
   good-end e = ap (goodIf t) (sym e ∙ p)
 
   module _ (r : Record) (e : q ≡ Is r) (b : Bool) (w : b ≡ isText (take (r .place + r .len - r .place) (drop (r .place) t))) where
-    at-text : orFaulty b (Is r) ≡ goodAt t at
+    at-text : (if b then Is r else Faulty) ≡ goodAt t at
     unfolding goodAt goodIf
-    at-text = ap (λ (c : Bool). orFaulty c (Is r)) (w ∙ ap isText (text-part t r (record-inside t at q r p e))) ∙ ap (goodIf t) (sym e ∙ p)
+    at-text = ap (λ (c : Bool). (if c then Is r else Faulty)) (w ∙ ap isText (text-part t r (record-inside t at q r p e))) ∙ ap (goodIf t) (sym e ∙ p)
 
     pub good-bad : b ≡ false → Faulty ≡ goodAt t at
-    unfolding orFaulty
     good-bad z = rw z at at-text
 
     pub good-good : b ≡ true → Is r ≡ goodAt t at
-    unfolding orFaulty
     good-good z = rw z at at-text
 
 -- the loop of `next_of`: what is sought from `at` on is sought from `place` on, record number k beginning there
@@ -376,16 +322,14 @@ module _ (m : Mark) (t : List ℕ) (at n place k : ℕ) (w : nextOf m t at n ≡
     next-faulty e = sym (rw e at at-next)
 
     module _ (r : Record) (e : q ≡ Is r) (b : Bool) (v : b ≡ sameMark (r .mark) m) where
-      at-record : nextOf m t at n ≡ hereOrNext b r k (nextOf m t (r .place + r .len) (k + 1))
+      at-record : nextOf m t at n ≡ (if b then next.Is r k else nextOf m t (r .place + r .len) (k + 1))
       unfolding thenNext endOf nextOf
-      at-record = (rw e at at-next) ∙ ap (λ (c : Bool). hereOrNext c r k (nextOf m t (r .place + r .len) (k + 1))) (sym v)
+      at-record = (rw e at at-next) ∙ ap (λ (c : Bool). (if c then next.Is r k else nextOf m t (r .place + r .len) (k + 1))) (sym v)
 
       pub next-is : b ≡ true → next.Is r k ≡ nextOf m t at n
-      unfolding hereOrNext
       next-is z = sym (rw z at at-record)
 
       pub next-more : b ≡ false → nextOf m t at n ≡ nextOf m t (r .place + r .len) (k + 1)
-      unfolding hereOrNext
       next-more z = rw z at at-record
 
 -- the records with a mark, by the record that begins at `at`
@@ -398,7 +342,7 @@ module _ (m : Mark) (t : List ℕ) where
   unfolding entries tokensBy
   entries-at at n f e q p = ap (λ (x : ℕ). ofMark m n (tokensBy x t at)) e ∙ ap (λ (y : Read). ofMark m n (thenTokens t y (λ p. tokensBy f t p))) p
 
-  entries-is : (at n f : ℕ) → 64 - n ≡ suc f → (r : Record) → recordAt t at ≡ Is r → entries m t at n ≡ consIf (sameMark (r .mark) m) (entryOf (tokenOf t r) n) (entries m t (r .place + r .len) (n + 1))
+  entries-is : (at n f : ℕ) → 64 - n ≡ suc f → (r : Record) → recordAt t at ≡ Is r → entries m t at n ≡ (if sameMark (r .mark) m then entryOf (tokenOf t r) n ∷ entries m t (r .place + r .len) (n + 1) else entries m t (r .place + r .len) (n + 1))
   unfolding entries ofMark thenTokens endOf tokenOf
   entries-is at n f e r p =
       let g : f ≡ 64 - (n + 1) = omega arith in
@@ -442,8 +386,7 @@ module _ (m : Mark) (t : List ℕ) where
   later at n r next.Nothing h e w = e ∙ w
 
   module _ (at n f : ℕ) (e : 64 - n ≡ suc f) (ih : (p : ℕ) → NextSays m t p (n + 1) (nextBy f m t p (n + 1))) where
-    on-mark : (r : Record) → recordAt t at ≡ Is r → (b : Bool) → sameMark (r .mark) m ≡ b → NextSays m t at n (hereOrNext b r n (nextBy f m t (r .place + r .len) (n + 1)))
-    unfolding hereOrNext consIf
+    on-mark : (r : Record) → recordAt t at ≡ Is r → (b : Bool) → sameMark (r .mark) m ≡ b → NextSays m t at n (if b then next.Is r n else nextBy f m t (r .place + r .len) (n + 1))
     on-mark r p true v =
         record {
           from = omega arith;
@@ -485,15 +428,10 @@ abbrev pub EntryTexts : List Entry → Type 0
 EntryTexts [] = Unit {0}
 EntryTexts (x ∷ l) = (isText (x .text) ≡ true) × EntryTexts l
 
-cons-texts : (b : Bool) (x : Entry) (l : List Entry) → isText (x .text) ≡ true → EntryTexts l → EntryTexts (consIf b x l)
-unfolding consIf
-cons-texts true x l h g = (h, g)
-cons-texts false x l h g = g
-
 pub mark-texts : (m : Mark) (n : ℕ) (l : List Token) → Texts l → EntryTexts (ofMark m n l)
 unfolding ofMark entryOf
 mark-texts m n [] w = tt
-mark-texts m n (x ∷ l) w = cons-texts (sameMark (x .mark) m) (entryOf x n) (ofMark m (n + 1) l) (w .0) (mark-texts m (n + 1) l (w .1))
+mark-texts m n (x ∷ l) w = let r = mark-texts m (n + 1) l (w .1) in ways EntryTexts (sameMark (x .mark) m) (λ e. (w .0, r)) (λ e. r)
 
 -- A good table's tokens: as many as the check answers, each with a good text.
 pub record GoodTokens (l : List Token) (n m : ℕ) : Type 0 where
@@ -501,8 +439,8 @@ pub record GoodTokens (l : List Token) (n m : ℕ) : Type 0 where
   pub texts : Texts l
 
 module _ (t : List ℕ) (n m f : ℕ) (ih : (p : ℕ) → rulingBy f t p (n + 1) ≡ answered m → GoodTokens (tokensBy f t p) (n + 1) m) where
-  good-is : (r : Record) (b : Bool) → isText (textOf t r) ≡ b → thenRule (orFaulty b (Is r)) n (λ p. rulingBy f t p (n + 1)) ≡ answered m → GoodTokens (tokenOf t r ∷ tokensBy f t (endOf r)) n m
-  unfolding orFaulty thenRule tokenOf
+  good-is : (r : Record) (b : Bool) → isText (textOf t r) ≡ b → thenRule (if b then Is r else Faulty) n (λ p. rulingBy f t p (n + 1)) ≡ answered m → GoodTokens (tokenOf t r ∷ tokensBy f t (endOf r)) n m
+  unfolding thenRule tokenOf
   good-is r true e h =
       let w = ih (endOf r) h in
       record { count = omega (arith, w .count); texts = (e, w .texts) }
@@ -514,8 +452,7 @@ module _ (t : List ℕ) (n m f : ℕ) (ih : (p : ℕ) → rulingBy f t p (n + 1)
   good-read Faulty h = let z : _≡_ {A = ℕ} 0 1 = cc in absurd (omega arith)
   good-read End h = let e : n ≡ m = cc in record { count = omega arith; texts = tt }
 
-good-last : (b : Bool) (n m : ℕ) → noMore b n ≡ answered m → GoodTokens [] n m
-unfolding noMore
+good-last : (b : Bool) (n m : ℕ) → (if b then answered n else refused 2 (n ∷ [])) ≡ answered m → GoodTokens [] n m
 good-last true n m h = let e : n ≡ m = cc in record { count = omega arith; texts = tt }
 good-last false n m h = let z : _≡_ {A = ℕ} 0 1 = cc in absurd (omega arith)
 

@@ -1,12 +1,12 @@
 -- The token table: its records as they lie, what a good table is, and the tokens that the digester goes by.
-use mathlib.Core.Bool.{Bool, true, false, _&&_, not}
+use mathlib.Core.Bool.{Bool, true, _&&_, not}
 use mathlib.Core.List.{List, [], _∷_}
 use Prim.Native.Nat.{ℕ, zero, suc, _+_, _-_}
 use lib.ListN.{length, getD}
 use lib.Dec.{eqb, leb, ltb}
 use Rattle.text.specs.Bytes.{bytes}
 use Rattle.text.specs.Text.{stands, partOf}
-use Rattle.outcome.specs.Outcome.{Outcome, answered, refused}
+use Rattle.outcome.specs.Outcome.{Outcome, answered, refused, if_then_else_}
 use Rattle.table.specs.declared.Mark.{Mark}
 use Rattle.table.specs.declared.Mark.the-variants.{Notice, Success, Error, Prompt}
 use Rattle.table.specs.declared.Record.{Record}
@@ -34,43 +34,27 @@ isText x =
     && (leb (length x) 32
     && (not (eqb (getD x 0 0) 32) && (not (eqb (getD x (length x - 1) 0) 32) && allPlain x)))
 
-unfoldable pub orFaulty : Bool → Read → Read
-orFaulty true r = r
-orFaulty false r = Faulty
-
 -- The length byte stands at k, and the text behind it; either may be cut off by the end of the slice.
 unfoldable pub textAt : Mark → ℕ → List ℕ → ℕ → Read
-unfolding orFaulty
 textAt m p t k =
     let len = getD t k 0 in
-    orFaulty (ltb (k + len) (length t)) (Is (record { mark = m; prompt = p; place = k + 1; len = len }))
+    if ltb (k + len) (length t) then Is (record { mark = m; prompt = p; place = k + 1; len = len }) else Faulty
 
 -- Only for CP: one prompt byte, at k.
 unfoldable pub promptAt : List ℕ → ℕ → Read
-unfolding textAt orFaulty
-promptAt t k = orFaulty (ltb k (length t)) (textAt Prompt (getD t k 0) t (k + 1))
+unfolding textAt
+promptAt t k = if ltb k (length t) then textAt Prompt (getD t k 0) t (k + 1) else Faulty
 
-unfoldable pub ifMark : Bool → Read → Read → Read
-ifMark true r q = r
-ifMark false r q = q
-
--- Marks: UR notice, CS custom success, CE custom error, CP custom prompt.
-unfoldable pub marked : List ℕ → ℕ → Read
-unfolding ifMark textAt promptAt
-marked t at =
-    ifMark (stands (bytes "UR") t at) (textAt Notice 0 t (at + 2))
-    (ifMark (stands (bytes "CS") t at) (textAt Success 0 t (at + 2))
-    (ifMark (stands (bytes "CE") t at) (textAt Error 0 t (at + 2))
-    (ifMark (stands (bytes "CP") t at) (promptAt t (at + 2)) Faulty)))
-
-unfoldable pub unlessEnd : Bool → Read → Read
-unlessEnd true r = End
-unlessEnd false r = r
-
--- the record that begins at `at`, as it lies
+-- The record that begins at `at`, as it lies. Marks: UR notice, CS custom success, CE custom error, CP custom prompt.
 unfoldable pub recordAt : List ℕ → ℕ → Read
-unfolding marked unlessEnd
-recordAt t at = unlessEnd (leb (length t) at) (marked t at)
+unfolding textAt promptAt
+recordAt t at =
+    if leb (length t) at then End
+    else if stands (bytes "UR") t at then textAt Notice 0 t (at + 2)
+    else if stands (bytes "CS") t at then textAt Success 0 t (at + 2)
+    else if stands (bytes "CE") t at then textAt Error 0 t (at + 2)
+    else if stands (bytes "CP") t at then promptAt t (at + 2)
+    else Faulty
 
 unfoldable pub textOf : List ℕ → Record → List ℕ
 textOf t r = partOf t (r .place) (r .len)
@@ -80,8 +64,8 @@ unfoldable pub endOf : Record → ℕ
 endOf r = r .place + r .len
 
 unfoldable pub goodIf : List ℕ → Read → Read
-unfolding orFaulty isText textOf
-goodIf t (Is r) = orFaulty (isText (textOf t r)) (Is r)
+unfolding isText textOf
+goodIf t (Is r) = if isText (textOf t r) then Is r else Faulty
 goodIf t Faulty = Faulty
 goodIf t End = End
 
@@ -89,10 +73,6 @@ goodIf t End = End
 unfoldable pub goodAt : List ℕ → ℕ → Read
 unfolding goodIf recordAt
 goodAt t at = goodIf t (recordAt t at)
-
-unfoldable pub noMore : Bool → ℕ → Outcome ℕ
-noMore true n = answered n
-noMore false n = refused 2 (n ∷ [])
 
 unfoldable pub thenRule : Read → ℕ → (ℕ → Outcome ℕ) → Outcome ℕ
 unfolding endOf
@@ -102,8 +82,8 @@ thenRule End n f = answered n
 
 -- n records are good, and `more` may still come
 unfoldable pub rulingBy : ℕ → List ℕ → ℕ → ℕ → Outcome ℕ
-unfolding noMore thenRule goodAt
-rulingBy zero t at n = noMore (leb (length t) at) n
+unfolding thenRule goodAt
+rulingBy zero t at n = if leb (length t) at then answered n else refused 2 (n ∷ [])
 rulingBy (suc more) t at n = thenRule (goodAt t at) n (λ p. rulingBy more t p (n + 1))
 
 -- At most 64 records. The number of a good table's records, or refusal 2 with the first faulty record's number, 64 for a 65th.
@@ -116,18 +96,6 @@ abbrev pub outcome : Checked → Outcome ℕ
 outcome (checks.Good n) = answered n
 outcome (checks.Faulty k) = refused 2 (k ∷ [])
 
-unfoldable pub thenRead : Read → (ℕ → Read) → Read
-unfolding endOf
-thenRead (Is r) f = f (endOf r)
-thenRead Faulty f = Faulty
-thenRead End f = End
-
--- record number k, counted from the one that begins at `at`
-unfoldable pub nthFrom : ℕ → List ℕ → ℕ → Read
-unfolding thenRead recordAt
-nthFrom zero t at = recordAt t at
-nthFrom (suc k) t at = thenRead (recordAt t at) (λ p. nthFrom k t p)
-
 -- the marks in 01's order: UR, CS, CE, CP
 abbrev pub markNumber : Mark → ℕ
 markNumber Notice = 0
@@ -138,13 +106,9 @@ markNumber Prompt = 3
 abbrev pub sameMark : Mark → Mark → Bool
 sameMark a b = eqb (markNumber a) (markNumber b)
 
-unfoldable pub hereOrNext : Bool → Record → ℕ → Next → Next
-hereOrNext true r n q = next.Is r n
-hereOrNext false r n q = q
-
 unfoldable pub thenNext : Mark → Read → ℕ → (ℕ → Next) → Next
-unfolding endOf hereOrNext
-thenNext m (Is r) n f = let q = f (endOf r) in hereOrNext (sameMark (r .mark) m) r n q
+unfolding endOf
+thenNext m (Is r) n f = let q = f (endOf r) in if sameMark (r .mark) m then next.Is r n else q
 thenNext m Faulty n f = next.Nothing
 thenNext m End n f = next.Nothing
 
@@ -193,15 +157,11 @@ pub record Entry : Type 0 where
 unfoldable pub entryOf : Token → ℕ → Entry
 entryOf x n = record { number = n; prompt = x .prompt; text = x .text }
 
-unfoldable pub consIf : Bool → Entry → List Entry → List Entry
-consIf true x l = x ∷ l
-consIf false x l = l
-
 -- those with the mark m, in table order, where the first token has the number n
 unfoldable pub ofMark : Mark → ℕ → List Token → List Entry
-unfolding consIf entryOf
+unfolding entryOf
 ofMark m n [] = []
-ofMark m n (x ∷ l) = consIf (sameMark (x .mark) m) (entryOf x n) (ofMark m (n + 1) l)
+ofMark m n (x ∷ l) = let r = ofMark m (n + 1) l in if sameMark (x .mark) m then entryOf x n ∷ r else r
 
 -- the records with the mark m from `at` on, where record number n begins
 unfoldable pub entries : Mark → List ℕ → ℕ → ℕ → List Entry

@@ -1,10 +1,10 @@
 // The token table of document 01 as it lies in memory: what atat's user hands over as a Parser and three functions is a slice of records here.
 // A record is a two-byte mark, for CP one prompt byte, a length byte and the text. It is known by its number, from 0.
-// Every public function is total. `check` alone judges a table; the readers take the records as they lie, up to the first that can't be read.
+// Every public function is total. `check` alone judges a table; `next_of` takes the records as they lie, up to the first that can't be read.
 ghost use mathlib.Core.Path.{_≡_};
 ghost use Prim.Native.Nat.{_+_, _*_, _≤_};
 ghost use lib.ListN.{length, take, drop};
-ghost use Rattle.table.specs.Table.{allPlain, isText, textAt, promptAt, recordAt, goodAt, ruling, outcome, markNumber, sameMark, nextOf, nthFrom};
+ghost use Rattle.table.specs.Table.{allPlain, isText, textAt, promptAt, recordAt, goodAt, ruling, outcome, markNumber, sameMark, nextOf};
 
 // What a record stands for: UR, CS, CE, CP.
 pub enum Mark {
@@ -23,7 +23,7 @@ pub struct Record {
 }
 
 // What reading at a place finds: a record, one that can't be read, or the table's end.
-pub enum Read {
+enum Read {
     Is(Record),
     Faulty,
     End,
@@ -36,7 +36,7 @@ pub enum Checked {
 }
 
 // At most so many records.
-pub const MOST: usize = 64;
+const MOST: usize = 64;
 
 // Are the w bytes from `at` on plain, 0x20 to 0x7E? It goes through all of them, so that a processor may take many at once.
 fn part_plain(t: &[u8], at: usize, w: usize) -> bool
@@ -140,7 +140,7 @@ fn prompt_at(t: &[u8], k: usize) -> Read
 
 // The record that begins at `at`, as it lies: whether its text keeps the rules is not asked.
 // At or past the table's end there is none.
-pub fn record_at(t: &[u8], at: usize) -> Read
+fn record_at(t: &[u8], at: usize) -> Read
     ensures { λ r. ⌜ r ≡ recordAt (now (t .entry)) at ⌝ }
 {
     if t.len() <= at {
@@ -254,27 +254,4 @@ pub fn next_of(t: &[u8], mark: Mark, at: usize, n: usize) -> Next
         }
     }
     Next::Nothing
-}
-
-// Record number k as it lies. Where one before it can't be read it can't be either, and past the last there is none.
-pub fn nth(t: &[u8], k: usize) -> Read
-    ensures { λ r. ⌜ r ≡ nthFrom k (now (t .entry)) 0 ⌝ }
-{
-    let mut at = 0;
-    let mut left = k;
-    while 0 < left {
-        match record_at(t, at) {
-            Read::End => {
-                return Read::End;
-            }
-            Read::Faulty => {
-                return Read::Faulty;
-            }
-            Read::Is(r) => {
-                at = r.place + r.len;
-                left -= 1;
-            }
-        }
-    }
-    record_at(t, at)
 }

@@ -2,7 +2,7 @@
 -- Rests on the steps of `Steps`; the search by induction on how far there is to go.
 use mathlib.Core.Path.{_≡_, refl, sym, ap, _∙_}
 use mathlib.Core.Logic.{⊎-elim}
-use mathlib.Core.Bool.{Bool, true, false, _&&_}
+use mathlib.Core.Bool.{Bool, true, false, _&&_, and-true, and-assoc}
 use mathlib.Core.List.{List, [], _∷_, _++_}
 use Prim.Native.Nat.{ℕ, zero, suc, _+_, _-_, _≤_, _<_}
 use native.Mathlib.Numerals.{add-one, sub-one}
@@ -12,8 +12,10 @@ use lib.ListN.{length, getD, take, drop, take-append-drop, length-drop}
 use lib.Seq.{take-all, drop-cons, length-take-le, drop-drop, take-append-le, drop-append-le, getD-drop}
 use lib.Dec.{eqb}
 use borrow.Author.Tests.{eq-eqb, ne-eqb, eqb-true, eqb-false, le-leb, lt-leb}
-use Rattle.text.specs.Logic.{false-true, and-both, and-assoc, order}
-use Rattle.text.specs.Text.{leadAfter, lead, past, keepAfter, keep, trimmed, begins, stands, search, hereOr, findIn, orEmpty, partOf, orFront, partAt, further}
+use Rattle.outcome.specs.Outcome.{if_then_else_}
+use Rattle.outcome.specs.Laws.{ways}
+use Rattle.text.specs.Logic.{false-true, and-both, order}
+use Rattle.text.specs.Text.{lead, past, keep, trimmed, begins, stands, search, findIn, partOf, partAt, further}
 use Rattle.text.specs.Steps.{stands-past, find-here, find-next, find-end}
 use Rattle.text.specs.declared.Span.{Span}
 use Rattle.text.specs.declared.Found.{Found}
@@ -145,8 +147,8 @@ unfoldable pub moved : ℕ → Found → Found
 moved d (At k) = At (d + k)
 moved d Nothing = Nothing
 
-moved-here : (d i : ℕ) (b : Bool) (r q : Found) → r ≡ moved d q → hereOr b (d + i) r ≡ moved d (hereOr b i q)
-unfolding moved hereOr
+moved-here : (d i : ℕ) (b : Bool) (r q : Found) → r ≡ moved d q → (if b then At (d + i) else r) ≡ moved d (if b then At i else q)
+unfolding moved
 moved-here d i true r q e = refl
 moved-here d i false r q e = e
 
@@ -198,18 +200,12 @@ begins-flip (x ∷ t) [] h = absurd (omega arith)
 begins-flip (x ∷ t) (y ∷ s) h = rw (eqb-flip y x, begins-flip t s (omega arith))
 
 -- blanks
-leadAfter-le : (b : Bool) (n m : ℕ) → n ≤ m → leadAfter b n ≤ suc m
-unfolding leadAfter
-leadAfter-le true n m h = omega arith
-leadAfter-le false n m h = omega arith
-
 pub lead-le : (f : ℕ → Bool) (s : List ℕ) → lead f s ≤ length s
 unfolding lead
 lead-le f [] = omega arith
-lead-le f (x ∷ s) = leadAfter-le (f x) (lead f s) (length s) (lead-le f s)
+lead-le f (x ∷ s) = ways (λ n. n ≤ suc (length s)) (f x) (λ e. omega (arith, lead-le f s)) (λ e. omega arith)
 
-lead-pass : (f : ℕ → Bool) (x : ℕ) (s : List ℕ) (b : Bool) → f x ≡ b → (p : ℕ) → p < leadAfter b (lead f s) → ((q : ℕ) → q < lead f s → f (getD s q 0) ≡ true) → f (getD (x ∷ s) p 0) ≡ true
-unfolding leadAfter
+lead-pass : (f : ℕ → Bool) (x : ℕ) (s : List ℕ) (b : Bool) → f x ≡ b → (p : ℕ) → p < (if b then suc (lead f s) else zero) → ((q : ℕ) → q < lead f s → f (getD s q 0) ≡ true) → f (getD (x ∷ s) p 0) ≡ true
 lead-pass f x s true e zero h g = e
 lead-pass f x s true e (suc p) h g = g p (le-of-suc-le-suc h)
 lead-pass f x s false e p h g = absurd (not-suc-le-zero h)
@@ -228,8 +224,7 @@ pub past-drop : (f : ℕ → Bool) (s : List ℕ) (d i : ℕ) → past f s (d + 
 unfolding past
 past-drop f s d i = rw (drop-drop i d s) (omega arith)
 
-lead-stop : (f : ℕ → Bool) (x : ℕ) (s : List ℕ) (b : Bool) → f x ≡ b → (lead f s < length s → f (getD s (lead f s) 0) ≡ false) → leadAfter b (lead f s) < suc (length s) → f (getD (x ∷ s) (leadAfter b (lead f s)) 0) ≡ false
-unfolding leadAfter
+lead-stop : (f : ℕ → Bool) (x : ℕ) (s : List ℕ) (b : Bool) → f x ≡ b → (lead f s < length s → f (getD s (lead f s) 0) ≡ false) → (if b then suc (lead f s) else zero) < suc (length s) → f (getD (x ∷ s) (if b then suc (lead f s) else zero) 0) ≡ false
 lead-stop f x s true e g h = g (le-of-suc-le-suc h)
 lead-stop f x s false e g h = e
 
@@ -258,43 +253,33 @@ module _ (f : ℕ → Bool) (s : List ℕ) (i : ℕ) where
       (λ (q : k ≤ past f s i). ⊎-elim (λ (e : k ≡ past f s i). sym e) (λ (e : k < past f s i). absurd (false-true (past-passes k h e) (b (omega (arith, w .1 (omega arith)))))) (eq-or-lt-of-le q))
       (order (past f s i) k)
 
-keep-pass : (f : ℕ → Bool) (x : ℕ) (s : List ℕ) (b : Bool) → f x ≡ b → (n : ℕ) → ((q : ℕ) → n ≤ q → q < length s → f (getD s q 0) ≡ true) → (p : ℕ) → keepAfter b n ≤ p → p < suc (length s) → f (getD (x ∷ s) p 0) ≡ true
-unfolding keepAfter
-keep-pass f x s true e zero g zero h l = e
-keep-pass f x s true e zero g (suc p) h l = g p (omega arith) (le-of-suc-le-suc l)
-keep-pass f x s true e (suc n) g zero h l = absurd (omega arith)
-keep-pass f x s true e (suc n) g (suc p) h l = g p (omega arith) (le-of-suc-le-suc l)
-keep-pass f x s false e n g zero h l = absurd (omega arith)
-keep-pass f x s false e n g (suc p) h l = g p (omega arith) (le-of-suc-le-suc l)
+module _ (f : ℕ → Bool) (x : ℕ) (s : List ℕ) (n : ℕ) where
+  keep-pass : (c : Bool) → f x && eqb n 0 ≡ c → ((q : ℕ) → n ≤ q → q < length s → f (getD s q 0) ≡ true) → (p : ℕ) → (if c then zero else suc n) ≤ p → p < suc (length s) → f (getD (x ∷ s) p 0) ≡ true
+  keep-pass true e g zero h l = and-both (f x) (eqb n 0) e .0
+  keep-pass true e g (suc p) h l = g p (omega (arith, eqb-true n 0 (and-both (f x) (eqb n 0) e .1))) (le-of-suc-le-suc l)
+  keep-pass false e g zero h l = absurd (omega arith)
+  keep-pass false e g (suc p) h l = g p (omega arith) (le-of-suc-le-suc l)
 
-keep-stop-at : (f : ℕ → Bool) (x : ℕ) (s : List ℕ) (b : Bool) → f x ≡ b → (n : ℕ) → (0 < n → f (getD s (n - 1) 0) ≡ false) → 0 < keepAfter b n → f (getD (x ∷ s) (keepAfter b n - 1) 0) ≡ false
-unfolding keepAfter
-keep-stop-at f x s true e zero g h = absurd (omega arith)
-keep-stop-at f x s true e (suc n) g h = rw sub-one (rw sub-one at (g (omega arith)))
-keep-stop-at f x s false e zero g h = e
-keep-stop-at f x s false e (suc n) g h = rw sub-one (rw sub-one at (g (omega arith)))
+keep-stop-at : (f : ℕ → Bool) (x : ℕ) (s : List ℕ) (n : ℕ) (c : Bool) → f x && eqb n 0 ≡ c → (0 < n → f (getD s (n - 1) 0) ≡ false) → 0 < (if c then zero else suc n) → f (getD (x ∷ s) ((if c then zero else suc n) - 1) 0) ≡ false
+keep-stop-at f x s n true e g h = absurd (omega arith)
+keep-stop-at f x s zero false e g h = sym (and-true (f x)) ∙ e
+keep-stop-at f x s (suc n) false e g h = rw sub-one (rw sub-one at (g (omega arith)))
 
 -- what is left off passes the test, and the last byte kept doesn't
 pub keep-passes : (f : ℕ → Bool) (s : List ℕ) (j : ℕ) → keep f s ≤ j → j < length s → f (getD s j 0) ≡ true
 unfolding keep
 keep-passes f [] j h g = absurd (not-suc-le-zero g)
-keep-passes f (x ∷ s) j h g = keep-pass f x s (f x) refl (keep f s) (keep-passes f s) j h g
+keep-passes f (x ∷ s) j h g = keep-pass f x s (keep f s) (f x && eqb (keep f s) 0) refl (keep-passes f s) j h g
 
 pub keep-stops : (f : ℕ → Bool) (s : List ℕ) → 0 < keep f s → f (getD s (keep f s - 1) 0) ≡ false
 unfolding keep
 keep-stops f [] h = absurd (not-suc-le-zero h)
-keep-stops f (x ∷ s) h = keep-stop-at f x s (f x) refl (keep f s) (keep-stops f s) h
-
-keepAfter-le : (b : Bool) (n m : ℕ) → n ≤ m → keepAfter b n ≤ suc m
-unfolding keepAfter
-keepAfter-le true zero m h = omega arith
-keepAfter-le true (suc n) m h = omega arith
-keepAfter-le false n m h = omega arith
+keep-stops f (x ∷ s) h = keep-stop-at f x s (keep f s) (f x && eqb (keep f s) 0) refl (keep-stops f s) h
 
 pub keep-le : (f : ℕ → Bool) (s : List ℕ) → keep f s ≤ length s
 unfolding keep
 keep-le f [] = omega arith
-keep-le f (x ∷ s) = keepAfter-le (f x) (keep f s) (length s) (keep-le f s)
+keep-le f (x ∷ s) = ways (λ n. n ≤ suc (length s)) (f x && eqb (keep f s) 0) (λ e. omega arith) (λ e. omega (arith, keep-le f s))
 
 pub keep-is : (f : ℕ → Bool) (s : List ℕ) (n : ℕ) → 0 < n → n ≤ length s → f (getD s (n - 1) 0) ≡ false → ((j : ℕ) → n ≤ j → j < length s → f (getD s j 0) ≡ true) → keep f s ≡ n
 keep-is f s n h g b a =
@@ -315,11 +300,11 @@ pub length-part : (s : List ℕ) (e k : ℕ) → e ≤ k → k ≤ length s → 
 length-part s e k h g = length-take-le (k - e) (drop e s) (rw length-drop (omega arith))
 
 pub part-none : (s : List ℕ) (p len : ℕ) → length s < p + len → [] ≡ partOf s p len
-unfolding partOf orEmpty
+unfolding partOf
 part-none s p len h = rw (lt-leb (p + len) (length s) h)
 
 pub part-is : (s : List ℕ) (p len : ℕ) → p + len ≤ length s → take len (drop p s) ≡ partOf s p len
-unfolding partOf orEmpty
+unfolding partOf
 part-is s p len h = rw (le-leb (p + len) (length s) h)
 
 -- a part of the first n bytes is the part of all
@@ -333,11 +318,11 @@ part-take s n p len h g =
     ∙ part-is s p len (omega arith)
 
 pub part-front : (s : List ℕ) (p len : ℕ) (a : ℕ × ℕ) → length s < p + len → a ≡ further a (partAt s p len)
-unfolding partAt orFront
+unfolding partAt
 part-front s p len a h = rw (lt-leb (p + len) (length s) h, zero-add)
 
 pub part-on : (s : List ℕ) (p len : ℕ) (a : ℕ × ℕ) → p + len ≤ length s → further a p ≡ further a (partAt s p len)
-unfolding partAt orFront
+unfolding partAt
 part-on s p len a h = rw (le-leb (p + len) (length s) h)
 
 pub trim-is : (f : ℕ → Bool) (s : List ℕ) (a n : ℕ) → a ≡ past f s 0 → n ≡ keep f (take (length s - a) (drop a s)) → _≡_ {A = Span} (record { start = a; len = n }) (trimmed f s)

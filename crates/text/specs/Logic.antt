@@ -1,7 +1,7 @@
 -- Small laws of tests and orders that every layer above uses, and the one law that says what an equation as a promise is worth.
 use mathlib.Core.Path.{_≡_, refl, sym, ap, _∙_}
 use mathlib.Core.Logic.{_⊎_, inl, inr, ⊎-elim}
-use mathlib.Core.Bool.{Bool, true, false, _&&_, _||_, cond}
+use mathlib.Core.Bool.{Bool, true, false, _&&_, cond}
 use native.Mathlib.Decide.{decLt}
 use Prim.Native.Nat.{ℕ, _+_, _-_, _≤_, _<_}
 use native.Mathlib.Omega.{arith}
@@ -22,18 +22,6 @@ not-true-false false h = refl
 pub and-both : (a b : Bool) → a && b ≡ true → (a ≡ true) × (b ≡ true)
 and-both true b e = (refl, e)
 and-both false b e = absurd (false-true e refl)
-
-pub and-false : (b : Bool) → b && false ≡ false
-and-false true = refl
-and-false false = refl
-
-pub and-assoc : (a b c : Bool) → a && b && c ≡ a && (b && c)
-and-assoc true b c = refl
-and-assoc false b c = refl
-
-pub or-none : (b : Bool) → b ≡ b || false
-or-none true = refl
-or-none false = refl
 
 -- a < b or b ≤ a, to be taken apart
 pub order : (a b : ℕ) → (a < b) ⊎ (b ≤ a)

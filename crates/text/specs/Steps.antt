@@ -1,6 +1,6 @@
 -- One step of each definition of `Text`, as the loops take it: the byte at hand passes, fails, or there is none.
 use mathlib.Core.Path.{_≡_, refl, ap, _∙_}
-use mathlib.Core.Bool.{Bool, true, false, _&&_, _||_}
+use mathlib.Core.Bool.{Bool, true, false, _&&_, _||_, and-false}
 use mathlib.Core.List.{List, [], _∷_, _++_}
 use Prim.Native.Nat.{ℕ, zero, suc, _+_, _-_, _≤_, _<_}
 use native.Mathlib.Numerals.{add-one, sub-one}
@@ -10,8 +10,8 @@ use lib.ListN.{length, getD, take, drop, length-drop, drop-of-length-le}
 use lib.Seq.{drop-cons, take-suc, length-take-le}
 use lib.Dec.{eqb, eqb·suc-zero}
 use borrow.Author.Tests.{eq-eqb, ne-eqb}
-use Rattle.text.specs.Logic.{and-false}
-use Rattle.text.specs.Text.{among, blanks, isBlank, leadAfter, lead, past, keepAfter, keep, begins, stands, hereOr, search, findIn}
+use Rattle.outcome.specs.Outcome.{if_then_else_}
+use Rattle.text.specs.Text.{among, blanks, isBlank, lead, past, keep, begins, stands, search, findIn}
 use Rattle.text.specs.declared.Blanks.the-variants.{Run, Trim}
 use Rattle.text.specs.declared.Found.the-variants.{At, Nothing}
 
@@ -30,31 +30,26 @@ trim-run b h = rw (ne-eqb b 12 h) (swapped (eqb b 32) (eqb b 9) (eqb b 13) (eqb 
 
 module _ (f : ℕ → Bool) where
   pub past-more : (s : List ℕ) (i : ℕ) → i < length s → f (getD s i 0) ≡ true → past f s i ≡ past f s (i + 1)
-  unfolding past lead leadAfter
+  unfolding past lead
   past-more s i h e = rw (add-one, drop-cons s i 0 h, e) (omega arith)
 
   pub past-stop : (s : List ℕ) (i : ℕ) → i < length s → f (getD s i 0) ≡ false → past f s i ≡ i
-  unfolding past lead leadAfter
+  unfolding past lead
   past-stop s i h e = rw (drop-cons s i 0 h, e) (omega arith)
 
   pub past-end : (s : List ℕ) (i : ℕ) → length s ≤ i → past f s i ≡ i
   unfolding past lead
   past-end s i h = rw (drop-of-length-le s h) (omega arith)
 
-  keepAfter-suc : (b : Bool) (n : ℕ) → keepAfter b (suc n) ≡ suc (suc n)
-  unfolding keepAfter
-  keepAfter-suc true n = refl
-  keepAfter-suc false n = refl
-
   keep-last : (l : List ℕ) (x : ℕ) → f x ≡ true → keep f (l ++ (x ∷ [])) ≡ keep f l
-  unfolding keep keepAfter
+  unfolding keep
   keep-last [] x e = rw e
-  keep-last (y ∷ l) x e = ap (keepAfter (f y)) (keep-last l x e)
+  keep-last (y ∷ l) x e = ap (λ (n : ℕ). if f y && eqb n 0 then zero else suc n) (keep-last l x e)
 
   keep-end : (l : List ℕ) (x : ℕ) → f x ≡ false → keep f (l ++ (x ∷ [])) ≡ suc (length l)
-  unfolding keep keepAfter
+  unfolding keep
   keep-end [] x e = rw e
-  keep-end (y ∷ l) x e = ap (keepAfter (f y)) (keep-end l x e) ∙ keepAfter-suc (f y) (length l)
+  keep-end (y ∷ l) x e = rw (keep-end l x e, eqb·suc-zero (length l), and-false (f y))
 
   pub keep-less : (s : List ℕ) (n : ℕ) → 0 < n → n ≤ length s → f (getD s (n - 1) 0) ≡ true → keep f (take n s) ≡ keep f (take (n - 1) s)
   keep-less s zero p h e = absurd (omega arith)
@@ -96,7 +91,7 @@ unfolding stands
 stands-short t s i h g = begins-short t (drop i s) (rw length-drop (omega arith))
 
 search-here : (t s : List ℕ) (i : ℕ) → begins t s ≡ true → search t s i ≡ At i
-unfolding search hereOr
+unfolding search
 search-here t [] i e = rw e
 search-here t (x ∷ s) i e = rw e
 
@@ -106,9 +101,9 @@ unfolding findIn stands
 find-here t s i e = search-here t (drop i s) i e
 
 pub find-next : (t s : List ℕ) (i : ℕ) → i < length s → stands t s i ≡ false → findIn t s i ≡ findIn t s (i + 1)
-unfolding findIn search stands hereOr
+unfolding findIn search stands
 find-next t s i h e = rw (add-one, drop-cons s i 0 h, rw (drop-cons s i 0 h) at e)
 
 pub find-end : (t s : List ℕ) (i : ℕ) → length s ≤ i → stands t s i ≡ false → findIn t s i ≡ Nothing
-unfolding findIn search stands hereOr
+unfolding findIn search stands
 find-end t s i h e = rw (drop-of-length-le s h, rw (drop-of-length-le s h) at e)

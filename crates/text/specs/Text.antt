@@ -4,6 +4,7 @@ use mathlib.Core.List.{List, [], _∷_}
 use Prim.Native.Nat.{ℕ, zero, suc, _+_}
 use lib.ListN.{length, take, drop}
 use lib.Dec.{eqb, leb}
+use Rattle.outcome.specs.Outcome.{if_then_else_}
 use Rattle.text.specs.Bytes.{bytes}
 use Rattle.text.specs.declared.Blanks.{Blanks}
 use Rattle.text.specs.declared.Blanks.the-variants.{Space, Run, Trim}
@@ -26,33 +27,20 @@ unfoldable pub isBlank : Blanks → ℕ → Bool
 unfolding among blanks
 isBlank set b = among (blanks set) b
 
--- one more where the test holds, else none
-unfoldable pub leadAfter : Bool → ℕ → ℕ
-leadAfter true n = suc n
-leadAfter false n = zero
-
 -- how many bytes that pass f the list begins with
 unfoldable pub lead : (ℕ → Bool) → List ℕ → ℕ
-unfolding leadAfter
 lead f [] = zero
-lead f (x ∷ s) = let n = lead f s in leadAfter (f x) n
+lead f (x ∷ s) = let n = lead f s in if f x then suc n else zero
 
 -- the first place at or after i whose byte fails f, or the end
 unfoldable pub past : (ℕ → Bool) → List ℕ → ℕ → ℕ
 unfolding lead
 past f s i = i + lead f (drop i s)
 
--- how much of x ∷ s is kept where n of s is, and x passes the test or not
-unfoldable pub keepAfter : Bool → ℕ → ℕ
-keepAfter true zero = zero
-keepAfter true (suc n) = suc (suc n)
-keepAfter false n = suc n
-
 -- how long the list is without the bytes that pass f and that it ends in
 unfoldable pub keep : (ℕ → Bool) → List ℕ → ℕ
-unfolding keepAfter
 keep f [] = zero
-keep f (x ∷ s) = let n = keep f s in keepAfter (f x) n
+keep f (x ∷ s) = let n = keep f s in if f x && eqb n 0 then zero else suc n
 
 -- where the list starts and how long it is without the bytes that pass f at its two ends
 unfoldable pub trimmed : (ℕ → Bool) → List ℕ → Span
@@ -70,38 +58,24 @@ unfoldable pub stands : List ℕ → List ℕ → ℕ → Bool
 unfolding begins
 stands t s i = begins t (drop i s)
 
-unfoldable pub hereOr : Bool → ℕ → Found → Found
-hereOr true i r = At i
-hereOr false i r = r
-
 -- the first place of t in s, where s begins at the place i
 unfoldable pub search : List ℕ → List ℕ → ℕ → Found
-unfolding begins hereOr
-search t [] i = hereOr (begins t []) i Nothing
-search t (x ∷ s) i = let r = search t s (suc i) in hereOr (begins t (x ∷ s)) i r
+unfolding begins
+search t [] i = if begins t [] then At i else Nothing
+search t (x ∷ s) i = let r = search t s (suc i) in if begins t (x ∷ s) then At i else r
 
 -- the first place of t in s at or after i
 unfoldable pub findIn : List ℕ → List ℕ → ℕ → Found
 unfolding search
 findIn t s i = search t (drop i s) i
 
-unfoldable pub orEmpty : Bool → List ℕ → List ℕ
-orEmpty true l = l
-orEmpty false l = []
-
 -- the len bytes of s from the place p on, or none where they don't fit
 unfoldable pub partOf : List ℕ → ℕ → ℕ → List ℕ
-unfolding orEmpty
-partOf s p len = orEmpty (leb (p + len) (length s)) (take len (drop p s))
+partOf s p len = if leb (p + len) (length s) then take len (drop p s) else []
 
 -- where that part begins: at p, or at the front where it doesn't fit
-unfoldable pub orFront : Bool → ℕ → ℕ
-orFront true p = p
-orFront false p = 0
-
 unfoldable pub partAt : List ℕ → ℕ → ℕ → ℕ
-unfolding orFront
-partAt s p len = orFront (leb (p + len) (length s)) p
+partAt s p len = if leb (p + len) (length s) then p else 0
 
 -- n bytes further on from an address (a block of memory and an offset in it)
 abbrev pub further : ℕ × ℕ → ℕ → ℕ × ℕ

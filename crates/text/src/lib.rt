@@ -51,7 +51,7 @@ fn is_trim(b: u8) -> bool
 }
 
 // Is b a blank of the set?
-pub fn is_blank(set: Blanks, b: u8) -> bool
+fn is_blank(set: Blanks, b: u8) -> bool
     ensures { λ r. ⌜ r ≡ isBlank set b ⌝ }
 {
     match set {

@@ -1,5 +1,5 @@
 -- `digest_checked` meets its contract.
-use Rattle.digest.specs.Theorem.{checked-is, checked-long}
+use Rattle.digest.specs.Calls.{checked-is, checked-long}
 use borrow.Author.Needs.{needs}
 use Rattle.digest.proofs.digest_checked.Statement.{statement}
 use Rattle.digest.proofs.digest_checked.Tie as tie

@@ -3,7 +3,7 @@ use mathlib.Core.Path.{sym, _∙_}
 use borrow.Author.Tests.{not-true, not-false}
 use Rattle.text.specs.Laws.{stands-fits}
 use Rattle.lines.specs.Lines.{crlf}
-use Rattle.digest.specs.Laws.{retries-off, retries-on}
+use Rattle.digest.specs.Step.{retries-off, retries-on}
 use borrow.Author.Needs.{needs}
 use native.Mathlib.Omega.{arith}
 use Rattle.digest.proofs.retries_at.Statement.{statement}

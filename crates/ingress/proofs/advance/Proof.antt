@@ -1,10 +1,9 @@
 -- `advance` meets its contract: the refusals in their order, then the loop.
-use mathlib.Core.Path.{sym, ap, _∙_}
-use Rattle.ingress.specs.Ingress.{world, refusal}
-use Rattle.ingress.specs.Conserved.{advance-whole}
-use Rattle.ingress.specs.Laws.{passed, good-inside, advance-refused, advance-room, advance-done, advance-full}
-use borrow.Author.Needs.{needs}
 use native.Mathlib.Omega.{arith}
+use Rattle.turn.specs.Turn.{world, choice}
+use Rattle.ingress.specs.Laws.{judged-as, passed, advance-refused, advance-room, advance-ran}
+use Rattle.ingress.specs.Conserved.{advance-whole}
+use borrow.Author.Needs.{needs}
 use Rattle.ingress.proofs.advance.Statement.{statement}
 use Rattle.ingress.proofs.advance.Tie as tie
 
@@ -27,23 +26,22 @@ sub-if1 : tie.Need-sub-if1
 sub-if1 c =
     let args = c .before .before .before .before .before .before .before .args in
     let judge = c .before .before .judge in
-    good-inside (args .table .now) (world (args .state) (args .buf .now) (args .slot-mem .now) (args .queue-mem .now)) (passed (args .table .now) (world (args .state) (args .buf .now) (args .slot-mem .now) (args .queue-mem .now)) (ap refusal (sym (c .enum-told3 .given .1)) ∙ judge .ensures))
+    passed (choice (args .table .now)) (world (args .state) (args .buf .now) (args .slot-mem .now) (args .queue-mem .now)) (judged-as (choice (args .table .now)) (world (args .state) (args .buf .now) (args .slot-mem .now) (args .queue-mem .now)) _ (judge .ensures) _ (c .enum-told3 .given .1)) .inside
 
 returns : tie.Need-returns
 returns c =
     let args = c .before .before .before .before .before .before .before .before .args in
     let judge = c .before .before .before .judge in
-    advance-whole (args .table .now) (args .commit) (world (args .state) (args .buf .now) (args .slot-mem .now) (args .queue-mem .now)) _ (advance-room (args .table .now) (args .commit) (world (args .state) (args .buf .now) (args .slot-mem .now) (args .queue-mem .now)) (ap refusal (sym (c .before .enum-told3 .given .1)) ∙ judge .ensures) (c .if1 .taken))
+    advance-whole (choice (args .table .now)) (args .commit) (world (args .state) (args .buf .now) (args .slot-mem .now) (args .queue-mem .now)) _ (advance-room (choice (args .table .now)) (args .commit) (world (args .state) (args .buf .now) (args .slot-mem .now) (args .queue-mem .now)) (judged-as (choice (args .table .now)) (world (args .state) (args .buf .now) (args .slot-mem .now) (args .queue-mem .now)) _ (judge .ensures) _ (c .before .enum-told3 .given .1)) (omega arith))
 
-add-t19 : tie.Need-add-t19
-add-t19 c = search needs
+add-with-end : tie.Need-add-with-end
+add-with-end c = search needs
+
+with-end-requires : tie.Need-with-end-requires
+with-end-requires c κs = search needs
 
 run-requires : tie.Need-run-requires
-run-requires c κs =
-    let args = c .before .before .before .before .before .before .before .before .before .before .before .before .before .args in
-    let judge = c .before .before .before .before .before .before .before .before .judge in
-    let enum-told3 = c .before .before .before .before .before .before .enum-told3 in
-    omega (arith, good-inside (args .table .now) (world (args .state) (args .buf .now) (args .slot-mem .now) (args .queue-mem .now)) (passed (args .table .now) (world (args .state) (args .buf .now) (args .slot-mem .now) (args .queue-mem .now)) (ap refusal (sym (enum-told3 .given .1)) ∙ judge .ensures)))
+run-requires c κs = search needs
 
 enum-known-s : tie.Need-enum-known-s
 enum-known-s c = search needs
@@ -55,19 +53,19 @@ returns-2 : tie.Need-returns-2
 returns-2 c =
     let args = c .before .before .before .before .before .before .before .args in
     let judge = c .before .before .judge in
-    advance-whole (args .table .now) (args .commit) (world (args .state) (args .buf .now) (args .slot-mem .now) (args .queue-mem .now)) _ (advance-refused (args .table .now) (args .commit) (world (args .state) (args .buf .now) (args .slot-mem .now) (args .queue-mem .now)) 1 _ (ap refusal (sym (c .enum-told .given .1)) ∙ judge .ensures))
+    advance-whole (choice (args .table .now)) (args .commit) (world (args .state) (args .buf .now) (args .slot-mem .now) (args .queue-mem .now)) _ (advance-refused (choice (args .table .now)) (args .commit) (world (args .state) (args .buf .now) (args .slot-mem .now) (args .queue-mem .now)) 1 _ (judged-as (choice (args .table .now)) (world (args .state) (args .buf .now) (args .slot-mem .now) (args .queue-mem .now)) _ (judge .ensures) _ (c .enum-told .given .1)))
 
 returns-3 : tie.Need-returns-3
 returns-3 c =
     let args = c .before .before .before .before .before .before .before .before .args in
     let judge = c .before .before .before .judge in
-    advance-whole (args .table .now) (args .commit) (world (args .state) (args .buf .now) (args .slot-mem .now) (args .queue-mem .now)) _ (advance-refused (args .table .now) (args .commit) (world (args .state) (args .buf .now) (args .slot-mem .now) (args .queue-mem .now)) 2 _ (ap refusal (sym (c .before .k .given .1)) ∙ judge .ensures))
+    advance-whole (choice (args .table .now)) (args .commit) (world (args .state) (args .buf .now) (args .slot-mem .now) (args .queue-mem .now)) _ (advance-refused (choice (args .table .now)) (args .commit) (world (args .state) (args .buf .now) (args .slot-mem .now) (args .queue-mem .now)) 2 _ (judged-as (choice (args .table .now)) (world (args .state) (args .buf .now) (args .slot-mem .now) (args .queue-mem .now)) _ (judge .ensures) _ (c .before .k .given .1)))
 
 returns-4 : tie.Need-returns-4
 returns-4 c =
     let args = c .before .before .before .before .before .before .before .args in
     let judge = c .before .before .judge in
-    advance-whole (args .table .now) (args .commit) (world (args .state) (args .buf .now) (args .slot-mem .now) (args .queue-mem .now)) _ (advance-refused (args .table .now) (args .commit) (world (args .state) (args .buf .now) (args .slot-mem .now) (args .queue-mem .now)) 3 _ (ap refusal (sym (c .enum-told2 .given .1)) ∙ judge .ensures))
+    advance-whole (choice (args .table .now)) (args .commit) (world (args .state) (args .buf .now) (args .slot-mem .now) (args .queue-mem .now)) _ (advance-refused (choice (args .table .now)) (args .commit) (world (args .state) (args .buf .now) (args .slot-mem .now) (args .queue-mem .now)) 3 _ (judged-as (choice (args .table .now)) (world (args .state) (args .buf .now) (args .slot-mem .now) (args .queue-mem .now)) _ (judge .ensures) _ (c .enum-told2 .given .1)))
 
 same-length : tie.Need-same-length
 same-length c = search needs
@@ -80,12 +78,13 @@ same-length-3 c = search needs
 
 returns-5 : tie.Need-returns-5
 returns-5 c =
-    let args = c .before .before .before .before .before .before .before .before .before .before .before .before .before .before .before .before .before .before .before .before .before .before .before .args in
-    let judge = c .before .before .before .before .before .before .before .before .before .before .before .before .before .before .before .before .before .before .judge in
-    let enum-told3 = c .before .before .before .before .before .before .before .before .before .before .before .before .before .before .before .before .enum-told3 in
-    let if1 = c .before .before .before .before .before .before .before .before .before .before .before .before .before .before .before .if1 in
+    let args = c .before .before .before .before .before .before .before .before .before .before .before .before .before .before .before .before .before .before .before .before .before .before .args in
+    let judge = c .before .before .before .before .before .before .before .before .before .before .before .before .before .before .before .before .before .judge in
+    let enum-told3 = c .before .before .before .before .before .before .before .before .before .before .before .before .before .before .before .enum-told3 in
+    let if1 = c .before .before .before .before .before .before .before .before .before .before .before .before .before .before .if1 in
+    let with-end = c .before .before .before .before .before .before .before .before .before .before .before .before .before .with-end in
     let run = c .before .before .before .before .before .before .before .before .before .run in
-    advance-whole (args .table .now) (args .commit) (world (args .state) (args .buf .now) (args .slot-mem .now) (args .queue-mem .now)) _ (advance-done (args .table .now) (args .commit) (world (args .state) (args .buf .now) (args .slot-mem .now) (args .queue-mem .now)) (ap refusal (sym (enum-told3 .given .1)) ∙ judge .ensures) (if1 .left) _ _ _ _ (run .ensures) _ (c .before .s .given .1))
+    advance-whole (choice (args .table .now)) (args .commit) (world (args .state) (args .buf .now) (args .slot-mem .now) (args .queue-mem .now)) _ (advance-ran (choice (args .table .now)) (args .commit) (world (args .state) (args .buf .now) (args .slot-mem .now) (args .queue-mem .now)) (judged-as (choice (args .table .now)) (world (args .state) (args .buf .now) (args .slot-mem .now) (args .queue-mem .now)) _ (judge .ensures) _ (enum-told3 .given .1)) (omega (arith, if1 .left)) _ _ _ _ _ (with-end .ensures) (run .ensures) _ (c .before .s .given .1))
 
 same-length-4 : tie.Need-same-length-4
 same-length-4 c = search needs
@@ -98,12 +97,13 @@ same-length-6 c = search needs
 
 returns-6 : tie.Need-returns-6
 returns-6 c =
-    let args = c .before .before .before .before .before .before .before .before .before .before .before .before .before .before .before .before .before .before .before .before .before .before .before .args in
-    let judge = c .before .before .before .before .before .before .before .before .before .before .before .before .before .before .before .before .before .before .judge in
-    let enum-told3 = c .before .before .before .before .before .before .before .before .before .before .before .before .before .before .before .before .enum-told3 in
-    let if1 = c .before .before .before .before .before .before .before .before .before .before .before .before .before .before .before .if1 in
+    let args = c .before .before .before .before .before .before .before .before .before .before .before .before .before .before .before .before .before .before .before .before .before .before .args in
+    let judge = c .before .before .before .before .before .before .before .before .before .before .before .before .before .before .before .before .before .judge in
+    let enum-told3 = c .before .before .before .before .before .before .before .before .before .before .before .before .before .before .before .enum-told3 in
+    let if1 = c .before .before .before .before .before .before .before .before .before .before .before .before .before .before .if1 in
+    let with-end = c .before .before .before .before .before .before .before .before .before .before .before .before .before .with-end in
     let run = c .before .before .before .before .before .before .before .before .before .run in
-    advance-whole (args .table .now) (args .commit) (world (args .state) (args .buf .now) (args .slot-mem .now) (args .queue-mem .now)) _ (advance-full (args .table .now) (args .commit) (world (args .state) (args .buf .now) (args .slot-mem .now) (args .queue-mem .now)) (ap refusal (sym (enum-told3 .given .1)) ∙ judge .ensures) (if1 .left) _ _ _ _ (run .ensures) _ (c .before .s2 .given .1))
+    advance-whole (choice (args .table .now)) (args .commit) (world (args .state) (args .buf .now) (args .slot-mem .now) (args .queue-mem .now)) _ (advance-ran (choice (args .table .now)) (args .commit) (world (args .state) (args .buf .now) (args .slot-mem .now) (args .queue-mem .now)) (judged-as (choice (args .table .now)) (world (args .state) (args .buf .now) (args .slot-mem .now) (args .queue-mem .now)) _ (judge .ensures) _ (enum-told3 .given .1)) (omega (arith, if1 .left)) _ _ _ _ _ (with-end .ensures) (run .ensures) _ (c .before .s2 .given .1))
 
 pub advance-spec : {M : Type 1} → statement M
 advance-spec =
@@ -116,7 +116,8 @@ advance-spec =
     enum-told-3
     sub-if1
     returns
-    add-t19
+    add-with-end
+    with-end-requires
     run-requires
     enum-known-s
     enum-known-s-2

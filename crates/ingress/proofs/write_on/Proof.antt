@@ -1,17 +1,17 @@
 -- `write_on` meets its contract: what is to be written of the piece is what is to be written of its rest. The measure is what is not yet taken.
 use mathlib.Core.Path.{refl, _∙_}
 use Prim.Native.Nat.{_-_}
+use native.Mathlib.Omega.{arith}
 use lib.ListN.{length}
 use Rattle.text.specs.Laws.{rest}
-use Rattle.ingress.specs.Ingress.{world}
+use Rattle.turn.specs.Turn.{world, choice}
 use Rattle.ingress.specs.Laws.{Writes, on-full, full-room, on-still, on-room, on-again}
 use borrow.Author.Needs.{needs}
-use native.Mathlib.Omega.{arith}
 use Rattle.ingress.proofs.write_on.Statement.{statement}
 use Rattle.ingress.proofs.write_on.Tie as tie
 
 abbrev Inv-loop : tie.InvT-loop
-Inv-loop table piece buf₀ slot-mem₀ queue-mem₀ s₀ taken₀ buf slot-mem queue-mem s taken = Writes table piece (world s₀ buf₀ slot-mem₀ queue-mem₀) taken (world s buf slot-mem queue-mem)
+Inv-loop table piece buf₀ slot-mem₀ queue-mem₀ s₀ taken₀ buf slot-mem queue-mem s taken = Writes (choice table) piece (world s₀ buf₀ slot-mem₀ queue-mem₀) taken (world s buf slot-mem queue-mem)
 
 abbrev μ-loop : tie.MeasureT-loop
 μ-loop table piece buf₀ slot-mem₀ queue-mem₀ s₀ taken₀ buf slot-mem queue-mem s taken = length piece - taken
@@ -44,7 +44,7 @@ add-t24 c =
     let good = c .before .before .before .before .before .before .before .before .before .before .before .before .before .before .before .before .before .before .before .before .good in
     let loop = c .before .before .before .before .before .before .before .before .before .before .before .before .before .before .loop in
     let write-once = c .before .before .before .before .before .before .before .before .before .write-once in
-    record { fits = omega (arith, full-room (args .table .now) (args .piece .now) (world (args .state) (args .buf .now) (args .slot-mem .now) (args .queue-mem .now)) (loop .taken) (world (loop .s) (loop .buf) (loop .slot-mem) (loop .queue-mem)) (loop .inv) _ (rest (args .piece .now) (loop .taken)) _ _ _ _ (write-once .ensures) _ _ (c .before .next .given .1), good .1 .1 .0) }
+    record { fits = omega (arith, full-room (choice (args .table .now)) (args .piece .now) (world (args .state) (args .buf .now) (args .slot-mem .now) (args .queue-mem .now)) (loop .taken) (world (loop .s) (loop .buf) (loop .slot-mem) (loop .queue-mem)) (loop .inv) _ (rest (args .piece .now) (loop .taken)) _ _ _ _ (write-once .ensures) _ _ (c .before .next .given .1), good .1 .1 .0) }
 
 same-length : tie.Need-same-length Inv-loop μ-loop
 same-length c =
@@ -69,7 +69,7 @@ returns c =
     let args = c .before .before .before .before .before .before .before .before .before .before .before .before .before .before .before .before .before .before .before .before .args in
     let loop = c .before .before .before .before .before .before .before .before .before .before .before .before .before .before .loop in
     let write-once = c .before .before .before .before .before .before .before .before .before .write-once in
-    on-full (args .table .now) (args .piece .now) (world (args .state) (args .buf .now) (args .slot-mem .now) (args .queue-mem .now)) (loop .taken) (world (loop .s) (loop .buf) (loop .slot-mem) (loop .queue-mem)) (loop .inv) _ (rest (args .piece .now) (loop .taken)) _ _ _ _ (write-once .ensures) _ _ (c .before .next .given .1)
+    on-full (choice (args .table .now)) (args .piece .now) (world (args .state) (args .buf .now) (args .slot-mem .now) (args .queue-mem .now)) (loop .taken) (world (loop .s) (loop .buf) (loop .slot-mem) (loop .queue-mem)) (loop .inv) _ (rest (args .piece .now) (loop .taken)) _ _ _ _ (write-once .ensures) _ _ (c .before .next .given .1)
 
 enum-known-next-2 : tie.Need-enum-known-next-2 Inv-loop μ-loop
 enum-known-next-2 c = search needs
@@ -98,7 +98,7 @@ returns-2 c =
     let loop = c .before .before .before .before .before .before .before .before .before .before .before .before .before .before .before .loop in
     let write-once = c .before .before .before .before .before .before .before .before .before .before .write-once in
     let next2 = c .before .before .next2 in
-    on-still (args .table .now) (args .piece .now) (world (args .state) (args .buf .now) (args .slot-mem .now) (args .queue-mem .now)) (loop .taken) (world (loop .s) (loop .buf) (loop .slot-mem) (loop .queue-mem)) (loop .inv) _ (rest (args .piece .now) (loop .taken)) _ _ _ _ (write-once .ensures) _ _ (next2 .given .1) (c .if1 .taken)
+    on-still (choice (args .table .now)) (args .piece .now) (world (args .state) (args .buf .now) (args .slot-mem .now) (args .queue-mem .now)) (loop .taken) (world (loop .s) (loop .buf) (loop .slot-mem) (loop .queue-mem)) (loop .inv) _ (rest (args .piece .now) (loop .taken)) _ _ _ _ (write-once .ensures) _ _ (next2 .given .1) (omega arith)
 
 add-taken : tie.Need-add-taken Inv-loop μ-loop
 add-taken c =
@@ -107,7 +107,7 @@ add-taken c =
     let loop = c .before .before .before .before .before .before .before .before .before .before .before .before .before .before .before .loop in
     let write-once = c .before .before .before .before .before .before .before .before .before .before .write-once in
     let next2 = c .before .before .next2 in
-    omega (arith, on-room (args .table .now) (args .piece .now) (world (args .state) (args .buf .now) (args .slot-mem .now) (args .queue-mem .now)) (loop .taken) (world (loop .s) (loop .buf) (loop .slot-mem) (loop .queue-mem)) (loop .inv) _ (rest (args .piece .now) (loop .taken)) _ _ _ _ (write-once .ensures) _ _ (next2 .given .1), good .1 .1 .0)
+    omega (arith, on-room (choice (args .table .now)) (args .piece .now) (world (args .state) (args .buf .now) (args .slot-mem .now) (args .queue-mem .now)) (loop .taken) (world (loop .s) (loop .buf) (loop .slot-mem) (loop .queue-mem)) (loop .inv) _ (rest (args .piece .now) (loop .taken)) _ _ _ _ (write-once .ensures) _ _ (next2 .given .1), good .1 .1 .0)
 
 loop-less : tie.Need-loop-less Inv-loop μ-loop
 loop-less c =
@@ -115,7 +115,7 @@ loop-less c =
     let loop = c .before .before .before .before .before .before .before .before .before .before .before .before .before .before .before .loop in
     let write-once = c .before .before .before .before .before .before .before .before .before .before .write-once in
     let next2 = c .before .before .next2 in
-    omega (arith, on-room (args .table .now) (args .piece .now) (world (args .state) (args .buf .now) (args .slot-mem .now) (args .queue-mem .now)) (loop .taken) (world (loop .s) (loop .buf) (loop .slot-mem) (loop .queue-mem)) (loop .inv) _ (rest (args .piece .now) (loop .taken)) _ _ _ _ (write-once .ensures) _ _ (next2 .given .1))
+    omega (arith, on-room (choice (args .table .now)) (args .piece .now) (world (args .state) (args .buf .now) (args .slot-mem .now) (args .queue-mem .now)) (loop .taken) (world (loop .s) (loop .buf) (loop .slot-mem) (loop .queue-mem)) (loop .inv) _ (rest (args .piece .now) (loop .taken)) _ _ _ _ (write-once .ensures) _ _ (next2 .given .1))
 
 loop-again : tie.Need-loop-again Inv-loop μ-loop
 loop-again c =
@@ -123,7 +123,7 @@ loop-again c =
     let loop = c .before .before .before .before .before .before .before .before .before .before .before .before .before .before .before .loop in
     let write-once = c .before .before .before .before .before .before .before .before .before .before .write-once in
     let next2 = c .before .before .next2 in
-    on-again (args .table .now) (args .piece .now) (world (args .state) (args .buf .now) (args .slot-mem .now) (args .queue-mem .now)) (loop .taken) (world (loop .s) (loop .buf) (loop .slot-mem) (loop .queue-mem)) (loop .inv) _ (rest (args .piece .now) (loop .taken)) _ _ _ _ (write-once .ensures) _ _ (next2 .given .1) (c .if1 .left) (write-once .kept .1 .1 .1 .0) (write-once .kept .1 .1 .1 .1 .0) (write-once .kept .1 .1 .1 .1 .1 .0)
+    on-again (choice (args .table .now)) (args .piece .now) (world (args .state) (args .buf .now) (args .slot-mem .now) (args .queue-mem .now)) (loop .taken) (world (loop .s) (loop .buf) (loop .slot-mem) (loop .queue-mem)) (loop .inv) _ (rest (args .piece .now) (loop .taken)) _ _ _ _ (write-once .ensures) _ _ (next2 .given .1) (λ z. omega arith) (write-once .kept .1 .1 .1 .0) (write-once .kept .1 .1 .1 .1 .0) (write-once .kept .1 .1 .1 .1 .1 .0)
 
 pub write-on-spec : {M : Type 1} → statement M
 write-on-spec =

@@ -1,5 +1,4 @@
 -- `answer_of` meets its contract.
-use Rattle.numbers.specs.Laws.{answer-is}
 use borrow.Author.Needs.{needs}
 use Rattle.numbers.proofs.answer_of.Statement.{statement}
 use Rattle.numbers.proofs.answer_of.Tie as tie
@@ -27,10 +26,9 @@ element-copy-out-t20 c = search needs
 
 returns : tie.Need-returns
 returns c =
-    let args = c .before .before .before .before .before .before .before .args in
     let kind-of = c .before .before .before .before .before .kind-of in
     let word = c .before .before .before .word in
-    answer-is (args .answer .now) _ (kind-of .ensures) _ (word .ensures)
+    rw (kind-of .ensures, word .ensures)
 
 pub answer-of-spec : {M : Type 1} → statement M
 answer-of-spec =

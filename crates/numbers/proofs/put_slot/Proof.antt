@@ -1,50 +1,49 @@
 -- `put_slot` meets its contract.
-use Rattle.numbers.specs.Laws.{with-slot}
 use borrow.Author.Needs.{needs}
 use Rattle.numbers.proofs.put_slot.Statement.{statement}
 use Rattle.numbers.proofs.put_slot.Tie as tie
 
-element-copy-out-t6 : tie.Need-element-copy-out-t6
-element-copy-out-t6 c = search needs
-
 flag-number-requires : tie.Need-flag-number-requires
 flag-number-requires c κs = search needs
+
+element-write-state : tie.Need-element-write-state
+element-write-state c = search needs
 
 held-number-requires : tie.Need-held-number-requires
 held-number-requires c κs = search needs
 
-cast-t9 : tie.Need-cast-t9
-cast-t9 c = search needs
+element-write-state-2 : tie.Need-element-write-state-2
+element-write-state-2 c = search needs
 
-cast-t11 : tie.Need-cast-t11
-cast-t11 c = search needs
+cast-state : tie.Need-cast-state
+cast-state c = search needs
 
-element-copy-out-t14 : tie.Need-element-copy-out-t14
-element-copy-out-t14 c = search needs
+element-write-state-3 : tie.Need-element-write-state-3
+element-write-state-3 c = search needs
 
-element-copy-out-t17 : tie.Need-element-copy-out-t17
-element-copy-out-t17 c = search needs
+element-write-state-4 : tie.Need-element-write-state-4
+element-write-state-4 c = search needs
 
-element-copy-out-t20 : tie.Need-element-copy-out-t20
-element-copy-out-t20 c = search needs
+cast-state-2 : tie.Need-cast-state-2
+cast-state-2 c = search needs
+
+element-write-state-5 : tie.Need-element-write-state-5
+element-write-state-5 c = search needs
 
 returns : tie.Need-returns
-returns c =
-    let args = c .before .before .before .before .before .before .before .before .before .args in
-    let flag-number = c .before .before .before .before .before .before .before .flag-number in
-    let held-number = c .before .before .before .before .before .before .held-number in
-    with-slot (args .state .now) (args .x) _ (flag-number .ensures) _ (held-number .ensures)
+returns c = rw (c .before .before .before .flag-number .ensures, c .before .before .held-number .ensures)
 
 pub put-slot-spec : {M : Type 1} → statement M
 put-slot-spec =
     tie.close
     (tie.spec
-    element-copy-out-t6
     flag-number-requires
+    element-write-state
     held-number-requires
-    cast-t9
-    cast-t11
-    element-copy-out-t14
-    element-copy-out-t17
-    element-copy-out-t20
+    element-write-state-2
+    cast-state
+    element-write-state-3
+    element-write-state-4
+    cast-state-2
+    element-write-state-5
     returns)

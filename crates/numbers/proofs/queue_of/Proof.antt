@@ -1,5 +1,4 @@
 -- `queue_of` meets its contract.
-use Rattle.numbers.specs.Laws.{queue-is}
 use borrow.Author.Needs.{needs}
 use Rattle.numbers.proofs.queue_of.Statement.{statement}
 use Rattle.numbers.proofs.queue_of.Tie as tie
@@ -18,8 +17,7 @@ word-requires c κs = search needs
 
 returns : tie.Need-returns
 returns c =
-    let args = c .before .before .before .before .args in
-    queue-is (args .state .now) _ (c .word .ensures)
+    rw (c .word .ensures)
 
 pub queue-of-spec : {M : Type 1} → statement M
 queue-of-spec =

@@ -1,5 +1,4 @@
 -- `slot_of` meets its contract.
-use Rattle.numbers.specs.Laws.{slot-is}
 use borrow.Author.Needs.{needs}
 use Rattle.numbers.proofs.slot_of.Statement.{statement}
 use Rattle.numbers.proofs.slot_of.Tie as tie
@@ -30,10 +29,9 @@ word-requires-2 c κs = search needs
 
 returns : tie.Need-returns
 returns c =
-    let args = c .before .before .before .before .before .before .before .before .args in
     let held-of = c .before .before .before .before .before .held-of in
     let word = c .before .before .before .word in
-    slot-is (args .state .now) _ (held-of .ensures) _ (word .ensures) _ (c .word2 .ensures)
+    rw (held-of .ensures, word .ensures, c .word2 .ensures)
 
 pub slot-of-spec : {M : Type 1} → statement M
 slot-of-spec =

@@ -1,5 +1,4 @@
 -- `state_of` meets its contract.
-use Rattle.numbers.specs.Laws.{state-is}
 use borrow.Author.Needs.{needs}
 use Rattle.numbers.proofs.state_of.Statement.{statement}
 use Rattle.numbers.proofs.state_of.Tie as tie
@@ -15,8 +14,7 @@ queue-of-requires c κs = search needs
 
 returns : tie.Need-returns
 returns c =
-    let args = c .before .before .before .args in
-    state-is (args .state .now) _ (c .before .slot-of .ensures) _ (c .queue-of .ensures)
+    rw (c .before .slot-of .ensures, c .queue-of .ensures)
 
 pub state-of-spec : {M : Type 1} → statement M
 state-of-spec = tie.close (tie.spec element-copy-out-t4 slot-of-requires queue-of-requires returns)

@@ -1,10 +1,8 @@
 -- `line` meets its contract: its four texts one after the other.
 use mathlib.Core.Path.{sym, _∙_}
 use borrow.Author.Tests.{not-true, not-false}
-use Rattle.report.specs.Report.{ink}
-use Rattle.report.specs.Laws.{line-none, name-room, value-room, end-room, line-some}
+use Rattle.report.specs.Laws.{line-none, value-room, line-some}
 use borrow.Author.Needs.{needs}
-use native.Mathlib.Omega.{arith}
 use Rattle.report.proofs.line.Statement.{statement}
 use Rattle.report.proofs.line.Tie as tie
 
@@ -14,45 +12,31 @@ is-found-requires c κs = search needs
 returns : tie.Need-returns
 returns c =
     let args = c .before .before .before .before .args in
-    let pre = c .before .before .before .before .pre in
-    line-none (args .a) (args .s .now) (args .out .now) (args .at) (omega (arith, pre)) (sym (c .before .is-found .ensures) ∙ not-true _ (c .if1 .taken))
+    line-none (args .a) (args .s .now) (args .out .now) (args .at) (sym (c .before .is-found .ensures) ∙ not-true _ (c .if1 .taken))
 
 payload-requires : tie.Need-payload-requires
 payload-requires c κs = search needs
 
-plain-requires : tie.Need-plain-requires
-plain-requires c κs =
-    let pre = c .before .before .before .before .before .before .pre in
-    omega (arith, pre)
+decimal-requires : tie.Need-decimal-requires
+decimal-requires c κs = search needs
 
 name-requires : tie.Need-name-requires
-name-requires c κs =
-    let args = c .before .before .before .before .before .before .before .before .before .before .args in
-    let pre = c .before .before .before .before .before .before .before .before .before .before .pre in
-    let plain = c .before .before .before .plain in
-    name-room (args .a) (args .s .now) (args .out .now) (args .at) (pre) _ _ (plain .ensures) (plain .kept .0)
+name-requires c κs = search needs
 
 value-requires : tie.Need-value-requires
 value-requires c κs =
     let args = c .before .before .before .before .before .before .before .before .before .before .before .before .before .before .args in
     let pre = c .before .before .before .before .before .before .before .before .before .before .before .before .before .before .pre in
     let payload = c .before .before .before .before .before .before .before .before .before .payload in
-    let plain = c .before .before .before .before .before .before .before .plain in
+    let decimal = c .before .before .before .before .before .before .before .decimal in
     let name = c .before .before .before .name in
-    value-room (args .a) (args .s .now) (args .out .now) (args .at) (pre) _ _ (plain .ensures) (plain .kept .0) _ _ (name .ensures) (name .kept .0) _ (payload .ensures .0)
+    value-room (args .a) (args .s .now) (args .out .now) (args .at) (pre) _ _ (decimal .ensures) (decimal .kept .0) _ _ (name .ensures) (name .kept .0) _ (payload .ensures .0)
 
-slice-aggregate-ink : tie.Need-slice-aggregate-ink
-slice-aggregate-ink c = search needs
+slice-aggregate-words : tie.Need-slice-aggregate-words
+slice-aggregate-words c = search needs
 
-ink-requires : tie.Need-ink-requires
-ink-requires c κs =
-    let args = c .before .before .before .before .before .before .before .before .before .before .before .before .before .before .before .before .before .before .before .args in
-    let pre = c .before .before .before .before .before .before .before .before .before .before .before .before .before .before .before .before .before .before .before .pre in
-    let payload = c .before .before .before .before .before .before .before .before .before .before .before .before .before .before .payload in
-    let plain = c .before .before .before .before .before .before .before .before .before .before .before .before .plain in
-    let name = c .before .before .before .before .before .before .before .before .name in
-    let value = c .before .before .before .before .value in
-    end-room (args .a) (args .s .now) (args .out .now) (args .at) (pre) _ _ (plain .ensures) (plain .kept .0) _ _ (name .ensures) (name .kept .0) _ (payload .ensures .0) _ _ (value .ensures) (value .kept .0)
+words-requires : tie.Need-words-requires
+words-requires c κs = search needs
 
 same-length : tie.Need-same-length
 same-length c = search needs
@@ -64,11 +48,11 @@ returns-2 c =
     let is-found = c .before .before .before .before .before .before .before .before .before .before .before .before .before .before .before .before .before .before .before .is-found in
     let if1 = c .before .before .before .before .before .before .before .before .before .before .before .before .before .before .before .before .before .before .if1 in
     let payload = c .before .before .before .before .before .before .before .before .before .before .before .before .before .before .before .before .before .payload in
-    let plain = c .before .before .before .before .before .before .before .before .before .before .before .before .before .before .before .plain in
+    let decimal = c .before .before .before .before .before .before .before .before .before .before .before .before .before .before .before .decimal in
     let name = c .before .before .before .before .before .before .before .before .before .before .before .name in
     let value = c .before .before .before .before .before .before .before .value in
-    let ink = c .before .before .ink in
-    line-some (args .a) (args .s .now) (args .out .now) (args .at) (pre) _ _ (plain .ensures) (plain .kept .0) _ _ (name .ensures) (name .kept .0) _ (payload .ensures .0) _ _ (value .ensures) (value .kept .0) (sym (is-found .ensures) ∙ not-false _ (if1 .left)) _ (ink .ensures)
+    let words = c .before .before .words in
+    line-some (args .a) (args .s .now) (args .out .now) (args .at) (pre) _ _ (decimal .ensures) (decimal .kept .0) _ _ (name .ensures) (name .kept .0) _ (payload .ensures .0) _ _ (value .ensures) (value .kept .0) (sym (is-found .ensures) ∙ not-false _ (if1 .left)) _ (words .ensures)
 
 pub line-spec : {M : Type 1} → statement M
 line-spec =
@@ -77,10 +61,10 @@ line-spec =
     is-found-requires
     returns
     payload-requires
-    plain-requires
+    decimal-requires
     name-requires
     value-requires
-    slice-aggregate-ink
-    ink-requires
+    slice-aggregate-words
+    words-requires
     same-length
     returns-2)

@@ -1,26 +1,20 @@
 -- `number` meets its contract: a space, then the digits.
 use Rattle.text.specs.Bytes.{bytes}
-use Rattle.report.specs.Report.{ink, decimal}
-use Rattle.report.specs.Laws.{then-ink, ink-at, decimal-length}
+use Rattle.ink.specs.Ink.{decimal}
+use Rattle.ink.specs.Laws.{then-ink, decimal-length}
 use borrow.Author.Needs.{needs}
 use native.Mathlib.Omega.{arith}
 use Rattle.report.proofs.number.Statement.{statement}
 use Rattle.report.proofs.number.Tie as tie
 
-slice-aggregate-ink : tie.Need-slice-aggregate-ink
-slice-aggregate-ink c = search needs
+slice-aggregate-words : tie.Need-slice-aggregate-words
+slice-aggregate-words c = search needs
 
-ink-requires : tie.Need-ink-requires
-ink-requires c κs =
-    let pre = c .before .before .before .pre in
-    omega (arith, pre)
+words-requires : tie.Need-words-requires
+words-requires c κs = search needs
 
-plain-requires : tie.Need-plain-requires
-plain-requires c κs =
-    let args = c .before .before .before .before .before .before .before .args in
-    let pre = c .before .before .before .before .before .before .before .pre in
-    let ink = c .before .before .before .ink in
-    omega (arith, pre, ink-at (args .out .now) (args .at) (bytes " ") _ _ (ink .ensures), ink .kept .0)
+decimal-requires : tie.Need-decimal-requires
+decimal-requires c κs = search needs
 
 same-length : tie.Need-same-length
 same-length c = search needs
@@ -29,10 +23,9 @@ returns : tie.Need-returns
 returns c =
     let args = c .before .before .before .before .before .before .before .before .before .before .args in
     let pre = c .before .before .before .before .before .before .before .before .before .before .pre in
-    let ink = c .before .before .before .before .before .before .ink in
-    let plain = c .before .before .plain in
-    then-ink (args .out .now) (args .at) (bytes " ") (decimal (args .n)) _ _ _ (ink .ensures) (plain .ensures) (omega (arith, pre, decimal-length (args .n)))
+    let words = c .before .before .before .before .before .before .words in
+    then-ink (args .out .now) (args .at) (bytes " ") (decimal (args .n)) _ _ _ (words .ensures) (c .before .before .decimal .ensures) (omega (arith, pre, decimal-length (args .n)))
 
 pub number-spec : {M : Type 1} → statement M
 number-spec =
-    tie.close (tie.spec slice-aggregate-ink ink-requires plain-requires same-length returns)
+    tie.close (tie.spec slice-aggregate-words words-requires decimal-requires same-length returns)

@@ -1,8 +1,9 @@
 -- `value` meets its contract: the number where the kind has one, else the payload.
 use mathlib.Core.Path.{sym, ap, _∙_}
-use Rattle.answers.specs.Answer.{numberIf}
+use Rattle.answers.specs.Answer.{Number}
+use Rattle.answers.specs.Laws.{numbered-some, numbered-none}
 use Rattle.report.specs.Report.{valueOf}
-use Rattle.report.specs.Laws.{same-text}
+use Rattle.ink.specs.Laws.{same-text}
 use borrow.Author.Needs.{needs}
 use Rattle.report.proofs.value.Statement.{statement}
 use Rattle.report.proofs.value.Tie as tie
@@ -22,7 +23,7 @@ returns c =
     let has-number = c .before .before .before .before .before .has-number in
     let number = c .before .before .number in
     let if1 = c .before .before .before .before .if1 in
-    same-text _ _ _ _ _ (number .ensures) (ap (λ b. valueOf (numberIf b (args .n)) (args .p .now)) (sym (if1 .taken) ∙ has-number .ensures))
+    same-text _ _ _ _ _ (number .ensures) (ap (λ (x : Number). valueOf x (args .p .now)) (numbered-some (args .kind) (args .n) (sym (has-number .ensures) ∙ if1 .taken)))
 
 payload-requires : tie.Need-payload-requires
 payload-requires c κs = search needs
@@ -36,7 +37,7 @@ returns-2 c =
     let has-number = c .before .before .before .before .before .has-number in
     let payload = c .before .before .payload in
     let if1 = c .before .before .before .before .if1 in
-    same-text _ _ _ _ _ (payload .ensures) (ap (λ b. valueOf (numberIf b (args .n)) (args .p .now)) (sym (if1 .left) ∙ has-number .ensures))
+    same-text _ _ _ _ _ (payload .ensures) (ap (λ (x : Number). valueOf x (args .p .now)) (numbered-none (args .kind) (args .n) (sym (has-number .ensures) ∙ if1 .left)))
 
 pub value-spec : {M : Type 1} → statement M
 value-spec =

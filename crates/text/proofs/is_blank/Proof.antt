@@ -1,5 +1,5 @@
 -- `is_blank` meets its contract: each arm knows its set.
-use Rattle.text.specs.Logic.{or-none}
+use mathlib.Core.Bool.{or-false}
 use Rattle.text.specs.Text.{among, blanks, isBlank}
 use borrow.Author.Needs.{needs}
 use Rattle.text.proofs.is_blank.Statement.{statement}
@@ -22,7 +22,7 @@ is-trim-requires c κs = search needs
 
 returns : tie.Need-returns
 unfolding isBlank among blanks
-returns c = rw (c .enum-told .given .1) (or-none _)
+returns c = rw (c .enum-told .given .1, or-false)
 
 returns-2 : tie.Need-returns-2
 returns-2 c = rw (c .before .enum-told2 .given .1) (c .is-run .ensures)

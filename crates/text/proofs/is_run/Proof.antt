@@ -1,5 +1,5 @@
 -- `is_run` meets its contract: each test that holds is put into the definition, which then computes.
-use Rattle.text.specs.Logic.{or-none}
+use mathlib.Core.Bool.{or-false}
 use borrow.Author.Tests.{ne-eqb}
 use Rattle.text.specs.Text.{among, blanks, isBlank}
 use Rattle.text.proofs.is_run.Statement.{statement}
@@ -21,7 +21,7 @@ returns-4 : tie.Need-returns-4
 unfolding isBlank among blanks
 returns-4 c =
     let if1 = c .before .before .if1 in
-    rw (ne-eqb _ _ (if1 .left), ne-eqb _ _ (c .before .if2 .left), ne-eqb _ _ (c .if3 .left)) (or-none _)
+    rw (ne-eqb _ _ (if1 .left), ne-eqb _ _ (c .before .if2 .left), ne-eqb _ _ (c .if3 .left), or-false)
 
 pub is-run-spec : {M : Type 1} → statement M
 is-run-spec = tie.close (tie.spec returns returns-2 returns-3 returns-4)

@@ -1,0 +1,33 @@
+-- `shifted` meets its contract: the sums fit where the numbers are an input's.
+use native.Mathlib.Omega.{arith}
+use borrow.Author.Needs.{needs}
+use borrow.Author.Tests.{not-true, not-false}
+use Rattle.answers.specs.Laws.{shifted-not, inside, shifted-is}
+use Rattle.answers.proofs.shifted.Statement.{statement}
+use Rattle.answers.proofs.shifted.Tie as tie
+
+returns : tie.Need-returns
+returns c =
+    let args = c .before .before .before .args in
+    shifted-not (args .a) (args .d) (not-true _ (c .if1 .taken))
+
+add-placed-at : tie.Need-add-placed-at
+add-placed-at c =
+    let args = c .before .before .before .before .args in
+    record { fits = omega (arith, inside (args .a) (args .d) (not-false _ (c .before .if1 .left)) .0) }
+
+placed-at-requires : tie.Need-placed-at-requires
+placed-at-requires c κs = search needs
+
+add-t11 : tie.Need-add-t11
+add-t11 c =
+    let args = c .before .before .before .before .before .before .args in
+    record { fits = omega (arith, inside (args .a) (args .d) (not-false _ (c .before .before .before .if1 .left)) .1) }
+
+returns-2 : tie.Need-returns-2
+returns-2 c =
+    let args = c .before .before .before .before .before .before .args in
+    shifted-is (args .a) (args .d) (not-false _ (c .before .before .before .if1 .left)) _ (c .before .placed-at .ensures)
+
+pub shifted-spec : {M : Type 1} → statement M
+shifted-spec = tie.close (tie.spec returns add-placed-at placed-at-requires add-t11 returns-2)

@@ -1,0 +1,75 @@
+-- The calls that a user makes: their refusals, and what they heard.
+use mathlib.Core.Path.{_≡_, refl, sym, ap, _∙_}
+use mathlib.Core.List.{List, [], _∷_}
+use Prim.Native.Nat.{ℕ, _≤_, _<_}
+use native.Mathlib.Omega.{arith}
+use lib.ListN.{length}
+use lib.Dec.{ltb}
+use borrow.Author.Tests.{le-ltb, lt-ltb}
+use Rattle.outcome.specs.Outcome.{Outcome, answered, refused}
+use Rattle.table.specs.Table.{tokens, ruling}
+use Rattle.table.specs.Laws.{good-tokens}
+use Rattle.answers.specs.declared.Answer.{Answer}
+use Rattle.digest.specs.declared.Digested.{Digested}
+use Rattle.digest.specs.declared.Digested.the-variants as says
+use Rattle.outcome.specs.Laws.{ways}
+use Rattle.answers.specs.Answer.{nothing, Within}
+use Rattle.answers.specs.Laws.{nothing-within}
+use Rattle.digest.specs.Digest.{digestIn, underTable, digest, digestChecked, outcome}
+use Rattle.digest.specs.Heard.{Heard}
+use Rattle.digest.specs.Step.{digest-within}
+use Rattle.digest.specs.Theorem.{heard-so}
+
+-- The promise of `digest` determines its answer.
+pub outcome-one : (r q : Digested) → outcome r ≡ outcome q → r ≡ q
+outcome-one (says.Is a) (says.Is b) e = cc
+outcome-one (says.Is a) says.TooLong e = let z : _≡_ {A = ℕ} 0 1 = cc in absurd (omega arith)
+outcome-one (says.Is a) (says.BadTable k) e = let z : _≡_ {A = ℕ} 0 1 = cc in absurd (omega arith)
+outcome-one says.TooLong (says.Is a) e = let z : _≡_ {A = ℕ} 0 1 = cc in absurd (omega arith)
+outcome-one says.TooLong says.TooLong e = refl
+outcome-one says.TooLong (says.BadTable k) e = let z : _≡_ {A = ℕ} 0 1 = cc in absurd (omega arith)
+outcome-one (says.BadTable k) (says.Is a) e = let z : _≡_ {A = ℕ} 0 1 = cc in absurd (omega arith)
+outcome-one (says.BadTable k) says.TooLong e = let z : _≡_ {A = ℕ} 0 1 = cc in absurd (omega arith)
+outcome-one (says.BadTable k) (says.BadTable m) e = cc
+
+-- what a digest under a good table hears
+pub digest-heard : (t s : List ℕ) (n : ℕ) → ruling t ≡ answered n → (a : Answer) → a ≡ digestIn (tokens t) s → Heard (tokens t) s a
+digest-heard t s n h a e = heard-so (tokens t) (good-tokens t n h .texts) s a e
+
+module _ (t s : List ℕ) where
+  pub digest-long : 4096 < length s → refused 1 [] ≡ digest t s
+  unfolding digest
+  digest-long h = rw (lt-ltb 4096 (length s) h)
+
+  module _ (l : length s ≤ 4096) where
+    at-table : underTable (ruling t) t s ≡ digest t s
+    unfolding digest
+    at-table = rw (le-ltb 4096 (length s) l)
+
+    pub digest-bad : (k : ℕ) → refused 2 (k ∷ []) ≡ ruling t → refused 2 (k ∷ []) ≡ digest t s
+    unfolding underTable
+    digest-bad k p = ap (λ (x : Outcome ℕ). underTable x t s) p ∙ at-table
+
+    pub digest-is : (n : ℕ) → answered n ≡ ruling t → (a : Answer) → a ≡ digestIn (tokens t) s → answered a ≡ digest t s
+    unfolding underTable
+    digest-is n p a w = ap answered w ∙ ap (λ (x : Outcome ℕ). underTable x t s) p ∙ at-table
+
+    pub checked-is : (a : Answer) → a ≡ digestIn (tokens t) s → a ≡ digestChecked t s
+    unfolding digestChecked
+    checked-is a w = rw (le-ltb 4096 (length s) l) w
+
+    -- demand 3, first half, under a good table that isn't checked again
+    pub checked-heard : (n : ℕ) → ruling t ≡ answered n → Heard (tokens t) s (digestChecked t s)
+    checked-heard n h = digest-heard t s n h (digestChecked t s) (sym (checked-is (digestIn (tokens t) s) refl))
+
+  pub checked-long : 4096 < length s → (a : Answer) → a ≡ nothing 0 → a ≡ digestChecked t s
+  unfolding digestChecked
+  checked-long h a w = rw (lt-ltb 4096 (length s) h) w
+
+  -- what a digest under a checked table consumes lies in the input, and the payload in what is consumed
+  pub checked-inside : Within (length s) (digestChecked t s)
+  unfolding digestChecked
+  checked-inside = ways (Within (length s)) (ltb 4096 (length s)) (λ q. nothing-within 0 (length s) (omega arith)) (λ q. digest-within (tokens t) s)
+
+  pub checked-within : digestChecked t s .consumed ≤ length s
+  checked-within = checked-inside .all

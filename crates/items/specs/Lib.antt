@@ -1,0 +1,4 @@
+pub mod Rules
+pub mod Hints
+pub mod Laws
+pub mod Says

@@ -1,0 +1,237 @@
+-- The ways out of the level's functions, over plain lists.
+use mathlib.Core.Path.{_≡_, refl, sym, ap, _∙_}
+use mathlib.Core.Bool.{Bool, true, false, _||_}
+use mathlib.Core.List.{List, []}
+use Prim.Native.Nat.{ℕ, _+_, _-_, _≤_}
+use native.Mathlib.Omega.{arith}
+use lib.ListN.{length, take, drop}
+use lib.Dec.{ltb}
+use borrow.Author.Tests.{ltb-false}
+use Rattle.text.specs.Text.{isBlank, past, trimmed, stands, findIn}
+use Rattle.text.specs.Laws.{found-at, past-bounds, stands-fits, trimmed-fits, length-part}
+use Rattle.text.specs.declared.Blanks.the-variants as blanks
+use Rattle.text.specs.declared.Span.{Span}
+use Rattle.text.specs.declared.Found.{Found}
+use Rattle.text.specs.declared.Found.the-variants.{At, Nothing}
+use Rattle.table.specs.Table.{Entry, sameMark, tokenOf, entryOf, nextOf, entries}
+use Rattle.table.specs.Laws.{next-first, entries-past}
+use Rattle.table.specs.declared.Mark.{Mark}
+use Rattle.table.specs.declared.Mark.the-variants as mark
+use Rattle.table.specs.declared.Record.{Record}
+use Rattle.table.specs.declared.Next.{Next}
+use Rattle.table.specs.declared.Next.the-variants as next
+use Rattle.lines.specs.Lines.{crlf, fixedText}
+use Rattle.lines.specs.Laws.{fixed-some}
+use Rattle.lines.specs.declared.Fixed.{Fixed}
+use Rattle.lines.specs.declared.Fixed.the-variants as fixed
+use Rattle.parser.specs.Parser.{noticeAt}
+use Rattle.parser.specs.Laws.{notice-bounds}
+use Rattle.parser.specs.declared.Notice.{Notice}
+use Rattle.parser.specs.declared.Notice.the-variants as notice
+use Rattle.places.specs.Places.{firstPlaces, placeIn, FirstPlaces}
+use Rattle.places.specs.declared.Places.{Places}
+use Rattle.answers.specs.declared.Kind.{Kind}
+use Rattle.answers.specs.declared.Kind.the-variants as kind
+use Rattle.answers.specs.declared.Answer.{Answer}
+use Rattle.answers.specs.Answer.{bare, nothing, withPayload}
+use Rattle.items.specs.declared.Occurs.{Occurs}
+use Rattle.items.specs.declared.Occurs.the-variants as occurs
+use Rattle.items.specs.declared.Tried.{Tried}
+use Rattle.items.specs.declared.Tried.the-variants as tries
+use Rattle.items.specs.declared.Hints.{Hints}
+use Rattle.items.specs.declared.Level.{Level}
+use Rattle.items.specs.Rules.{orElse, foundOr, skipped, trimmedPart, heard, notices, firstCustom, kindOf, success, customSuccess, lineSuccess, successes, customPrompts, lineTried, notAllowed}
+use Rattle.items.specs.Hints.{promptBytes, firsts, unknown}
+use Rattle.items.specs.Laws.{partIn, no-more, one-more, text-is, matched}
+use Rattle.level.specs.declared.Noticed.{Noticed}
+use Rattle.level.specs.declared.Noticed.the-variants as noticed
+use Rattle.level.specs.Level.{errorsFrom, outermost, below, levelFrom, Unless, SameCustoms, OthersTold}
+
+-- rule 1
+module _ (s : List ℕ) (a : ℕ) (p : a ≡ past (isBlank blanks.Space) s 0) (r : Found) (q : r ≡ findIn crlf s a) where
+  at-skip : foundOr r a ≡ skipped s
+  unfolding skipped
+  at-skip = ap (λ (f : Found). foundOr f a) q ∙ ap (λ (n : ℕ). foundOr (findIn crlf s n) n) p
+
+  pub skipped-at : (k : ℕ) → r ≡ At k → k ≡ skipped s
+  unfolding foundOr
+  skipped-at k e = rw e at at-skip
+
+  pub skipped-none : r ≡ Nothing → a ≡ skipped s
+  unfolding foundOr
+  skipped-none e = rw e at at-skip
+
+foundOr-le : (s : List ℕ) (a : ℕ) (r : Found) → findIn crlf s a ≡ r → a ≤ length s → foundOr r a ≤ length s
+unfolding foundOr
+foundOr-le s a (At k) e h = omega (arith, stands-fits crlf s k (omega arith) (found-at crlf s a k e .here))
+foundOr-le s a Nothing e h = h
+
+pub skipped-le : (s : List ℕ) → skipped s ≤ length s
+unfolding skipped
+skipped-le s =
+    let a = past (isBlank blanks.Space) s 0 in
+    foundOr-le s a (findIn crlf s a) refl (past-bounds (isBlank blanks.Space) s 0 .1 (omega arith))
+
+-- what is trimmed lies between its ends
+pub trim-room : (s : List ℕ) (e to : ℕ) → e ≤ to → to ≤ length s → (t : Span) → t ≡ trimmed (isBlank blanks.Trim) (take (to - e) (drop e s)) → e + t .start + t .len ≤ to
+trim-room s e to h g t p =
+    let w : t .start + t .len ≤ length (take (to - e) (drop e s)) = rw p (trimmed-fits (isBlank blanks.Trim) (take (to - e) (drop e s))) in
+    omega (arith, w, length-part s e to h g)
+
+pub trimmed-is : (s : List ℕ) (e to : ℕ) (t : Span) → t ≡ trimmed (isBlank blanks.Trim) (take (to - e) (drop e s)) → _≡_ {A = Span} (record { start = e + t .start; len = t .len }) (trimmedPart s e to)
+unfolding trimmedPart
+trimmed-is s e to t p = ap (λ (x : Span). record { start = e + x .start; len = x .len }) p
+
+-- rule 2 for one record
+module _ (s : List ℕ) (e n : ℕ) (x : List ℕ) (r : Notice) (p : r ≡ noticeAt x s e) where
+  at-heard : heard r n s e ≡ heard (noticeAt x s e) n s e
+  at-heard = ap (λ (y : Notice). heard y n s e) p
+
+  pub heard-ended : (end : ℕ) → r ≡ notice.Ended end → (t : Span) → t ≡ trimmedPart s e end → (a : Answer) → a ≡ withPayload kind.Notice n t end → tries.Done a ≡ heard (noticeAt x s e) n s e
+  unfolding heard
+  heard-ended end q t v a w = ap tries.Done (w ∙ ap (λ (y : Span). withPayload kind.Notice n y end) v) ∙ (rw q at at-heard)
+
+  pub heard-broken : r ≡ notice.Unfinished → (a : Answer) → a ≡ nothing e → tries.Done a ≡ heard (noticeAt x s e) n s e
+  unfolding heard
+  heard-broken q a w = ap tries.Done w ∙ (rw q at at-heard)
+
+  pub heard-nothing : r ≡ notice.Nothing → tries.Next ≡ heard (noticeAt x s e) n s e
+  unfolding heard
+  heard-nothing q = rw q at at-heard
+
+  pub ended-room : (end : ℕ) → r ≡ notice.Ended end → (e ≤ end) × (end ≤ length s)
+  ended-room end q = notice-bounds x s e end (sym p ∙ q)
+
+-- rule 2: the rule on all the records is the rule on those from `at` on
+module _ (t s : List ℕ) (e at n : ℕ) (w : notices (entries mark.Notice t 0 0) s e ≡ notices (entries mark.Notice t at n) s e) (q : Next) (p : q ≡ nextOf mark.Notice t at n) where
+  pub notices-end : q ≡ next.Nothing → tries.Next ≡ notices (entries mark.Notice t 0 0) s e
+  unfolding notices
+  notices-end z = sym (w ∙ ap (λ (l : List Entry). notices l s e) (no-more mark.Notice t at n q p z))
+
+  module _ (r : Record) (k : ℕ) (z : q ≡ next.Is r k) (u : Tried) (y : u ≡ heard (noticeAt (partIn t r) s e) k s e) where
+    notices-one : notices (entries mark.Notice t 0 0) s e ≡ orElse u (notices (entries mark.Notice t (r .place + r .len) (k + 1)) s e)
+    unfolding notices entryOf tokenOf
+    notices-one =
+        w ∙ ap (λ (l : List Entry). notices l s e) (one-more mark.Notice t at n q p r k z)
+        ∙ ap (λ (b : Tried). orElse b (notices (entries mark.Notice t (r .place + r .len) (k + 1)) s e)) (sym (y ∙ ap (λ (b : List ℕ). heard (noticeAt b s e) k s e) (text-is mark.Notice t at n q p r k z)))
+
+    pub notices-hit : (a : Answer) → u ≡ tries.Done a → tries.Done a ≡ notices (entries mark.Notice t 0 0) s e
+    unfolding orElse
+    notices-hit a h = sym (rw h at notices-one)
+
+    pub notices-more : u ≡ tries.Next → notices (entries mark.Notice t 0 0) s e ≡ notices (entries mark.Notice t (r .place + r .len) (k + 1)) s e
+    unfolding orElse
+    notices-more h = rw h at notices-one
+
+-- rule 3
+module _ (s : List ℕ) (e : ℕ) where
+  pub success-is : (k end : ℕ) (t : Span) → t ≡ trimmedPart s e k → (a : Answer) → a ≡ withPayload kind.Ok 0 t end → tries.Done a ≡ success s e k end
+  unfolding success
+  success-is k end t p a q = ap tries.Done (q ∙ ap (λ (x : Span). withPayload kind.Ok 0 x end) p)
+
+  module _ (l : List Entry) (r : Occurs) (p : r ≡ firstCustom l s e) where
+    pub custom-success-is : (n len k : ℕ) → r ≡ occurs.At n len k → (u : Tried) → u ≡ success s e k (k + (len + 4)) → u ≡ customSuccess (firstCustom l s e) s e
+    unfolding customSuccess
+    custom-success-is n len k q u w = w ∙ matched (λ (y : Occurs). customSuccess y s e) p q
+
+    pub custom-success-none : r ≡ occurs.Nothing → tries.Next ≡ customSuccess (firstCustom l s e) s e
+    unfolding customSuccess
+    custom-success-none q = matched (λ (y : Occurs). customSuccess y s e) p q
+
+  -- a fixed line at its first place
+  module _ (l : Fixed) (r : Found) where
+    pub line-success-is : (k n : ℕ) → r ≡ At k → n ≡ length (fixedText l) → (u : Tried) → u ≡ success s e k (k + n) → u ≡ lineSuccess s e l r
+    unfolding lineSuccess
+    line-success-is k n q v u w = w ∙ ap (λ (m : ℕ). success s e k (k + m)) v ∙ ap (lineSuccess s e l) (sym q)
+
+    pub line-success-none : r ≡ Nothing → tries.Next ≡ lineSuccess s e l r
+    unfolding lineSuccess
+    line-success-none q = ap (lineSuccess s e l) (sym q)
+
+  pub line-room : (l : Fixed) (r : Found) → r ≡ findIn (fixedText l) s e → (k : ℕ) → r ≡ At k → (e ≤ k) × (k + length (fixedText l) ≤ length s)
+  line-room l r p k q =
+      let w = found-at (fixedText l) s e k (sym p ∙ q) in
+      (w .after, stands-fits (fixedText l) s k (fixed-some l) (w .here))
+
+  -- the place asked for is the first one
+  pub success-at : (p : Places) → FirstPlaces s e p → (l : Fixed) (r : Found) → r ≡ placeIn s p l → (u : Tried) → u ≡ lineSuccess s e l r → u ≡ lineSuccess s e l (findIn (fixedText l) s e)
+  success-at p w l r q u v = v ∙ ap (lineSuccess s e l) (q ∙ w l)
+
+-- rule 5: a fixed line at its place
+module _ (l : Fixed) (f r : Found) (p : r ≡ f) where
+  pub line-is : (k n : ℕ) → r ≡ At k → n ≡ length (fixedText l) → (c : Kind) → c ≡ kindOf l → (a : Answer) → a ≡ bare c (k + n) → tries.Done a ≡ lineTried l f
+  unfolding lineTried
+  line-is k n q v c z a w = ap tries.Done (w ∙ ap (λ (m : ℕ). bare c (k + m)) v ∙ ap (λ (x : Kind). bare x (k + length (fixedText l))) z) ∙ matched (lineTried l) p q
+
+  pub line-none : r ≡ Nothing → tries.Next ≡ lineTried l f
+  unfolding lineTried
+  line-none q = matched (lineTried l) p q
+
+pub line-at : (s : List ℕ) (e : ℕ) (p : Places) → FirstPlaces s e p → (l : Fixed) (u : Tried) → u ≡ lineTried l (placeIn s p l) → u ≡ lineTried l (findIn (fixedText l) s e)
+line-at s e p w l u v = v ∙ ap (lineTried l) (w l)
+
+-- what was asked with the level's first places, and on the outermost level with nothing known
+module _ (s : List ℕ) (e : ℕ) (p : Places) (q : p ≡ firstPlaces e) (r : Level) where
+  pub bytes-at : (h : Hints) → h ≡ unknown → r ≡ promptBytes s e p h → r ≡ promptBytes s e (firstPlaces e) unknown
+  bytes-at h z w = w ∙ ap (λ (x : Places). promptBytes s e x h) q ∙ ap (promptBytes s e (firstPlaces e)) z
+
+  pub firsts-at : (h : Hints) → r ≡ firsts s e p h → r ≡ firsts s e (firstPlaces e) h
+  firsts-at h w = w ∙ ap (λ (x : Places). firsts s e x h) q
+
+  pub errors-at : (l m : List Entry) → l ≡ m → (h : Hints) → r ≡ errorsFrom l s e p h → r ≡ errorsFrom m s e (firstPlaces e) h
+  errors-at l m z h w = w ∙ ap (λ (x : Places). errorsFrom l s e x h) q ∙ ap (λ (x : List Entry). errorsFrom x s e (firstPlaces e) h) z
+
+-- the two kinds of level
+module _ (t s : List ℕ) (h : Hints) (e : ℕ) (p : e ≡ skipped s) (b : Bool) (r : Level) where
+  pub level-outermost : b ≡ true → r ≡ outermost t s e → r ≡ levelFrom b t s h
+  unfolding levelFrom
+  level-outermost q w = w ∙ rw (q, p)
+
+  pub level-below : b ≡ false → r ≡ below t s e h → r ≡ levelFrom b t s h
+  unfolding levelFrom
+  level-below q w = w ∙ rw (q, p)
+
+-- NA at the head
+module _ (s : List ℕ) (e : ℕ) (b : Bool) (p : b ≡ stands (fixedText fixed.Na) s e) where
+  pub na-room : b ≡ true → e + 6 ≤ length s
+  na-room q = stands-fits (fixedText fixed.Na) s e (omega arith) (sym p ∙ q)
+
+  pub na-hit : b ≡ true → (n : ℕ) → n ≡ length (fixedText fixed.Na) → (a : Answer) → a ≡ bare kind.NotAllowed (e + n) → tries.Done a ≡ notAllowed s e
+  unfolding notAllowed
+  na-hit q n v a w = rw (sym p ∙ q) (ap tries.Done (w ∙ ap (λ (m : ℕ). bare kind.NotAllowed (e + m)) v))
+
+  pub na-miss : b ≡ false → tries.Next ≡ notAllowed s e
+  unfolding notAllowed
+  na-miss q = rw (sym p ∙ q)
+
+pub others-told : (t : List ℕ) (r : Noticed) → OthersTold t r → (b : Bool) → r ≡ noticed.Next b → Unless b (SameCustoms [] t)
+others-told t r w b q = rw q at w
+
+-- rules 3 and 4 under two tables that have the same records but for the notices
+module _ (t v : List ℕ) (w : SameCustoms t v) (s : List ℕ) (e : ℕ) (r : Tried) where
+  pub same-successes : r ≡ successes (entries mark.Success t 0 0) s e → r ≡ successes (entries mark.Success v 0 0) s e
+  same-successes q = q ∙ ap (λ (l : List Entry). successes l s e) (w mark.Success refl)
+
+  pub same-prompts : r ≡ customPrompts (entries mark.Prompt t 0 0) s e → r ≡ customPrompts (entries mark.Prompt v 0 0) s e
+  same-prompts q = q ∙ ap (λ (l : List Entry). customPrompts l s e) (w mark.Prompt refl)
+
+-- The walk of the notices: all records before number n, which begins at `at`, are notices.
+abbrev pub OnlyNotices : List ℕ → ℕ → ℕ → Type 0
+OnlyNotices t at n = (m : Mark) → sameMark mark.Notice m ≡ false → entries m t 0 0 ≡ entries m t at n
+
+module _ (t : List ℕ) (at n : ℕ) (b : Bool) (w : Unless b (OnlyNotices t at n)) where
+  pub only-more : (q : Next) → q ≡ nextOf mark.Notice t at n → (r : Record) (k : ℕ) → q ≡ next.Is r k → Unless (b || ltb n k) (OnlyNotices t (r .place + r .len) (k + 1))
+  only-more q p r k e = go b w (ltb n k) refl
+    where
+      go : (c : Bool) → Unless c (OnlyNotices t at n) → (d : Bool) → ltb n k ≡ d → Unless (c || d) (OnlyNotices t (r .place + r .len) (k + 1))
+      go true v d z = tt
+      go false v true z = tt
+      go false v false z = let x = next-first mark.Notice t at n q p r k e in λ m h. v m h ∙ x .others (omega (arith, x .from, ltb-false n k z)) m h
+
+  pub only-end : Unless (b || ltb at (length t)) (SameCustoms [] t)
+  only-end = go b w (ltb at (length t)) refl
+    where
+      go : (c : Bool) → Unless c (OnlyNotices t at n) → (d : Bool) → ltb at (length t) ≡ d → Unless (c || d) (SameCustoms [] t)
+      go true v d z = tt
+      go false v true z = tt
+      go false v false z = λ m h. entries-past m [] 0 0 (omega arith) ∙ sym (v m h ∙ entries-past m t at n (ltb-false at (length t) z))

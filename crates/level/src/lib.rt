@@ -1,0 +1,283 @@
+// Rules 1 to 5 on a level of the retry: the places of the fixed texts, and a decision on them in document 01's order.
+// A level below the outermost one can answer a notice, one of the five items with hints, or NA, and looks for nothing else.
+ghost use mathlib.Core.Path.{_≡_};
+ghost use mathlib.Core.List.{[]};
+ghost use Prim.Native.Nat.{_≤_, _+_};
+ghost use lib.ListN.{length};
+ghost use Rattle.table.specs.Table.{entries};
+ghost use Rattle.table.specs.declared.Mark.the-variants as mark;
+ghost use Rattle.text.specs.Text.{findIn};
+ghost use Rattle.lines.specs.Lines.{fixedText};
+ghost use Rattle.parser.specs.Parser.{lineEnding, noticeAt};
+ghost use Rattle.places.specs.Places.{FirstPlaces, placeIn};
+ghost use Rattle.items.specs.Rules.{skipped, trimmedPart, heard, notices, firstCustom, kindOf, success, customSuccess, lineSuccess, successes, lineTried, lineErrors, notAllowed};
+ghost use Rattle.level.specs.Level.{Unless, SameCustoms, OthersTold, noticedTried, errorsFrom, outermost, below, levelFrom};
+use answers::Answer;
+use answers::Kind;
+use items::Hints;
+use items::Level;
+use items::Occurs;
+use items::Tried;
+use lines::Fixed;
+use parser::Notice;
+use places::Places;
+use table::Mark;
+use table::Next;
+use text::Blanks;
+use text::Found;
+use text::Span;
+
+// What the notices give: an answer, or whether the table may have other records than notices.
+pub enum Noticed {
+    Done(Answer),
+    Next(bool),
+}
+
+// Rule 1: how many bytes are skipped, leading spaces and what stands before the first CRLF behind them.
+fn skipped(s: &[u8]) -> usize
+    ensures { λ r. ⌜ r ≡ skipped (now (s .entry)) ⌝ }
+{
+    let a = text::skip(Blanks::Space, s, 0);
+    match lines::find_crlf(s, a) {
+        Found::At(k) => k,
+        Found::Nothing => a,
+    }
+}
+
+// What stands from e up to `to`, trimmed.
+fn trimmed_part(s: &[u8], e: usize, to: usize) -> Span
+    requires { ⌜ (e ≤ to) × (to ≤ length (now s)) ⌝ }
+    ensures { λ r. ⌜ r ≡ trimmedPart (now (s .entry)) e to ⌝ }
+{
+    let t = text::trim(Blanks::Trim, &s[e..to]);
+    Span {
+        start: e + t.start,
+        len: t.len,
+    }
+}
+
+// Rule 2 for one record: a notice, or an unfinished one, which is None at once. The line ending that it begins with is `ending` bytes long.
+fn one_notice(s: &[u8], e: usize, ending: usize, x: &[u8], n: u32) -> Tried
+    requires { ⌜ (e ≤ length (now s)) × (ending ≡ lineEnding (now s) e) ⌝ }
+    ensures { λ r. ⌜ r ≡ heard (noticeAt (now (x .entry)) (now (s .entry)) e) n (now (s .entry)) e ⌝ }
+{
+    if ending == 0 {
+        return Tried::Next;
+    }
+    match parser::notice_text(s, e + ending, x) {
+        Notice::Ended(end) => {
+            let line = trimmed_part(s, e, end);
+            Tried::Done(answers::with_payload(Kind::Notice, n, line, end))
+        }
+        Notice::Unfinished => Tried::Done(answers::nothing(e)),
+        Notice::Nothing => Tried::Next,
+    }
+}
+
+// Rule 2: notices, in table order. The walk sees on its way whether there are other records.
+fn notices(table: &[u8], s: &[u8], e: usize) -> Noticed
+    requires { ⌜ e ≤ length (now s) ⌝ }
+    ensures is { λ r. ⌜ noticedTried r ≡ notices (entries mark.Notice (now (table .entry)) 0 0) (now (s .entry)) e ⌝ }
+    ensures others { λ r. ⌜ OthersTold (now (table .entry)) r ⌝ }
+{
+    let ending = parser::line_ending(s, e);
+    let mut at = 0;
+    let mut n = 0;
+    let mut others = false;
+    loop {
+        match table::next_of(table, Mark::Notice, at, n) {
+            Next::Nothing => {
+                return Noticed::Next(others | (at < table.len()));
+            }
+            Next::Is(r, k) => {
+                let start = r.place;
+                let end = start + r.len;
+                let x = &table[start..end];
+                if let Tried::Done(a) = one_notice(s, e, ending, x, k as u32) {
+                    return Noticed::Done(a);
+                }
+                others = others | (n < k);
+                at = end;
+                n = k + 1;
+            }
+        }
+    }
+}
+
+// The table for rules 3 to 5; an empty one does where there are only notices.
+fn customs(table: &[u8], others: bool) -> &[u8]
+    requires { ⌜ Unless others (SameCustoms [] (now table)) ⌝ }
+    ensures { λ r. ⌜ SameCustoms (now r) (now (table .entry)) ⌝ }
+{
+    if !others {
+        return &table[..0];
+    }
+    table
+}
+
+// Rule 3: an Ok whose line stands at k and ends at `end`.
+fn success(s: &[u8], e: usize, k: usize, end: usize) -> Tried
+    requires { ⌜ (e ≤ k) × (k ≤ length (now s)) ⌝ }
+    ensures { λ r. ⌜ r ≡ success (now (s .entry)) e k end ⌝ }
+{
+    let before = trimmed_part(s, e, k);
+    Tried::Done(answers::with_payload(Kind::Ok, 0, before, end))
+}
+
+// Rule 3: the first CS record that occurs.
+fn custom_success(table: &[u8], s: &[u8], e: usize) -> Tried
+    ensures { λ r. ⌜ r ≡ customSuccess (firstCustom (entries mark.Success (now (table .entry)) 0 0) (now (s .entry)) e) (now (s .entry)) e ⌝ }
+{
+    if table.len() == 0 {
+        return Tried::Next;
+    }
+    match items::first_custom(table, Mark::Success, s, e) {
+        Occurs::At(_, len, k) => success(s, e, k, k + (len + 4)),
+        Occurs::Nothing => Tried::Next,
+    }
+}
+
+// Rule 3: a fixed line, by its first place.
+fn line_success(s: &[u8], e: usize, line: Fixed, first: Found) -> Tried
+    requires { ⌜ first ≡ findIn (fixedText line) (now s) e ⌝ }
+    ensures { λ r. ⌜ r ≡ lineSuccess (now (s .entry)) e line first ⌝ }
+{
+    match first {
+        Found::At(k) => success(s, e, k, k + lines::fixed_len(line)),
+        Found::Nothing => Tried::Next,
+    }
+}
+
+// Rule 3: a custom success; then OK, else CONNECT.
+fn successes(table: &[u8], s: &[u8], e: usize, places: Places) -> Tried
+    requires { ⌜ FirstPlaces (now s) e places ⌝ }
+    ensures { λ r. ⌜ r ≡ successes (entries mark.Success (now (table .entry)) 0 0) (now (s .entry)) e ⌝ }
+{
+    if let Tried::Done(a) = custom_success(table, s, e) {
+        return Tried::Done(a);
+    }
+    let ok = places::place(s, places, Fixed::Ok);
+    if let Tried::Done(a) = line_success(s, e, Fixed::Ok, ok) {
+        return Tried::Done(a);
+    }
+    let connect = places::place(s, places, Fixed::Connect);
+    line_success(s, e, Fixed::Connect, connect)
+}
+
+// Rule 5: a fixed line, by its first place.
+fn line_tried(s: &[u8], places: Places, kind: Kind, line: Fixed) -> Tried
+    requires { ⌜ kind ≡ kindOf line ⌝ }
+    ensures { λ r. ⌜ r ≡ lineTried line (placeIn (now (s .entry)) places line) ⌝ }
+{
+    match places::place(s, places, line) {
+        Found::At(k) => Tried::Done(answers::bare(kind, k + lines::fixed_len(line))),
+        Found::Nothing => Tried::Next,
+    }
+}
+
+// Rule 5: ERROR, COMMAND NOT SUPPORT, NO CARRIER, BUSY, NO ANSWER, NO DIALTONE.
+fn line_errors(s: &[u8], e: usize, places: Places) -> Tried
+    requires { ⌜ FirstPlaces (now s) e places ⌝ }
+    ensures { λ r. ⌜ r ≡ lineErrors (now (s .entry)) e ⌝ }
+{
+    if let Tried::Done(a) = line_tried(s, places, Kind::Error, Fixed::Error) {
+        return Tried::Done(a);
+    }
+    if let Tried::Done(a) = line_tried(s, places, Kind::Error, Fixed::CommandNotSupport) {
+        return Tried::Done(a);
+    }
+    if let Tried::Done(a) = line_tried(s, places, Kind::NoCarrier, Fixed::NoCarrier) {
+        return Tried::Done(a);
+    }
+    if let Tried::Done(a) = line_tried(s, places, Kind::Busy, Fixed::Busy) {
+        return Tried::Done(a);
+    }
+    if let Tried::Done(a) = line_tried(s, places, Kind::NoAnswer, Fixed::NoAnswer) {
+        return Tried::Done(a);
+    }
+    line_tried(s, places, Kind::NoDialtone, Fixed::NoDialtone)
+}
+
+// Rule 5: NA, at the head of buf only.
+fn not_allowed(s: &[u8], e: usize) -> Tried
+    ensures { λ r. ⌜ r ≡ notAllowed (now (s .entry)) e ⌝ }
+{
+    if !lines::fixed_at(s, e, Fixed::Na) {
+        return Tried::Next;
+    }
+    Tried::Done(answers::bare(Kind::NotAllowed, e + lines::fixed_len(Fixed::Na)))
+}
+
+// Rule 5, in its order.
+fn errors(table: &[u8], s: &[u8], e: usize, places: Places, hints: Hints) -> Level
+    requires { ⌜ FirstPlaces (now s) e places ⌝ }
+    ensures { λ r. ⌜ r ≡ errorsFrom (entries mark.Error (now (table .entry)) 0 0) (now (s .entry)) e places hints ⌝ }
+{
+    if let Tried::Done(a) = items::custom_error(table, s, e) {
+        return Level::Done(a);
+    }
+    match items::numerics(s, e, places, hints) {
+        Level::Done(a) => Level::Done(a),
+        Level::Next(_, known) => {
+            if let Tried::Done(a) = line_errors(s, e, places) {
+                return Level::Done(a);
+            }
+            match not_allowed(s, e) {
+                Tried::Done(a) => Level::Done(a),
+                Tried::Next => Level::Next(e, known),
+            }
+        }
+    }
+}
+
+// Rules 2 to 5 in their order, on the outermost level.
+fn outermost(table: &[u8], s: &[u8], e: usize) -> Level
+    requires { ⌜ e ≤ length (now s) ⌝ }
+    ensures { λ r. ⌜ r ≡ outermost (now (table .entry)) (now (s .entry)) e ⌝ }
+{
+    match notices(table, s, e) {
+        Noticed::Done(a) => Level::Done(a),
+        Noticed::Next(others) => {
+            let custom = customs(table, others);
+            let places = places::first_places(e);
+            if let Tried::Done(a) = successes(custom, s, e, places) {
+                return Level::Done(a);
+            }
+            if let Tried::Done(a) = items::custom_prompts(custom, s, e) {
+                return Level::Done(a);
+            }
+            match items::prompt_bytes(s, e, places, items::unknown()) {
+                Level::Done(a) => Level::Done(a),
+                Level::Next(_, known) => errors(custom, s, e, places, known),
+            }
+        }
+    }
+}
+
+// Rules 2 to 5 on a level below: what the level above looked for in all that follows isn't looked for again.
+fn below(table: &[u8], s: &[u8], e: usize, hints: Hints) -> Level
+    requires { ⌜ e ≤ length (now s) ⌝ }
+    ensures { λ r. ⌜ r ≡ below (now (table .entry)) (now (s .entry)) e hints ⌝ }
+{
+    if let Noticed::Done(a) = notices(table, s, e) {
+        return Level::Done(a);
+    }
+    match items::firsts(s, e, places::first_places(e), hints) {
+        Level::Done(a) => Level::Done(a),
+        Level::Next(_, known) => match not_allowed(s, e) {
+            Tried::Done(a) => Level::Done(a),
+            Tried::Next => Level::Next(e, known),
+        },
+    }
+}
+
+// Rules 1 to 5 on the outermost level, or on one below it with the hints of those above.
+pub fn level_from(first: bool, table: &[u8], s: &[u8], hints: Hints) -> Level
+    ensures { λ r. ⌜ r ≡ levelFrom first (now (table .entry)) (now (s .entry)) hints ⌝ }
+{
+    let e = skipped(s);
+    if first {
+        return outermost(table, s, e);
+    }
+    below(table, s, e, hints)
+}

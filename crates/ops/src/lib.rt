@@ -1,0 +1,239 @@
+// An op of a script, done through the public calls, and its answer said. It is part of a harness and promises only that it doesn't trip.
+use answers::Answer;
+use answers::Kind;
+use fields::Memory;
+use ingress::Advanced;
+use ingress::Written;
+use notation::op::Op;
+use queue::Notice;
+use queue::Taken;
+use slot::Held;
+use slot::Looked;
+use slot::Reset;
+use slot::Slot;
+use slot::Turned;
+use turn::State;
+
+// What an op answered. Full is refusal 5 of a write, with the bytes taken.
+enum Answered {
+    Took(usize),
+    Advanced,
+    Done,
+    Nothing,
+    Notice(Notice),
+    Held(Slot),
+    Refused(u64),
+    BadTable(usize),
+    Full(usize),
+}
+
+// What an op answered, and the state that it left.
+struct Left {
+    state: State,
+    outcome: Answered,
+}
+
+fn leaving(s: State, o: Answered) -> Left {
+    Left {
+        state: s,
+        outcome: o,
+    }
+}
+
+// Each op through its public call. A refused one leaves the state as it was, but for refusal 5.
+fn do_write(
+    now: State,
+    p: &[u8],
+    table: &[u8],
+    buf: &mut [u8],
+    slot_mem: &mut [u8],
+    queue_mem: &mut [u8],
+) -> Left {
+    match ingress::write(now, p, table, buf, slot_mem, queue_mem) {
+        Written::Is(s, n) => leaving(s, Answered::Took(n)),
+        Written::TooLong => leaving(now, Answered::Refused(1)),
+        Written::BadTable(k) => leaving(now, Answered::BadTable(k)),
+        Written::BadState => leaving(now, Answered::Refused(3)),
+        Written::Full(s, n) => leaving(s, Answered::Full(n)),
+    }
+}
+
+fn do_advance(
+    now: State,
+    n: usize,
+    table: &[u8],
+    buf: &mut [u8],
+    slot_mem: &mut [u8],
+    queue_mem: &mut [u8],
+) -> Left {
+    match ingress::advance(now, n, table, buf, slot_mem, queue_mem) {
+        Advanced::Is(s) => leaving(s, Answered::Advanced),
+        Advanced::TooLong => leaving(now, Answered::Refused(1)),
+        Advanced::BadTable(k) => leaving(now, Answered::BadTable(k)),
+        Advanced::BadState => leaving(now, Answered::Refused(3)),
+        Advanced::NoRoom => leaving(now, Answered::Refused(4)),
+        Advanced::Full(s) => leaving(s, Answered::Refused(5)),
+    }
+}
+
+fn do_clear(now: State) -> Left {
+    leaving(now.with_end(ingress::clear(now.end)), Answered::Done)
+}
+
+// What a signal left.
+fn turned(now: State, t: Turned) -> Left {
+    match t {
+        Turned::Is(x) => leaving(now.with_slot(x), Answered::Done),
+        Turned::BadLength => leaving(now, Answered::Refused(3)),
+    }
+}
+
+fn do_reset(now: State, slot_mem: &[u8]) -> Left {
+    let slot = now.slot;
+    match slot.reset(slot_mem) {
+        Reset::Is(x) => leaving(now.with_slot(x), Answered::Done),
+        Reset::BadLength => leaving(now, Answered::Refused(3)),
+    }
+}
+
+fn do_signal(now: State, kind: Kind, n: u32, p: &[u8], slot_mem: &mut [u8]) -> Left {
+    let slot = now.slot;
+    let a = Answer {
+        kind: kind,
+        number: n,
+        place: 0,
+        len: p.len(),
+        consumed: 0,
+    };
+    turned(now, slot.signal(a, p, slot_mem))
+}
+
+fn do_take(now: State, queue_mem: &[u8]) -> Left {
+    let queue = now.queue;
+    match queue.take(queue_mem) {
+        Taken::Is(q, notice) => leaving(now.with_queue(q), Answered::Notice(notice)),
+        Taken::Nothing(q) => leaving(now.with_queue(q), Answered::Nothing),
+        Taken::Bad => leaving(now, Answered::Refused(3)),
+    }
+}
+
+fn do_look(now: State, slot_mem: &[u8]) -> Left {
+    let slot = now.slot;
+    match slot.lookup(slot_mem) {
+        Looked::Signalled(x) => leaving(now.with_slot(x), Answered::Held(x)),
+        Looked::Nothing(x) => leaving(now.with_slot(x), Answered::Nothing),
+        Looked::BadLength => leaving(now, Answered::Refused(3)),
+    }
+}
+
+// Does an op; `piece` has its bytes at the front. One that doesn't read isn't met here, since its script isn't done.
+fn perform(
+    op: Op,
+    now: State,
+    piece: &[u8],
+    table: &[u8],
+    buf: &mut [u8],
+    slot_mem: &mut [u8],
+    queue_mem: &mut [u8],
+) -> Left {
+    match op {
+        Op::Write(len) => {
+            let p = text::part(piece, 0, len);
+            do_write(now, p, table, buf, slot_mem, queue_mem)
+        }
+        Op::Advance(n, len) => {
+            moves::put(buf, now.end, text::part(piece, 0, len));
+            do_advance(now, n, table, buf, slot_mem, queue_mem)
+        }
+        Op::Clear => do_clear(now),
+        Op::Reset => do_reset(now, slot_mem),
+        Op::Take => do_take(now, queue_mem),
+        Op::Look => do_look(now, slot_mem),
+        Op::Signal(kind, n, len) => {
+            let p = text::part(piece, 0, len);
+            do_signal(now, kind, n, p, slot_mem)
+        }
+        Op::Bad => leaving(now, Answered::Nothing),
+    }
+}
+
+// A notice's number and its payload in hex.
+fn say_notice(x: Notice, queue_mem: &[u8], out: &mut Memory, at: usize) -> usize {
+    let head = say::words(out, at, b"notice");
+    let numbered = say::and_number(out, head, x.number as u64);
+    let apart = say::words(out, numbered, b" ");
+    say::hex(out, apart, text::part(queue_mem, x.place, x.len))
+}
+
+// What a slot holds, and its number.
+pub fn say_content(x: Slot, out: &mut Memory, at: usize) -> usize {
+    let held = x.held;
+    match held {
+        Held::Heard(k) => say::kind_number(out, at, k, x.number),
+        Held::Capacity => say::words(out, at, b"capacity -"),
+    }
+}
+
+// What a signalled slot holds, with its payload in hex.
+fn say_held(x: Slot, slot_mem: &[u8], out: &mut Memory, at: usize) -> usize {
+    let head = say::words(out, at, b"held ");
+    let named = say_content(x, out, head);
+    let apart = say::words(out, named, b" ");
+    say::hex(out, apart, x.payload(slot_mem))
+}
+
+// Refusal 5 of a write.
+fn say_full(n: usize, out: &mut Memory, at: usize) -> usize {
+    let used = say::words(out, at, b"refused 5 ");
+    say::took(out, used, n)
+}
+
+// Says what an op answered.
+fn say_outcome(
+    o: Answered,
+    slot_mem: &[u8],
+    queue_mem: &[u8],
+    out: &mut Memory,
+    at: usize,
+) -> usize {
+    match o {
+        Answered::Took(n) => say::took(out, at, n),
+        Answered::Advanced => say::words(out, at, b"advanced"),
+        Answered::Done => say::words(out, at, b"done"),
+        Answered::Nothing => say::words(out, at, b"nothing"),
+        Answered::Notice(x) => say_notice(x, queue_mem, out, at),
+        Answered::Held(x) => say_held(x, slot_mem, out, at),
+        Answered::Refused(n) => say::refusal(out, at, n),
+        Answered::BadTable(k) => say::refusal_of_record(out, at, k),
+        Answered::Full(n) => say_full(n, out, at),
+    }
+}
+
+// The state after an op, and how much of the answers' memory is used.
+pub struct Said {
+    pub state: State,
+    pub at: usize,
+}
+
+// Reads an op, does it, and says its answer.
+pub fn do_op(
+    s: &[u8],
+    now: Said,
+    piece: &mut Memory,
+    table: &[u8],
+    buf: &mut [u8],
+    slot_mem: &mut [u8],
+    queue_mem: &mut [u8],
+    out: &mut Memory,
+) -> Said {
+    let op = notation::op::read_op(s, piece);
+    let state = now.state;
+    let done = perform(op, state, piece, table, buf, slot_mem, queue_mem);
+    let next = done.state;
+    let outcome = done.outcome;
+    let used = say_outcome(outcome, slot_mem, queue_mem, out, now.at);
+    Said {
+        state: next,
+        at: say::words(out, used, b";"),
+    }
+}

@@ -1,0 +1,4 @@
+pub mod Turn
+pub mod Says
+pub mod Laws
+pub mod Kept

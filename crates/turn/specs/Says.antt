@@ -1,0 +1,68 @@
+-- All that the ingress relies on of a digester, as laws of `says`, from those that the digester exports. No other file opens `says`.
+use mathlib.Core.Path.{_≡_, refl, sym, ap, _∙_}
+use mathlib.Core.Bool.{Bool, true, false}
+use mathlib.Core.Logic.{⊎-elim}
+use mathlib.Core.List.{List}
+use Prim.Native.Nat.{ℕ, _+_, _≤_, min}
+use native.Mathlib.Omega.{arith}
+use lib.ListN.{length, take, length-take}
+use lib.Seq.{take-all, take-length}
+use Rattle.text.specs.Logic.{false-true, order}
+use Rattle.outcome.specs.Outcome.{answered}
+use Rattle.table.specs.Table.{ruling}
+use Rattle.answers.specs.Answer.{isFound}
+use Rattle.answers.specs.declared.Answer.{Answer}
+use Rattle.answers.specs.declared.Kind.the-variants as kind
+use Rattle.digest.specs.Digest.{digestChecked}
+use Rattle.answers.specs.Laws.{none-only}
+use Rattle.digest.specs.Calls.{checked-heard, checked-within}
+use Rattle.turn.specs.declared.State.{State}
+use Rattle.turn.specs.Turn.{isNotice, World, world, held, Choice, choice, says, Quiet}
+
+-- the bytes held, as a beginning of the buffer
+pub held-long : (w : World) → length (held w) ≡ min (w .state .end) (length (w .buf))
+held-long w = length-take (w .state .end) (w .buf)
+
+module _ (s : State) (b m n : List ℕ) (e : ℕ) (h : e ≡ min (s .end) (length b)) where
+  pub held-is : take e b ≡ held (world s b m n)
+  held-is =
+      ⊎-elim
+      (λ l. let z : e ≡ s .end = omega arith in ap (λ (k : ℕ). take k b) z)
+      (λ l. let z : e ≡ length b = omega arith in ap (λ (k : ℕ). take k b) z ∙ take-length b ∙ sym (take-all (s .end) b l))
+      (order (s .end) (length b))
+
+  pub says-is : (t : List ℕ) → digestChecked t (take e b) ≡ says (choice t) (world s b m n)
+  unfolding says
+  says-is t = ap (digestChecked t) held-is
+
+-- It is said of the bytes held alone.
+pub says-same : (c : Choice) (w v : World) → held w ≡ held v → says c w ≡ says c v
+unfolding says
+says-same c w v e = ap (digestChecked (c .table)) e
+
+-- Whatever it says, it consumes at most what is held.
+pub says-within : (c : Choice) (w : World) → says c w .consumed ≤ length (held w)
+unfolding says
+says-within c w = checked-within (c .table) (held w)
+
+-- Under a good table and of at most 4,096 bytes: an answer that found something consumes at least one byte, and its payload lies in what it consumes;
+-- one that found nothing is None, and then nothing is finished.
+pub record Trusted (c : Choice) (w : World) (a : Answer) : Type 0 where
+  pub some : isFound a ≡ true → 1 ≤ a .consumed
+  pub payload : isFound a ≡ true → a .place + a .len ≤ a .consumed
+  pub nothing : isFound a ≡ false → a .kind ≡ kind.None
+  pub quiet : isFound a ≡ false → Quiet c w
+
+pub says-trusted : (c : Choice) (w : World) → length (held w) ≤ 4096 → (n : ℕ) → ruling (c .table) ≡ answered n → Trusted c w (says c w)
+unfolding says
+says-trusted c w h n e =
+    let x = checked-heard (c .table) (held w) h n e in
+    record { some = x .some; payload = λ f. x .item f .payload; nothing = none-only (digestChecked (c .table) (held w) .kind); quiet = x .none }
+
+-- a notice is something found
+pub notice-found : (a : Answer) → isNotice (a .kind) ≡ true → isFound a ≡ true
+notice-found a e = go (isFound a) refl
+  where
+    go : (b : Bool) → isFound a ≡ b → b ≡ true
+    go true q = refl
+    go false q = absurd (false-true e (ap isNotice (none-only (a .kind) q)))
