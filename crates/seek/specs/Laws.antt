@@ -10,7 +10,7 @@ use borrow.Author.Tests.{eq-eqb}
 use Rattle.text.specs.Logic.{false-true, not-true-false}
 use Rattle.text.specs.Text.{stands, findIn}
 use Rattle.text.specs.Steps.{find-next}
-use Rattle.text.specs.Laws.{find-is, stands-getD, stands-fits}
+use Rattle.text.specs.Laws.{stands-getD}
 use Rattle.text.specs.declared.Found.{Found}
 use Rattle.text.specs.declared.Found.the-variants.{At, Nothing}
 use Rattle.seek.specs.Seek.{bothAt, anyOf, orNext, Later}
@@ -44,10 +44,6 @@ module _ (t s : List ℕ) (k l : ℕ) (h : k < length t) (g : l < length t) wher
 -- without its byte k a text doesn't stand
 pub byte-none : (t s : List ℕ) (i k : ℕ) → k < length t → (getD s (i + k) 0 ≡ getD t k 0 → ⊥) → false ≡ stands t s i
 byte-none t s i k h e = sym (not-true-false (stands t s i) (λ p. e (stands-getD t s i k p h)))
-
--- where there is no room for a text that isn't empty, there is none
-pub find-late : (t s : List ℕ) (i : ℕ) → 0 < length t → length s < i + length t → findIn t s i ≡ Nothing
-find-late t s i h g = find-is t s i Nothing (λ j w. not-true-false (stands t s j) (λ p. absurd (omega (arith, stands-fits t s j h p))))
 
 -- one turn: past w and p to a block that ends at stop, in which r was found
 module _ (t s : List ℕ) (from i e w p stop : ℕ) (inv : findIn t s from ≡ findIn t s i) (a : Later (findIn t s) i e w) (b : Later (findIn t s) w e p) (r : Found) (c : findIn t s p ≡ orNext r (findIn t s stop)) where

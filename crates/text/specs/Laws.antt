@@ -14,7 +14,7 @@ use lib.Dec.{eqb}
 use borrow.Author.Tests.{eq-eqb, ne-eqb, eqb-true, eqb-false, le-leb, lt-leb}
 use Rattle.outcome.specs.Outcome.{if_then_else_}
 use Rattle.outcome.specs.Laws.{ways}
-use Rattle.text.specs.Logic.{false-true, and-both, order}
+use Rattle.text.specs.Logic.{false-true, not-true-false, and-both, order}
 use Rattle.text.specs.Text.{lead, past, keep, trimmed, begins, stands, search, findIn, partOf, partAt, further}
 use Rattle.text.specs.Steps.{stands-past, find-here, find-next, find-end}
 use Rattle.text.specs.declared.Span.{Span}
@@ -98,6 +98,10 @@ begins-fits (x ∷ t) (y ∷ s) e = omega (arith, begins-fits t s (and-both (eqb
 pub stands-fits : (t s : List ℕ) (i : ℕ) → 0 < length t → stands t s i ≡ true → i + length t ≤ length s
 unfolding stands
 stands-fits t s i p e = omega (arith, begins-fits t (drop i s) e, length-drop i s)
+
+-- where there is no room for a text that isn't empty, there is none
+pub find-late : (t s : List ℕ) (i : ℕ) → 0 < length t → length s < i + length t → findIn t s i ≡ Nothing
+find-late t s i h g = find-is t s i Nothing (λ j w. not-true-false (stands t s j) (λ p. absurd (omega (arith, stands-fits t s j h p))))
 
 pub stands-room : (t s : List ℕ) (i : ℕ) → stands t s i ≡ true → length t ≤ length s
 unfolding stands

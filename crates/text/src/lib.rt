@@ -1,7 +1,9 @@
 // Blanks, trimming and searching: the leaves of the digester.
 // They answer as the slice methods that atat's digest.rs leans on (trim_ascii, nom's multispace0 and take_until), by places in the caller's bytes.
-// Every function is total: none has a `requires`, and a place past the end has a stated answer.
+// Every public function is total: none has a `requires`, and a place past the end has a stated answer.
 ghost use mathlib.Core.Path.{_≡_};
+ghost use Prim.Native.Nat.{_≤_, _+_};
+ghost use lib.ListN.{length};
 ghost use lib.Dec.{eqb};
 ghost use Rattle.text.specs.Text.{isBlank, past, keep, trimmed, stands, findIn, partOf, partAt, further};
 
@@ -106,16 +108,11 @@ fn same(a: u8, b: u8) -> bool
     a == b
 }
 
-// Does t stand in s at `at`? The empty text stands everywhere, past the end too; no other text does there.
-pub fn matches_at(s: &[u8], at: usize, t: &[u8]) -> bool
+// Does t stand in s at `at`, where there is room for it?
+fn stands_at(s: &[u8], at: usize, t: &[u8]) -> bool
+    requires { ⌜ at + length (now t) ≤ length (now s) ⌝ }
     ensures { λ r. ⌜ r ≡ stands (now (t .entry)) (now (s .entry)) at ⌝ }
 {
-    if s.len() < at {
-        return t.len() == 0;
-    }
-    if s.len() - at < t.len() {
-        return false;
-    }
     let mut k = 0;
     while k < t.len() {
         if !same(s[at + k], t[k]) {
@@ -126,19 +123,37 @@ pub fn matches_at(s: &[u8], at: usize, t: &[u8]) -> bool
     true
 }
 
+// Does t stand in s at `at`? The empty text stands everywhere, past the end too; no other text does there.
+pub fn matches_at(s: &[u8], at: usize, t: &[u8]) -> bool
+    ensures { λ r. ⌜ r ≡ stands (now (t .entry)) (now (s .entry)) at ⌝ }
+{
+    if s.len() < at {
+        return t.len() == 0;
+    }
+    if s.len() - at < t.len() {
+        return false;
+    }
+    stands_at(s, at, t)
+}
+
 // The first place at or after `from` where t stands in s, letter case exact. The empty text is found at `from`.
+// Places without room for t aren't looked at.
 pub fn find(s: &[u8], from: usize, t: &[u8]) -> Found
     ensures { λ r. ⌜ r ≡ findIn (now (t .entry)) (now (s .entry)) from ⌝ }
 {
+    if t.len() == 0 {
+        return Found::At(from);
+    }
+    if s.len() < t.len() {
+        return Found::Nothing;
+    }
+    let last = s.len() - t.len();
     let mut i = from;
-    while i < s.len() {
-        if matches_at(s, i, t) {
+    while i <= last {
+        if stands_at(s, i, t) {
             return Found::At(i);
         }
         i += 1;
-    }
-    if matches_at(s, i, t) {
-        return Found::At(i);
     }
     Found::Nothing
 }

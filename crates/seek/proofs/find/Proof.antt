@@ -2,7 +2,7 @@
 use mathlib.Core.Path.{sym}
 use native.Mathlib.Omega.{arith}
 use borrow.Author.Needs.{needs}
-use Rattle.seek.specs.Laws.{find-late}
+use Rattle.text.specs.Laws.{find-late}
 use Rattle.seek.proofs.find.Statement.{statement}
 use Rattle.seek.proofs.find.Tie as tie
 

@@ -3,7 +3,8 @@ use mathlib.Core.Path.{_≡_, refl, sym, _∙_}
 use Prim.Native.Nat.{_≤_, _-_}
 use native.Mathlib.Omega.{arith}
 use borrow.Author.Needs.{needs}
-use Rattle.seek.specs.Laws.{find-late, turn-found, turn-none}
+use Rattle.text.specs.Laws.{find-late}
+use Rattle.seek.specs.Laws.{turn-found, turn-none}
 use Rattle.text.specs.Text.{findIn}
 use Rattle.seek.proofs.find_long.Statement.{statement}
 use Rattle.seek.proofs.find_long.Tie as tie
