@@ -61,6 +61,23 @@ kindFound Notice = true
 abbrev pub isFound : Answer → Bool
 isFound a = kindFound (a .kind)
 
+-- Notices go to the queue, other answers to the slot.
+abbrev pub isNotice : Kind → Bool
+isNotice None = false
+isNotice Ok = false
+isNotice Prompt = false
+isNotice Cme = false
+isNotice Cms = false
+isNotice Unknown = false
+isNotice NotAllowed = false
+isNotice Error = false
+isNotice NoCarrier = false
+isNotice Busy = false
+isNotice NoAnswer = false
+isNotice NoDialtone = false
+isNotice Custom = false
+isNotice Notice = true
+
 -- A payload of length 0, or none, has place 0.
 unfoldable pub placed : ℕ → ℕ → ℕ
 placed zero p = 0

@@ -1,7 +1,7 @@
 // What was heard, as the digester says it and the slot keeps it: a kind, a number, a payload's place, the bytes consumed.
 // An answer is made here, by one of four makers, and moved here; nobody else writes down what it consists of.
 ghost use mathlib.Core.Path.{_≡_};
-ghost use Rattle.answers.specs.Answer.{hasNumber, numbered, stored, isFound, placed, bare, nothing, withNumber, withPayload, shiftWithin};
+ghost use Rattle.answers.specs.Answer.{hasNumber, numbered, stored, isFound, isNotice, placed, bare, nothing, withNumber, withPayload, shiftWithin};
 use text::Span;
 
 // What was heard. Custom is a custom error; a custom success is an Ok.
@@ -82,6 +82,28 @@ pub fn is_found(a: Answer) -> bool
         Kind::NoAnswer => true,
         Kind::NoDialtone => true,
         Kind::Custom => true,
+        Kind::Notice => true,
+    }
+}
+
+// Is it a notice? Those go to the queue, other answers to the slot.
+pub fn is_notice(kind: Kind) -> bool
+    ensures { λ r. ⌜ r ≡ isNotice kind ⌝ }
+{
+    match kind {
+        Kind::None => false,
+        Kind::Ok => false,
+        Kind::Prompt => false,
+        Kind::Cme => false,
+        Kind::Cms => false,
+        Kind::Unknown => false,
+        Kind::NotAllowed => false,
+        Kind::Error => false,
+        Kind::NoCarrier => false,
+        Kind::Busy => false,
+        Kind::NoAnswer => false,
+        Kind::NoDialtone => false,
+        Kind::Custom => false,
         Kind::Notice => true,
     }
 }

@@ -7,8 +7,10 @@ use lib.ListN.{length}
 use lib.Dec.{ltb}
 use borrow.Author.Tests.{le-ltb, lt-ltb}
 use Rattle.outcome.specs.Outcome.{Outcome, answered, refused}
+use Rattle.text.specs.Logic.{false-true}
 use Rattle.table.specs.Table.{tokens, ruling}
-use Rattle.table.specs.Laws.{good-tokens}
+use Rattle.table.specs.declared.Mark.the-variants as mark
+use Rattle.table.specs.Laws.{good-tokens, numbers-below}
 use Rattle.answers.specs.declared.Answer.{Answer}
 use Rattle.digest.specs.declared.Digested.{Digested}
 use Rattle.digest.specs.declared.Digested.the-variants as says
@@ -16,8 +18,9 @@ use Rattle.outcome.specs.Laws.{ways}
 use Rattle.answers.specs.Answer.{nothing, Within}
 use Rattle.answers.specs.Laws.{nothing-within}
 use Rattle.digest.specs.Digest.{digestIn, underTable, digest, digestChecked, outcome}
-use Rattle.digest.specs.Heard.{Heard}
+use Rattle.digest.specs.Heard.{Heard, HeardIn}
 use Rattle.digest.specs.Step.{digest-within}
+use Rattle.digest.specs.Numbered.{Below, digest-below}
 use Rattle.digest.specs.Theorem.{heard-so}
 
 -- The promise of `digest` determines its answer.
@@ -37,6 +40,16 @@ pub digest-heard : (t s : List ℕ) (n : ℕ) → ruling t ≡ answered n → (a
 digest-heard t s n h a e = heard-so (tokens t) (good-tokens t n h .texts) s a e
 
 module _ (t s : List ℕ) where
+  -- Demand 3, first half, closed: it holds of the definition, and so of whatever equals it.
+  under-hears : (x : Outcome ℕ) → ruling t ≡ x → HeardIn t s (underTable x t s)
+  unfolding underTable
+  under-hears (answered n) e = digest-heard t s n e (digestIn (tokens t) s) refl
+  under-hears (refused k v) e = tt
+
+  pub digest-hears : HeardIn t s (digest t s)
+  unfolding digest
+  digest-hears = ways (HeardIn t s) (ltb 4096 (length s)) (λ q. tt) (λ q. under-hears (ruling t) refl)
+
   pub digest-long : 4096 < length s → refused 1 [] ≡ digest t s
   unfolding digest
   digest-long h = rw (lt-ltb 4096 (length s) h)
@@ -70,6 +83,11 @@ module _ (t s : List ℕ) where
   pub checked-inside : Within (length s) (digestChecked t s)
   unfolding digestChecked
   checked-inside = ways (Within (length s)) (ltb 4096 (length s)) (λ q. nothing-within 0 (length s) (omega arith)) (λ q. digest-within (tokens t) s)
+
+  -- a notice's number is below 64, under any table
+  pub checked-below : Below 64 (digestChecked t s)
+  unfolding digestChecked
+  checked-below = ways (Below 64) (ltb 4096 (length s)) (λ q f. absurd (false-true f refl)) (λ q. digest-below 64 (tokens t) (numbers-below mark.Notice t) s)
 
   pub checked-within : digestChecked t s .consumed ≤ length s
   checked-within = checked-inside .all

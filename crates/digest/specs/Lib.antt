@@ -2,6 +2,7 @@ pub mod Digest
 pub mod Finished
 pub mod Heard
 pub mod Step
+pub mod Numbered
 pub mod Position
 pub mod Items
 pub mod Starts

@@ -103,20 +103,22 @@ digest-step ts s =
     after-same s (digestBy (length s) ts) (digestIn ts) e (tried ts s e)
     (λ q. same-fuel (length s) (suc (length (drop (e + 2) s))) ts (drop (e + 2) s) (rest-shorter s e q) (omega arith))
 
--- what a rule gives stays within the input
-abbrev TriedWithin : ℕ → Tried → Type 0
-TriedWithin n (tries.Done a) = Within n a
-TriedWithin n tries.Next = Unit {0}
+-- the answer that a rule gives, if it gives one, has a property
+abbrev pub TriedHas : (Answer → Type 0) → Tried → Type 0
+TriedHas P (tries.Done a) = P a
+TriedHas P tries.Next = Unit {0}
 
-either-within : (n : ℕ) (t r : Tried) → TriedWithin n t → TriedWithin n r → TriedWithin n (orElse t r)
+pub either-has : (P : Answer → Type 0) (t r : Tried) → TriedHas P t → TriedHas P r → TriedHas P (orElse t r)
 unfolding orElse
-either-within n (tries.Done a) r h g = h
-either-within n tries.Next r h g = g
+either-has P (tries.Done a) r h g = h
+either-has P tries.Next r h g = g
 
-first-within : (n : ℕ) (f : Fixed → Tried) → ((l : Fixed) → TriedWithin n (f l)) → (ls : List Fixed) → TriedWithin n (firstOf f ls)
+pub first-has : (P : Answer → Type 0) (f : Fixed → Tried) → ((l : Fixed) → TriedHas P (f l)) → (ls : List Fixed) → TriedHas P (firstOf f ls)
 unfolding firstOf
-first-within n f w [] = tt
-first-within n f w (l ∷ ls) = either-within n (f l) (firstOf f ls) (w l) (first-within n f w ls)
+first-has P f w [] = tt
+first-has P f w (l ∷ ls) = either-has P (f l) (firstOf f ls) (w l) (first-has P f w ls)
+
+-- what a rule gives stays within the input
 
 module _ (s : List ℕ) (e : ℕ) where
   part-within : (k : Kind) (m to c : ℕ) → e ≤ to → to ≤ c → c ≤ length s → Within (length s) (withPayload k m (trimmedPart s e to) c)
@@ -125,80 +127,80 @@ module _ (s : List ℕ) (e : ℕ) where
       let t = trimmed (isBlank blanks.Trim) (take (to - e) (drop e s)) in
       payload-within k m (record { start = e + t .start; len = t .len }) c (length s) (omega (arith, trim-room s e to h (omega arith) t refl)) g
 
-  heard-within : e ≤ length s → (x : List ℕ) (n : ℕ) (r : Notice) → noticeAt x s e ≡ r → TriedWithin (length s) (heard r n s e)
+  heard-within : e ≤ length s → (x : List ℕ) (n : ℕ) (r : Notice) → noticeAt x s e ≡ r → TriedHas (Within (length s)) (heard r n s e)
   unfolding heard
   heard-within h x n (notice.Ended end) p = let w = notice-bounds x s e end p in part-within kind.Notice n end end (w .0) (omega arith) (w .1)
   heard-within h x n notice.Unfinished p = nothing-within e (length s) h
   heard-within h x n notice.Nothing p = tt
 
-  notices-within : e ≤ length s → (l : List Entry) → TriedWithin (length s) (notices l s e)
+  notices-within : e ≤ length s → (l : List Entry) → TriedHas (Within (length s)) (notices l s e)
   unfolding notices
   notices-within h [] = tt
-  notices-within h (x ∷ l) = either-within (length s) (heard (noticeAt (x .text) s e) (x .number) s e) (notices l s e) (heard-within h (x .text) (x .number) (noticeAt (x .text) s e) refl) (notices-within h l)
+  notices-within h (x ∷ l) = either-has (Within (length s)) (heard (noticeAt (x .text) s e) (x .number) s e) (notices l s e) (heard-within h (x .text) (x .number) (noticeAt (x .text) s e) refl) (notices-within h l)
 
-  custom-success-within : (l : List Entry) (r : Occurs) → firstCustom l s e ≡ r → TriedWithin (length s) (customSuccess r s e)
+  custom-success-within : (l : List Entry) (r : Occurs) → firstCustom l s e ≡ r → TriedHas (Within (length s)) (customSuccess r s e)
   unfolding customSuccess success
   custom-success-within l (occurs.At n len k) p = let w = occurs-room l s e (occurs.At n len k) (sym p) n len k refl in part-within kind.Ok 0 k (k + (len + 4)) (w .0) (omega arith) (w .1)
   custom-success-within l occurs.Nothing p = tt
 
-  custom-error-within : (l : List Entry) (r : Occurs) → firstCustom l s e ≡ r → TriedWithin (length s) (customError r)
+  custom-error-within : (l : List Entry) (r : Occurs) → firstCustom l s e ≡ r → TriedHas (Within (length s)) (customError r)
   unfolding customError
   custom-error-within l (occurs.At n len k) p = let w = occurs-room l s e (occurs.At n len k) (sym p) n len k refl in payload-within kind.Custom n (record { start = k + 2; len = len }) (k + (len + 4)) (length s) (omega arith) (w .1)
   custom-error-within l occurs.Nothing p = tt
 
-  line-success-within : (l : Fixed) (r : Found) → findIn (fixedText l) s e ≡ r → TriedWithin (length s) (lineSuccess s e l r)
+  line-success-within : (l : Fixed) (r : Found) → findIn (fixedText l) s e ≡ r → TriedHas (Within (length s)) (lineSuccess s e l r)
   unfolding lineSuccess success
   line-success-within l (At k) p = let w = line-room s e l (At k) (sym p) k refl in part-within kind.Ok 0 k (k + length (fixedText l)) (w .0) (omega arith) (w .1)
   line-success-within l Nothing p = tt
 
-  line-within : (l : Fixed) (r : Found) → findIn (fixedText l) s e ≡ r → TriedWithin (length s) (lineTried l r)
+  line-within : (l : Fixed) (r : Found) → findIn (fixedText l) s e ≡ r → TriedHas (Within (length s)) (lineTried l r)
   unfolding lineTried
   line-within l (At k) p = bare-within (kindOf l) (k + length (fixedText l)) (length s) (line-room s e l (At k) (sym p) k refl .1)
   line-within l Nothing p = tt
 
-  numeric-within : (h : Fixed) (r : Numeric) → numericError (fixedText h) s e ≡ r → TriedWithin (length s) (numericTried h r)
+  numeric-within : (h : Fixed) (r : Numeric) → numericError (fixedText h) s e ≡ r → TriedHas (Within (length s)) (numericTried h r)
   unfolding numericTried
   numeric-within h (numeric.Is d) p = number-within (kindOf h) (d .code) (d .end) (length s) (error-bounds (fixedText h) s e d p)
   numeric-within h numeric.Nothing p = tt
 
-  prompt-within : (b : Bool) (c : ℕ) → TriedWithin (length s) (promptTried b c s)
+  prompt-within : (b : Bool) (c : ℕ) → TriedHas (Within (length s)) (promptTried b c s)
   unfolding promptTried
-  prompt-within b c = ways (TriedWithin (length s)) b (λ q. number-within kind.Prompt c (length s) (length s) (omega arith)) (λ q. tt)
+  prompt-within b c = ways (TriedHas (Within (length s))) b (λ q. number-within kind.Prompt c (length s) (length s) (omega arith)) (λ q. tt)
 
-  custom-prompts-within : (l : List Entry) → TriedWithin (length s) (customPrompts l s e)
+  custom-prompts-within : (l : List Entry) → TriedHas (Within (length s)) (customPrompts l s e)
   unfolding customPrompts
   custom-prompts-within [] = tt
-  custom-prompts-within (x ∷ l) = either-within (length s) (promptTried (customPrompt (x .text) s e) (x .prompt) s) (customPrompts l s e) (prompt-within (customPrompt (x .text) s e) (x .prompt)) (custom-prompts-within l)
+  custom-prompts-within (x ∷ l) = either-has (Within (length s)) (promptTried (customPrompt (x .text) s e) (x .prompt) s) (customPrompts l s e) (prompt-within (customPrompt (x .text) s e) (x .prompt)) (custom-prompts-within l)
 
-  na-within : TriedWithin (length s) (notAllowed s e)
+  na-within : TriedHas (Within (length s)) (notAllowed s e)
   unfolding notAllowed
-  na-within = ways (TriedWithin (length s)) (stands (fixedText fixed.Na) s e) (λ q. bare-within kind.NotAllowed (e + 6) (length s) (na-room s e true (sym q) refl)) (λ q. tt)
+  na-within = ways (TriedHas (Within (length s))) (stands (fixedText fixed.Na) s e) (λ q. bare-within kind.NotAllowed (e + 6) (length s) (na-room s e true (sym q) refl)) (λ q. tt)
 
-  successes-within : (l : List Entry) → TriedWithin (length s) (successes l s e)
+  successes-within : (l : List Entry) → TriedHas (Within (length s)) (successes l s e)
   unfolding successes
   successes-within l =
-      either-within (length s) (customSuccess (firstCustom l s e) s e) _ (custom-success-within l (firstCustom l s e) refl)
-      (first-within (length s) (λ x. lineSuccess s e x (findIn (fixedText x) s e)) (λ x. line-success-within x (findIn (fixedText x) s e) refl) successLines)
+      either-has (Within (length s)) (customSuccess (firstCustom l s e) s e) _ (custom-success-within l (firstCustom l s e) refl)
+      (first-has (Within (length s)) (λ x. lineSuccess s e x (findIn (fixedText x) s e)) (λ x. line-success-within x (findIn (fixedText x) s e) refl) successLines)
 
-  prompts-within : (l : List Entry) → TriedWithin (length s) (prompts l s e)
+  prompts-within : (l : List Entry) → TriedHas (Within (length s)) (prompts l s e)
   unfolding prompts
   prompts-within l =
-      either-within (length s) (customPrompts l s e) _ (custom-prompts-within l)
-      (either-within (length s) (promptTried (promptFrom 62 s e) 62 s) _ (prompt-within (promptFrom 62 s e) 62) (prompt-within (promptFrom 64 s e) 64))
+      either-has (Within (length s)) (customPrompts l s e) _ (custom-prompts-within l)
+      (either-has (Within (length s)) (promptTried (promptFrom 62 s e) 62 s) _ (prompt-within (promptFrom 62 s e) 62) (prompt-within (promptFrom 64 s e) 64))
 
-  errors-within : (l : List Entry) → TriedWithin (length s) (errors l s e)
+  errors-within : (l : List Entry) → TriedHas (Within (length s)) (errors l s e)
   unfolding errors numericErrors lineErrors
   errors-within l =
-      either-within (length s) (customError (firstCustom l s e)) _ (custom-error-within l (firstCustom l s e) refl)
-      (either-within (length s) (numericErrors s e) _ (first-within (length s) (λ h. numericTried h (numericError (fixedText h) s e)) (λ h. numeric-within h (numericError (fixedText h) s e) refl) heads)
-      (either-within (length s) (lineErrors s e) _ (first-within (length s) (λ x. lineTried x (findIn (fixedText x) s e)) (λ x. line-within x (findIn (fixedText x) s e) refl) errorLines) na-within))
+      either-has (Within (length s)) (customError (firstCustom l s e)) _ (custom-error-within l (firstCustom l s e) refl)
+      (either-has (Within (length s)) (numericErrors s e) _ (first-has (Within (length s)) (λ h. numericTried h (numericError (fixedText h) s e)) (λ h. numeric-within h (numericError (fixedText h) s e) refl) heads)
+      (either-has (Within (length s)) (lineErrors s e) _ (first-has (Within (length s)) (λ x. lineTried x (findIn (fixedText x) s e)) (λ x. line-within x (findIn (fixedText x) s e) refl) errorLines) na-within))
 
-  pub tried-within : e ≤ length s → (ts : List Token) → TriedWithin (length s) (tried ts s e)
+  pub tried-within : e ≤ length s → (ts : List Token) → TriedHas (Within (length s)) (tried ts s e)
   unfolding tried
   tried-within h ts =
-      either-within (length s) (notices (ofMark mark.Notice 0 ts) s e) _ (notices-within h (ofMark mark.Notice 0 ts))
-      (either-within (length s) (successes (ofMark mark.Success 0 ts) s e) _ (successes-within (ofMark mark.Success 0 ts))
-      (either-within (length s) (prompts (ofMark mark.Prompt 0 ts) s e) _ (prompts-within (ofMark mark.Prompt 0 ts)) (errors-within (ofMark mark.Error 0 ts))))
+      either-has (Within (length s)) (notices (ofMark mark.Notice 0 ts) s e) _ (notices-within h (ofMark mark.Notice 0 ts))
+      (either-has (Within (length s)) (successes (ofMark mark.Success 0 ts) s e) _ (successes-within (ofMark mark.Success 0 ts))
+      (either-has (Within (length s)) (prompts (ofMark mark.Prompt 0 ts) s e) _ (prompts-within (ofMark mark.Prompt 0 ts)) (errors-within (ofMark mark.Error 0 ts))))
 
 again-within : (s : List ℕ) (e : ℕ) (r : Answer) → e ≤ length s → e + 2 ≤ length s → Within (length s - (e + 2)) r → Within (length s) (again e r)
 unfolding again
@@ -207,7 +209,7 @@ again-within s e r h g w =
     (λ q. let v = shift-within (e + 2) (length s - (e + 2)) r w in record { payload = v .payload; all = omega (arith, v .all, g) })
     (λ q. nothing-within e (length s) h)
 
-after-within : (s : List ℕ) (f : List ℕ → Answer) (e : ℕ) (t : Tried) → e ≤ length s → TriedWithin (length s) t → (retries s e ≡ true → Within (length (drop (e + 2) s)) (f (drop (e + 2) s))) → Within (length s) (after s f e t)
+after-within : (s : List ℕ) (f : List ℕ → Answer) (e : ℕ) (t : Tried) → e ≤ length s → TriedHas (Within (length s)) t → (retries s e ≡ true → Within (length (drop (e + 2) s)) (f (drop (e + 2) s))) → Within (length s) (after s f e t)
 unfolding after
 after-within s f e (tries.Done a) h w g = w
 after-within s f e tries.Next h w g =

@@ -1,24 +1,30 @@
 -- A client's calls under one table, each starting from the state and memories that the last one left; and what can be told of them: the winter's fault, shut out.
 use mathlib.Core.Path.{_≡_}
 use mathlib.Core.List.{List, [], _∷_, _++_, map}
-use Prim.Native.Nat.{ℕ, _%_}
+use Prim.Native.Nat.{ℕ, _+_}
 use lib.ListN.{take}
 use Rattle.text.specs.Text.{partOf}
+use Rattle.moves.specs.Moves.{put}
 use Rattle.outcome.specs.Outcome.{Outcome, answered, refused, if_then_else_}
 use Rattle.slot.specs.Slot.{wasReset}
 use Rattle.slot.specs.declared.Slot.{Slot}
 use Rattle.queue.specs.Queue.{ours, taken, Got, got, empty, Arrival}
 use Rattle.queue.specs.declared.Queue.{Queue}
-use Rattle.turn.specs.Turn.{withSlot, withQueue, World, withState, held, Choice, says, payloadOf}
+use Rattle.turn.specs.Turn.{withSlot, withQueue, World, world, withState, held, Choice, says, payloadOf}
 use Rattle.ingress.specs.Ingress.{advanced, written}
 use Rattle.ingress.specs.Story.{Stretch, Event, consumed, noticeOf, cameBy, wentBy, deliveredBy, handedBy, flat, waitingIn, emptied, Story, takesBytes, committedBytes, tookOf}
 
 pub data Call : Type 0 where
   write : List ℕ → Call
+  fill : ℕ → List ℕ → Call
   advance : ℕ → Call
   clear : Call
   takeOne : Call
   reset : Call
+
+-- A fill: the caller lays bytes into the room, n behind the end; bytes that don't fit there change nothing. They arrive when an advance commits them.
+abbrev pub afterFill : World → ℕ → List ℕ → World
+afterFill w n p = world (w .state) (put (w .buf) (w .state .end + n) p) (w .slotMemory) (w .queueMemory)
 
 -- what a take and a reset leave: refused, everything
 abbrev pub afterTake : World → Outcome Got → World
@@ -33,6 +39,7 @@ afterReset w (refused n v) = w
 -- what each call leaves
 abbrev pub leftBy : Choice → Call → World → World
 leftBy c (write p) w = written c p w .left
+leftBy c (fill n p) w = afterFill w n p
 leftBy c (advance n) w = advanced c n w .left
 leftBy c clear w = emptied w
 leftBy c takeOne w = afterTake w (taken ours (w .state .queue) (w .queueMemory))
@@ -41,6 +48,7 @@ leftBy c reset w = afterReset w (wasReset (w .state .slot) (w .slotMemory))
 -- the bytes offered that it takes
 abbrev pub tookBy : Choice → Call → World → List ℕ
 tookBy c (write p) w = take (tookOf (written c p w .said)) p
+tookBy c (fill n p) w = []
 tookBy c (advance n) w = if takesBytes (advanced c n w .said) then committedBytes w n else []
 tookBy c clear w = []
 tookBy c takeOne w = []
@@ -54,6 +62,7 @@ handsOut m (refused n v) = []
 -- the notices that it hands out
 abbrev pub handsBy : Choice → Call → World → List Arrival
 handsBy c (write p) w = []
+handsBy c (fill n p) w = []
 handsBy c (advance n) w = []
 handsBy c clear w = []
 handsBy c takeOne w = handsOut (w .queueMemory) (taken ours (w .state .queue) (w .queueMemory))
@@ -85,4 +94,4 @@ pub record GoesOn (c : Choice) (w : World) (q : Queue) : Type 0 where
   pub first : Stretch
   pub rest : List Stretch
   pub story : Story c (withState w (withQueue (w .state) q)) (consumed first ∷ map consumed rest) (advanced c 0 (withState w (withQueue (w .state) q)) .left)
-  pub notice : noticeOf first ≡ record { number = says c w .number % 256; payload = payloadOf (held w) (says c w) } ∷ []
+  pub notice : noticeOf first ≡ record { number = says c w .number; payload = payloadOf (held w) (says c w) } ∷ []

@@ -2,7 +2,7 @@
 use mathlib.Core.Path.{_≡_, refl, sym, ap, _∙_}
 use mathlib.Core.Bool.{Bool, true, false}
 use mathlib.Core.List.{List, [], _∷_, _++_, append-nil, append-assoc, map}
-use Prim.Native.Nat.{ℕ, zero, suc, _%_, _≤_, _<_}
+use Prim.Native.Nat.{ℕ, zero, suc, _≤_, _<_}
 use native.Mathlib.Omega.{arith}
 use lib.ListN.{take}
 use lib.Dec.{leb}
@@ -11,10 +11,11 @@ use Rattle.text.specs.Logic.{false-true}
 use Rattle.text.specs.Laws.{part-take}
 use Rattle.outcome.specs.Outcome.{if_then_else_}
 use Rattle.outcome.specs.Laws.{ways, same-way}
+use Rattle.answers.specs.Answer.{isNotice}
 use Rattle.answers.specs.declared.Answer.{Answer}
 use Rattle.queue.specs.Queue.{ours, Arrival, adds}
 use Rattle.queue.specs.Waiting.{take-waits}
-use Rattle.turn.specs.Turn.{withQueue, isNotice, isRefused, World, withState, held, Choice, says, Quiet, payloadOf, delivering, Step, went, stuck, once}
+use Rattle.turn.specs.Turn.{withQueue, isRefused, World, withState, held, Choice, says, Quiet, payloadOf, delivering, Step, went, stuck, once}
 use Rattle.turn.specs.Says.{held-long, says-within, notice-found}
 use Rattle.turn.specs.Laws.{once-went, once-stuck, once-end}
 use Rattle.turn.specs.Kept.{Good, trusted, idle, idle-next, kept, next-good, next-held, waits-full, stays}
@@ -55,7 +56,7 @@ module _ (c : Choice) (w : World) (x : Stretch) (v : World) (u : Consumes c w x 
       let k = once-went c w v (x .answer .consumed) (u .goes) in
       let n = ap (λ (a : Answer). isNotice (a .kind)) (u .said) in
       ap waitingIn (k .1 .0) ∙ kept c w (passed c w (u .passed)) (k .0) .notices
-      ∙ ap (λ (l : List Arrival). waitingIn w ++ l) (ap (λ (b : Bool). if b then adds ours (says c w .number % 256) (payloadOf (held w) (says c w)) else []) (sym n) ∙ same-way [] (isNotice (x .answer .kind)) (λ e. λ i. adds ours (sym (u .said) i .number % 256) (turned-payload e i)))
+      ∙ ap (λ (l : List Arrival). waitingIn w ++ l) (ap (λ (b : Bool). if b then adds ours (says c w .number) (payloadOf (held w) (says c w)) else []) (sym n) ∙ same-way [] (isNotice (x .answer .kind)) (λ e. λ i. adds ours (sym (u .said) i .number) (turned-payload e i)))
 
 -- All that came and was held is what went and is held.
 pub story-bytes : (c : Choice) (l : List Event) (w v : World) → Story c w l v → held w ++ flat cameBy l ≡ flat wentBy l ++ held v

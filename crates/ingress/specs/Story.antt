@@ -2,18 +2,19 @@
 use mathlib.Core.Path.{_≡_}
 use mathlib.Core.Bool.{Bool, true, false}
 use mathlib.Core.List.{List, [], _∷_, _++_}
-use Prim.Native.Nat.{ℕ, _%_, _≤_}
+use Prim.Native.Nat.{ℕ, _≤_}
 use lib.ListN.{length, getD, take, drop}
 use lib.Dec.{eqb}
 use Rattle.text.specs.Text.{partOf}
 use Rattle.outcome.specs.Outcome.{Outcome, answered, refused, if_then_else_}
+use Rattle.answers.specs.Answer.{isNotice}
 use Rattle.answers.specs.declared.Answer.{Answer}
 use Rattle.slot.specs.Slot.{wasReset}
 use Rattle.slot.specs.declared.Slot.{Slot}
 use Rattle.queue.specs.Queue.{ours, capacityOf, taken, got, Arrival, waiting, adds}
 use Rattle.queue.specs.declared.Queue.{Queue}
 use Rattle.queue.specs.declared.Notice.{Notice}
-use Rattle.turn.specs.Turn.{withEnd, withSlot, withQueue, isNotice, isRefused, World, world, withState, held, Choice, says, Quiet, payloadOf, went, once}
+use Rattle.turn.specs.Turn.{withEnd, withSlot, withQueue, isRefused, World, world, withState, held, Choice, says, Quiet, payloadOf, went, once}
 use Rattle.ingress.specs.Ingress.{judged, cleared, Result}
 
 -- a stretch of bytes that a turn consumed, and what the digester said it was
@@ -31,7 +32,7 @@ pub data Event : Type 0 where
 
 -- The notice that a turn delivers, where it is one of 1 to 128 bytes: that of its own stretch.
 abbrev pub noticeOf : Stretch → List Arrival
-noticeOf x = if isNotice (x .answer .kind) then adds ours (x .answer .number % 256) (payloadOf (x .bytes) (x .answer)) else []
+noticeOf x = if isNotice (x .answer .kind) then adds ours (x .answer .number) (payloadOf (x .bytes) (x .answer)) else []
 
 -- what each event adds to the bytes that came, to those that went, to the notices delivered, and to those handed out
 abbrev pub cameBy : Event → List ℕ

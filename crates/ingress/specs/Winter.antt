@@ -1,13 +1,16 @@
 -- The winter's fault is shut out: each call is a story, and so is a sequence of calls. From what advance and write keep.
 use mathlib.Core.Path.{_≡_, refl, sym, ap, _∙_}
+use mathlib.Core.Logic.{inl}
 use mathlib.Core.Bool.{Bool, true, false}
-use mathlib.Core.List.{List, [], _∷_, _++_}
-use Prim.Native.Nat.{ℕ, _+_, _%_, _≤_}
+use mathlib.Core.List.{List, [], _∷_, _++_, append-nil}
+use Prim.Native.Nat.{ℕ, _+_, _≤_}
 use native.Mathlib.Omega.{arith}
 use lib.ListN.{length, getD, take}
 use lib.Dec.{eqb}
+use Rattle.moves.specs.Laws.{put-elsewhere}
 use Rattle.outcome.specs.Outcome.{Outcome, answered, refused, if_then_else_}
 use Rattle.outcome.specs.Laws.{ways}
+use Rattle.answers.specs.Answer.{isNotice}
 use Rattle.answers.specs.declared.Answer.{Answer}
 use Rattle.slot.specs.Slot.{wasReset}
 use Rattle.slot.specs.declared.Slot.{Slot}
@@ -17,7 +20,7 @@ use Rattle.queue.specs.Waiting.{put-room, take-kept, take-empty, adds-one}
 use Rattle.queue.specs.declared.Put.the-variants as puts
 use Rattle.queue.specs.declared.Queue.{Queue}
 use Rattle.queue.specs.declared.Notice.{Notice}
-use Rattle.turn.specs.Turn.{withEnd, withSlot, withQueue, isNotice, Delivery, World, withState, held, Choice, says, payloadOf, delivering}
+use Rattle.turn.specs.Turn.{withEnd, withSlot, withQueue, Delivery, World, withState, held, Choice, says, payloadOf, delivering}
 use Rattle.turn.specs.Says.{held-long, says-same, says-within, notice-found}
 use Rattle.turn.specs.Laws.{to-queue, next, once-goes}
 use Rattle.turn.specs.Kept.{Good, trusted, next-good}
@@ -26,7 +29,7 @@ use Rattle.ingress.specs.Laws.{passed, passes, run-goes, at-run}
 use Rattle.ingress.specs.Story.{Event, arrived, consumed, dropped, handed, freed, cameBy, handedBy, flat, waitingIn, emptied, Consumes, Story, Fed, Over, Waits, takesBytes, Keeps, committedBytes, tookOf}
 use Rattle.ingress.specs.Kept.{stretchOf, turns-on, turned-payload, story-bytes, story-notices, run-ends}
 use Rattle.ingress.specs.Conserved.{flat-append, story-append, advance-keeps, write-keeps}
-use Rattle.ingress.specs.Calls.{Call, write, advance, clear, takeOne, reset, afterTake, afterReset, leftBy, tookBy, handsOut, handsBy, leftAfter, along, Told, GoesOn}
+use Rattle.ingress.specs.Calls.{Call, write, fill, afterFill, advance, clear, takeOne, reset, afterTake, afterReset, leftBy, tookBy, handsOut, handsBy, leftAfter, along, Told, GoesOn}
 
 -- one call: its events, what came with them and what was handed out
 record Did (c : Choice) (w : World) (b : List ℕ) (a : List Arrival) (v : World) : Type 0 where
@@ -64,6 +67,18 @@ took-if (refused k v) p = go (eqb k 5)
     go true = refl
     go false = refl
 
+-- a fill: nothing arrives yet, and what is held stays
+did-fill : (c : Choice) (w : World) (n : ℕ) (p : List ℕ) → Did c w [] [] (afterFill w n p)
+unfolding flat
+did-fill c w n p =
+    let e = w .state .end in
+    record {
+      events = arrived [] ∷ [];
+      story = record { at = afterFill w n p; first = record { behind = put-elsewhere (w .buf) (e + n) p 0 e (inl (omega arith)) ∙ sym (append-nil (held w)); others = refl }; rest = refl };
+      came = refl;
+      out = refl;
+    }
+
 -- a take and a reset
 did-take : (c : Choice) (w : World) (o : Outcome Got) → o ≡ taken ours (w .state .queue) (w .queueMemory) → Did c w [] (handsOut (w .queueMemory) o) (afterTake w o)
 unfolding flat
@@ -86,6 +101,7 @@ did-reset c w (refused n v) e = did-nothing c w w refl
 did : (c : Choice) (x : Call) (w : World) → Did c w (tookBy c x w) (handsBy c x w) (leftBy c x w)
 unfolding flat
 did c (write p) w = let r = written c p w in rw (sym (took-if (r .said) p)) (did-keeps c w (take (tookOf (r .said)) p) r (write-keeps c p w .0))
+did c (fill n p) w = did-fill c w n p
 did c (advance n) w = let r = advanced c n w in did-keeps c w (committedBytes w n) r (advance-keeps c n w .0)
 did c clear w =
     record { events = dropped (held w) ∷ []; story = record { at = emptied w; first = (refl, refl); rest = refl }; came = refl; out = refl }
@@ -143,7 +159,7 @@ module _ (c : Choice) (w : World) (z : Waits c w) (q : Queue) (n : Notice) (e : 
       let a = says c with-room in
       let p = payloadOf (held w) a in
       let y = room-waits z in
-      sym (ap (λ (d : Delivery). d .waits) (to-queue (with-room .state) a p (w .slotMemory) (w .queueMemory) (y .0) (puts.Is (longer q)) (queues.written ours q (a .number % 256) p (w .queueMemory)) (put-room q (a .number % 256) p (w .queueMemory) (k .0) (k .1) (y .1 .0) (y .1 .1)) (puts.Is (longer q)) refl))
+      sym (ap (λ (d : Delivery). d .waits) (to-queue (with-room .state) a p (w .slotMemory) (w .queueMemory) (y .0) (puts.Is (longer q)) (queues.written ours q (a .number) p (w .queueMemory)) (put-room q (a .number) p (w .queueMemory) (k .0) (k .1) (y .1 .0) (y .1 .1)) (puts.Is (longer q)) refl))
 
   room-found : 1 ≤ says c with-room .consumed
   room-found = trusted c with-room room-good .some (notice-found (says c with-room) (room-waits z .0))
@@ -169,8 +185,8 @@ module _ (c : Choice) (w : World) (z : Waits c w) (q : Queue) (n : Notice) (e : 
         rest = d .turns;
         story = record { at = next c with-room; first = room-turn; rest = rw (sym (ap (λ (r : Result (Unit {0})). r .left) after-turn)) (d .story) };
         notice =
-            ap (λ (b : Bool). if b then adds ours (a .number % 256) (payloadOf (stretchOf c with-room .bytes) a) else []) (y .0)
-            ∙ ap (λ (x : List ℕ). adds ours (a .number % 256) x) (sym p)
-            ∙ adds-one (a .number % 256) (payloadOf (held w) a) (y .1 .0) (y .1 .1)
-            ∙ ap (λ (x : Answer). record { number = x .number % 256; payload = payloadOf (held w) x } ∷ []) room-says;
+            ap (λ (b : Bool). if b then adds ours (a .number) (payloadOf (stretchOf c with-room .bytes) a) else []) (y .0)
+            ∙ ap (λ (x : List ℕ). adds ours (a .number) x) (sym p)
+            ∙ adds-one (a .number) (payloadOf (held w) a) (y .1 .0) (y .1 .1)
+            ∙ ap (λ (x : Answer). record { number = x .number; payload = payloadOf (held w) x } ∷ []) room-says;
       }

@@ -464,3 +464,28 @@ good-by (suc f) t at n m h = good-read t n m f (λ p g. good-by f t p (n + 1) m 
 pub good-tokens : (t : List ℕ) (m : ℕ) → ruling t ≡ answered m → GoodTokens (tokens t) 0 m
 unfolding ruling tokens
 good-tokens t m h = good-by 64 t 0 0 m h
+
+-- A record's number is below 64: at most so many are read, and those with a mark have their numbers among theirs.
+abbrev pub NumbersBelow : ℕ → List Entry → Type 0
+NumbersBelow k [] = Unit {0}
+NumbersBelow k (x ∷ l) = (x .number < k) × NumbersBelow k l
+
+mark-numbers : (m : Mark) (n k : ℕ) (l : List Token) → n + length l ≤ k → NumbersBelow k (ofMark m n l)
+unfolding ofMark entryOf
+mark-numbers m n k [] h = tt
+mark-numbers m n k (x ∷ l) h = let r = mark-numbers m (n + 1) k l (omega arith) in ways (NumbersBelow k) (sameMark (x .mark) m) (λ e. (omega arith, r)) (λ e. r)
+
+few-then : (f : ℕ) (t : List ℕ) (q : Read) → ((at : ℕ) → length (tokensBy f t at) ≤ f) → length (thenTokens t q (λ p. tokensBy f t p)) ≤ suc f
+unfolding thenTokens
+few-then f t (Is r) h = omega (arith, h (endOf r))
+few-then f t Faulty h = omega arith
+few-then f t End h = omega arith
+
+tokens-few : (f : ℕ) (t : List ℕ) (at : ℕ) → length (tokensBy f t at) ≤ f
+unfolding tokensBy
+tokens-few zero t at = omega arith
+tokens-few (suc f) t at = few-then f t (recordAt t at) (tokens-few f t)
+
+pub numbers-below : (m : Mark) (t : List ℕ) → NumbersBelow 64 (ofMark m 0 (tokens t))
+unfolding tokens
+numbers-below m t = mark-numbers m 0 64 (tokensBy 64 t 0) (omega (arith, tokens-few 64 t 0))

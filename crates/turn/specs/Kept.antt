@@ -2,7 +2,7 @@
 use mathlib.Core.Path.{_≡_, refl, sym, ap, _∙_}
 use mathlib.Core.Bool.{Bool, true, false}
 use mathlib.Core.List.{List, [], _++_, append-nil}
-use Prim.Native.Nat.{ℕ, _-_, _%_, _≤_}
+use Prim.Native.Nat.{ℕ, _-_, _≤_}
 use native.Mathlib.Omega.{arith}
 use lib.ListN.{length, take, drop, take-append-drop}
 use Rattle.text.specs.Logic.{false-true, not-true-false}
@@ -10,7 +10,7 @@ use Rattle.moves.specs.Moves.{moved}
 use Rattle.moves.specs.Laws.{moved-length, moved-held, moved-still}
 use Rattle.outcome.specs.Outcome.{Outcome, answered, refused, if_then_else_}
 use Rattle.table.specs.Table.{ruling}
-use Rattle.answers.specs.Answer.{isFound}
+use Rattle.answers.specs.Answer.{isFound, isNotice}
 use Rattle.answers.specs.declared.Answer.{Answer}
 use Rattle.slot.specs.Slot.{isResponse, signalled}
 use Rattle.slot.specs.Slot as slots
@@ -21,7 +21,7 @@ use Rattle.queue.specs.Queue as queues
 use Rattle.queue.specs.Waiting.{put-waits, put-kept, put-stuck, put-full-only}
 use Rattle.queue.specs.declared.Queue.{Queue}
 use Rattle.turn.specs.declared.State.{State}
-use Rattle.turn.specs.Turn.{withEnd, isNotice, Delivery, isRefused, toQueue, toSlot, deliver, World, world, held, Choice, says, Quiet, payloadOf, delivering}
+use Rattle.turn.specs.Turn.{withEnd, Delivery, isRefused, toQueue, toSlot, deliver, World, world, held, Choice, says, Quiet, payloadOf, delivering}
 use Rattle.turn.specs.Says.{held-long, says-within, Trusted, says-trusted}
 use Rattle.turn.specs.Laws.{next, waitsAt}
 
@@ -34,10 +34,10 @@ pub record Delivers (s : State) (m n : List ℕ) (adding : List queues.Arrival) 
   pub notices : waiting ours (d .state .queue) (d .queueMemory) ≡ waiting ours (s .queue) n ++ adding
 
 module _ (s : State) (a : Answer) (p m n : List ℕ) (f : s .slot .len ≤ length m) (g : inBounds (capacityOf ours (length n)) (s .queue) ≡ true) where
-  queue-delivers : (o : Outcome Queue) (k : List ℕ) → queues.after o k ≡ putInto ours (s .queue) (a .number % 256) p n → isRefused o ≡ false → Delivers s m n (adds ours (a .number % 256) p) (toQueue s m (queues.after o k))
+  queue-delivers : (o : Outcome Queue) (k : List ℕ) → queues.after o k ≡ putInto ours (s .queue) (a .number) p n → isRefused o ≡ false → Delivers s m n (adds ours (a .number) p) (toQueue s m (queues.after o k))
   queue-delivers (answered y) k e r =
-      let w = put-kept (s .queue) (a .number % 256) p n y k e in
-      record { slotLong = refl; slotFits = f; queueLong = w .0; queueFits = w .1; notices = put-waits (s .queue) (a .number % 256) p n y k e }
+      let w = put-kept (s .queue) (a .number) p n y k e in
+      record { slotLong = refl; slotFits = f; queueLong = w .0; queueFits = w .1; notices = put-waits (s .queue) (a .number) p n y k e }
   queue-delivers (refused j v) k e r = absurd (false-true refl r)
 
   slot-delivers : (o : Outcome Slot) (k : List ℕ) → slots.after o k ≡ signalled (s .slot) a p m → isRefused o ≡ false → Delivers s m n [] (toSlot s n (slots.after o k))
@@ -46,22 +46,22 @@ module _ (s : State) (a : Answer) (p m n : List ℕ) (f : s .slot .len ≤ lengt
       record { slotLong = w .0; slotFits = w .1; queueLong = refl; queueFits = g; notices = sym (append-nil (waiting ours (s .queue) n)) }
   slot-delivers (refused j v) k e r = absurd (false-true refl r)
 
-  delivers : deliver s a p m n .waits ≡ false → Delivers s m n (if isNotice (a .kind) then adds ours (a .number % 256) p else []) (deliver s a p m n)
+  delivers : deliver s a p m n .waits ≡ false → Delivers s m n (if isNotice (a .kind) then adds ours (a .number) p else []) (deliver s a p m n)
   unfolding deliver
   delivers = go (isNotice (a .kind))
     where
-      go : (b : Bool) → (if b then toQueue s m (putInto ours (s .queue) (a .number % 256) p n) else toSlot s n (signalled (s .slot) a p m)) .waits ≡ false → Delivers s m n (if b then adds ours (a .number % 256) p else []) (if b then toQueue s m (putInto ours (s .queue) (a .number % 256) p n) else toSlot s n (signalled (s .slot) a p m))
-      go true = queue-delivers (putInto ours (s .queue) (a .number % 256) p n .said) (putInto ours (s .queue) (a .number % 256) p n .memory) refl
+      go : (b : Bool) → (if b then toQueue s m (putInto ours (s .queue) (a .number) p n) else toSlot s n (signalled (s .slot) a p m)) .waits ≡ false → Delivers s m n (if b then adds ours (a .number) p else []) (if b then toQueue s m (putInto ours (s .queue) (a .number) p n) else toSlot s n (signalled (s .slot) a p m))
+      go true = queue-delivers (putInto ours (s .queue) (a .number) p n .said) (putInto ours (s .queue) (a .number) p n .memory) refl
       go false = slot-delivers (signalled (s .slot) a p m .said) (signalled (s .slot) a p m .memory) refl
 
   -- One that waits is a notice of 1 to 128 bytes at a full queue, and leaves every byte.
   abbrev Waited : Bool → Delivery → Type 0
   Waited b d = (b ≡ true) × ((capacityOf ours (length n) ≤ s .queue .count) × ((1 ≤ length p) × (length p ≤ 128))) × ((d .slotMemory ≡ m) × (d .queueMemory ≡ n))
 
-  queue-waited : (o : Outcome Queue) (k : List ℕ) → queues.after o k ≡ putInto ours (s .queue) (a .number % 256) p n → isRefused o ≡ true → Waited true (toQueue s m (queues.after o k))
+  queue-waited : (o : Outcome Queue) (k : List ℕ) → queues.after o k ≡ putInto ours (s .queue) (a .number) p n → isRefused o ≡ true → Waited true (toQueue s m (queues.after o k))
   queue-waited (answered y) k e r = absurd (false-true r refl)
   queue-waited (refused j v) k e r =
-      (refl, put-full-only (s .queue) (a .number % 256) p n j v k g e, (refl, put-stuck (s .queue) (a .number % 256) p n j v k e))
+      (refl, put-full-only (s .queue) (a .number) p n j v k g e, (refl, put-stuck (s .queue) (a .number) p n j v k e))
 
   slot-waited : (o : Outcome Slot) (k : List ℕ) → slots.after o k ≡ signalled (s .slot) a p m → isRefused o ≡ true → Waited false (toSlot s n (slots.after o k))
   slot-waited (answered y) k e r = absurd (false-true r refl)
@@ -71,8 +71,8 @@ module _ (s : State) (a : Answer) (p m n : List ℕ) (f : s .slot .len ≤ lengt
   unfolding deliver
   waited = go (isNotice (a .kind))
     where
-      go : (b : Bool) → (if b then toQueue s m (putInto ours (s .queue) (a .number % 256) p n) else toSlot s n (signalled (s .slot) a p m)) .waits ≡ true → Waited b (if b then toQueue s m (putInto ours (s .queue) (a .number % 256) p n) else toSlot s n (signalled (s .slot) a p m))
-      go true = queue-waited (putInto ours (s .queue) (a .number % 256) p n .said) (putInto ours (s .queue) (a .number % 256) p n .memory) refl
+      go : (b : Bool) → (if b then toQueue s m (putInto ours (s .queue) (a .number) p n) else toSlot s n (signalled (s .slot) a p m)) .waits ≡ true → Waited b (if b then toQueue s m (putInto ours (s .queue) (a .number) p n) else toSlot s n (signalled (s .slot) a p m))
+      go true = queue-waited (putInto ours (s .queue) (a .number) p n .said) (putInto ours (s .queue) (a .number) p n .memory) refl
       go false = slot-waited (signalled (s .slot) a p m .said) (signalled (s .slot) a p m .memory) refl
 
   -- None delivers nothing.
@@ -115,7 +115,7 @@ module _ (c : Choice) (w : World) (g : Good c w) where
 
   -- a turn that goes on leaves a good state, and what is consumed goes from the front of what is held
   module _ (r : delivering c w .waits ≡ false) where
-    pub kept : Delivers (w .state) (w .slotMemory) (w .queueMemory) (if isNotice (says c w .kind) then adds ours (says c w .number % 256) (payloadOf (held w) (says c w)) else []) (delivering c w)
+    pub kept : Delivers (w .state) (w .slotMemory) (w .queueMemory) (if isNotice (says c w .kind) then adds ours (says c w .number) (payloadOf (held w) (says c w)) else []) (delivering c w)
     kept = delivers (w .state) (says c w) (payloadOf (held w) (says c w)) (w .slotMemory) (w .queueMemory) (g .slotFits) (g .queueFits) r
 
     pub next-good : Good c (next c w)

@@ -2,11 +2,12 @@
 use mathlib.Core.Path.{_≡_, refl, sym, ap, _∙_}
 use mathlib.Core.Bool.{true, false}
 use mathlib.Core.List.{List}
-use Prim.Native.Nat.{ℕ, _+_, _-_, _%_, _≤_, min}
+use Prim.Native.Nat.{ℕ, _+_, _-_, _≤_, _<_, min}
 use native.Mathlib.Omega.{arith}
 use lib.ListN.{length, take}
 use Rattle.moves.specs.Moves.{moved}
 use Rattle.outcome.specs.Laws.{ways}
+use Rattle.answers.specs.Answer.{isNotice}
 use Rattle.answers.specs.declared.Answer.{Answer}
 use Rattle.digest.specs.Digest.{digestChecked}
 use Rattle.slot.specs.Slot.{signalled}
@@ -24,12 +25,12 @@ use Rattle.turn.specs.declared.Delivered.{Delivered}
 use Rattle.turn.specs.declared.Delivered.the-variants as delivers
 use Rattle.turn.specs.declared.Stepped.{Stepped}
 use Rattle.turn.specs.declared.Stepped.the-variants as steps
-use Rattle.turn.specs.Turn.{withEnd, withSlot, withQueue, isNotice, toQueue, toSlot, deliver, delivery, World, world, held, Choice, choice, says, payloadOf, delivering, Step, went, stuck, onward, once, stepped}
-use Rattle.turn.specs.Says.{held-long, held-is, says-is, says-within}
+use Rattle.turn.specs.Turn.{withEnd, withSlot, withQueue, toQueue, toSlot, deliver, delivery, World, world, held, Choice, choice, says, payloadOf, delivering, Step, went, stuck, onward, once, stepped}
+use Rattle.turn.specs.Says.{held-long, held-is, says-is, says-within, says-byte}
 
 -- where a delivery went: r is what the queue or the slot answered, k the memory that it left
 module _ (s : State) (a : Answer) (p m n : List ℕ) where
-  module _ (h : isNotice (a .kind) ≡ true) (r : Put) (k : List ℕ) (e : queues.after (queues.outcome r) k ≡ putInto ours (s .queue) (a .number % 256) p n) where
+  module _ (h : isNotice (a .kind) ≡ true) (r : Put) (k : List ℕ) (e : queues.after (queues.outcome r) k ≡ putInto ours (s .queue) (a .number) p n) where
     pub to-queue : (x : Put) → r ≡ x → toQueue s m (queues.after (queues.outcome x) k) ≡ deliver s a p m n
     unfolding deliver
     to-queue x q = ap (λ (y : Put). toQueue s m (queues.after (queues.outcome y) k)) (sym q) ∙ ap (toQueue s m) e ∙ rw h
@@ -50,6 +51,10 @@ module _ (t : List ℕ) (s : State) (b m n : List ℕ) (e : ℕ) (h : e ≡ min 
   -- what is consumed lies in what is held
   pub step-room : a .consumed ≤ e
   step-room = omega (arith, h, ap (λ (x : Answer). x .consumed) (ea ∙ says-is s b m n e h t), says-within (choice t) (world s b m n), held-long (world s b m n))
+
+  -- and a notice's number fits its record
+  pub step-number : isNotice (a .kind) ≡ true → a .number < 256
+  step-number = rw (ea ∙ says-is s b m n e h t) (says-byte (choice t) (world s b m n))
 
   module _ (p : List ℕ) (ep : p ≡ payloadOf (take e b) a) (r : Delivered) (k l : List ℕ) (er : delivery s r k l ≡ deliver s a p m n) where
     at-delivery : onward (world s b m n) a (delivery s r k l) ≡ once (choice t) (world s b m n)

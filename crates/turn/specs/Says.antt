@@ -3,21 +3,21 @@ use mathlib.Core.Path.{_≡_, refl, sym, ap, _∙_}
 use mathlib.Core.Bool.{Bool, true, false}
 use mathlib.Core.Logic.{⊎-elim}
 use mathlib.Core.List.{List}
-use Prim.Native.Nat.{ℕ, _+_, _≤_, min}
+use Prim.Native.Nat.{ℕ, _+_, _≤_, _<_, min}
 use native.Mathlib.Omega.{arith}
 use lib.ListN.{length, take, length-take}
 use lib.Seq.{take-all, take-length}
 use Rattle.text.specs.Logic.{false-true, order}
 use Rattle.outcome.specs.Outcome.{answered}
 use Rattle.table.specs.Table.{ruling}
-use Rattle.answers.specs.Answer.{isFound}
+use Rattle.answers.specs.Answer.{isFound, isNotice}
 use Rattle.answers.specs.declared.Answer.{Answer}
 use Rattle.answers.specs.declared.Kind.the-variants as kind
 use Rattle.digest.specs.Digest.{digestChecked}
 use Rattle.answers.specs.Laws.{none-only}
-use Rattle.digest.specs.Calls.{checked-heard, checked-within}
+use Rattle.digest.specs.Calls.{checked-heard, checked-within, checked-below}
 use Rattle.turn.specs.declared.State.{State}
-use Rattle.turn.specs.Turn.{isNotice, World, world, held, Choice, choice, says, Quiet}
+use Rattle.turn.specs.Turn.{World, world, held, Choice, choice, says, Quiet}
 
 -- the bytes held, as a beginning of the buffer
 pub held-long : (w : World) → length (held w) ≡ min (w .state .end) (length (w .buf))
@@ -44,6 +44,11 @@ says-same c w v e = ap (digestChecked (c .table)) e
 pub says-within : (c : Choice) (w : World) → says c w .consumed ≤ length (held w)
 unfolding says
 says-within c w = checked-within (c .table) (held w)
+
+-- A notice's number fits a byte, so that a record's number is the notice's.
+pub says-byte : (c : Choice) (w : World) → isNotice (says c w .kind) ≡ true → says c w .number < 256
+unfolding says
+says-byte c w q = omega (arith, checked-below (c .table) (held w) q)
 
 -- Under a good table and of at most 4,096 bytes: an answer that found something consumes at least one byte, and its payload lies in what it consumes;
 -- one that found nothing is None, and then nothing is finished.

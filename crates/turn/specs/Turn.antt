@@ -1,14 +1,13 @@
 -- One turn of the ingress in document 01's words: digest what is in the buffer, deliver, move the rest to the front.
 use mathlib.Core.Bool.{Bool, true, false}
 use mathlib.Core.List.{List}
-use Prim.Native.Nat.{ℕ, _-_, _%_}
+use Prim.Native.Nat.{ℕ, _-_}
 use lib.ListN.{length, take}
 use Rattle.text.specs.Text.{partOf}
 use Rattle.moves.specs.Moves.{moved}
 use Rattle.outcome.specs.Outcome.{Outcome, answered, refused, if_then_else_}
 use Rattle.table.specs.Table.{tokens}
-use Rattle.answers.specs.declared.Kind.{Kind}
-use Rattle.answers.specs.declared.Kind.the-variants as kind
+use Rattle.answers.specs.Answer.{isNotice}
 use Rattle.answers.specs.declared.Answer.{Answer}
 use Rattle.digest.specs.Digest.{digestChecked}
 use Rattle.digest.specs.Finished.{NothingFinished}
@@ -33,22 +32,6 @@ withSlot s x = record { end = s .end; slot = x; queue = s .queue }
 
 abbrev pub withQueue : State → Queue → State
 withQueue s q = record { end = s .end; slot = s .slot; queue = q }
-
-abbrev pub isNotice : Kind → Bool
-isNotice kind.None = false
-isNotice kind.Ok = false
-isNotice kind.Prompt = false
-isNotice kind.Cme = false
-isNotice kind.Cms = false
-isNotice kind.Unknown = false
-isNotice kind.NotAllowed = false
-isNotice kind.Error = false
-isNotice kind.NoCarrier = false
-isNotice kind.Busy = false
-isNotice kind.NoAnswer = false
-isNotice kind.NoDialtone = false
-isNotice kind.Custom = false
-isNotice kind.Notice = true
 
 -- what a delivery leaves, and whether it must wait
 pub record Delivery : Type 0 where
@@ -75,7 +58,7 @@ toSlot s n w = record { waits = isRefused (w .said); state = withSlot s (orSame 
 -- To deliver is to signal an answer to the slot, and to write a notice that isn't lost as the record next after those held; None delivers nothing.
 unfoldable pub deliver : State → Answer → List ℕ → List ℕ → List ℕ → Delivery
 deliver s a p m n =
-    if isNotice (a .kind) then toQueue s m (putInto ours (s .queue) (a .number % 256) p n)
+    if isNotice (a .kind) then toQueue s m (putInto ours (s .queue) (a .number) p n)
     else toSlot s n (signalled (s .slot) a p m)
 
 abbrev pub delivery : State → Delivered → List ℕ → List ℕ → Delivery

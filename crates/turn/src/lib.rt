@@ -2,10 +2,11 @@
 // The state is a struct by value beside lent slices; the buffer, the slot's memory and the queue's memory are the caller's.
 // It relies on the promises of digester, slot and queue, and opens none of their definitions. No public function has a `requires`.
 ghost use mathlib.Core.Path.{_≡_};
-ghost use Prim.Native.Nat.{min};
-ghost use Rattle.turn.specs.Turn.{withEnd, withSlot, withQueue, isNotice, deliver, delivery, world, choice, once, stepped};
+ghost use mathlib.Core.Bool.{true};
+ghost use Prim.Native.Nat.{_<_, min};
+ghost use Rattle.answers.specs.Answer.{isNotice};
+ghost use Rattle.turn.specs.Turn.{withEnd, withSlot, withQueue, deliver, delivery, world, choice, once, stepped};
 use answers::Answer;
-use answers::Kind;
 use queue::Put;
 use queue::Queue;
 use slot::Slot;
@@ -63,28 +64,7 @@ pub enum Delivered {
     Waits,
 }
 
-fn is_notice(kind: Kind) -> bool
-    ensures { λ r. ⌜ r ≡ isNotice kind ⌝ }
-{
-    match kind {
-        Kind::None => false,
-        Kind::Ok => false,
-        Kind::Prompt => false,
-        Kind::Cme => false,
-        Kind::Cms => false,
-        Kind::Unknown => false,
-        Kind::NotAllowed => false,
-        Kind::Error => false,
-        Kind::NoCarrier => false,
-        Kind::Busy => false,
-        Kind::NoAnswer => false,
-        Kind::NoDialtone => false,
-        Kind::Custom => false,
-        Kind::Notice => true,
-    }
-}
-
-// A notice goes to the queue as a record, any other answer to the slot as a signal; None delivers nothing.
+// A notice goes to the queue as a record, any other answer to the slot as a signal; None delivers nothing. A notice's number fits the record's byte.
 fn deliver(
     state: State,
     a: Answer,
@@ -92,12 +72,13 @@ fn deliver(
     slot_mem: &mut [u8],
     queue_mem: &mut [u8],
 ) -> Delivered
+    requires { ⌜ (isNotice (a .kind) ≡ true → a .number < 256) ⌝ }
     ensures { λ r. ⌜ delivery state r (now («slot_mem» .exit)) (now («queue_mem» .exit)) ≡ deliver state a (now (p .entry)) (now («slot_mem» .entry)) (now («queue_mem» .entry)) ⌝ }
 {
     let kind = a.kind;
-    if is_notice(kind) {
+    if answers::is_notice(kind) {
         let queue = state.queue;
-        return match queue.put(queue_mem, (a.number % 256) as u8, p) {
+        return match queue.put(queue_mem, a.number as u8, p) {
             Put::Is(q) => Delivered::Is(state.with_queue(q)),
             Put::BadBounds => Delivered::Waits,
             Put::Full => Delivered::Waits,

@@ -1,6 +1,7 @@
 -- `deliver` meets its contract: one law for the queue, one for the slot.
 use mathlib.Core.Path.{sym, _∙_}
 use Rattle.turn.specs.Laws.{to-queue, queue-is, to-slot, slot-is}
+use native.Mathlib.Omega.{arith}
 use borrow.Author.Needs.{needs}
 use Rattle.turn.proofs.deliver.Statement.{statement}
 use Rattle.turn.proofs.deliver.Tie as tie
@@ -9,7 +10,11 @@ is-notice-requires : tie.Need-is-notice-requires
 is-notice-requires c κs = search needs
 
 cast-put : tie.Need-cast-put
-cast-put c = search needs
+cast-put c =
+    let is-notice = c .before .before .before .before .is-notice in
+    let if1 = c .before .before .before .if1 in
+    let pre = c .before .before .before .before .before .before .before .before .pre in
+    omega (arith, pre (sym (is-notice .ensures) ∙ if1 .taken))
 
 put-requires : tie.Need-put-requires
 put-requires c κs = search needs

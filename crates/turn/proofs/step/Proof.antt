@@ -1,7 +1,7 @@
 -- `step` meets its contract: one law for each way out; what is consumed lies in what is held.
 use mathlib.Core.Path.{sym}
 use lib.Seq.{length-take-le}
-use Rattle.turn.specs.Laws.{step-room, step-full, step-is}
+use Rattle.turn.specs.Laws.{step-room, step-number, step-full, step-is}
 use native.Mathlib.Omega.{arith}
 use borrow.Author.Needs.{needs}
 use Rattle.turn.proofs.step.Statement.{statement}
@@ -34,7 +34,11 @@ payload-requires : tie.Need-payload-requires
 payload-requires c κs = search needs
 
 deliver-requires : tie.Need-deliver-requires
-deliver-requires c κs = search needs
+deliver-requires c κs =
+    let args = c .before .before .before .before .before .before .before .before .before .before .before .args in
+    let fitting = c .before .before .before .before .before .before .fitting in
+    let digest-checked = c .before .before .before .before .digest-checked in
+    step-number (args .table .now) (args .state) (args .buf .now) (args .slot-mem .now) (args .queue-mem .now) _ (fitting .ensures) _ (digest-checked .ensures)
 
 enum-told : tie.Need-enum-told
 enum-told c = search needs
