@@ -23,7 +23,7 @@ use Rattle.digest.specs.Step.{digest-within}
 use Rattle.digest.specs.Numbered.{Below, digest-below}
 use Rattle.digest.specs.Theorem.{heard-so}
 
--- The promise of `digest` determines its answer.
+-- no two answers of `digest` have the same outcome
 pub outcome-one : (r q : Digested) → outcome r ≡ outcome q → r ≡ q
 outcome-one (says.Is a) (says.Is b) e = cc
 outcome-one (says.Is a) says.TooLong e = let z : _≡_ {A = ℕ} 0 1 = cc in absurd (omega arith)

@@ -4,9 +4,9 @@ use mathlib.Core.Bool.{Bool, true, false, _&&_, not}
 use mathlib.Core.List.{List, [], _∷_}
 use Prim.Native.Nat.{ℕ, zero, suc, _+_, _-_, _≤_, _<_, min}
 use native.Mathlib.Omega.{arith}
-use lib.ListN.{length, getD, take, drop, length-drop}
+use lib.ListN.{length, take, drop, length-drop}
 use lib.Seq.{length-take-le}
-use lib.Dec.{eqb, leb, ltb}
+use lib.Dec.{leb, ltb}
 use borrow.Author.Tests.{le-leb, lt-leb, le-ltb, lt-ltb, leb-true, ltb-false}
 use Rattle.text.specs.Logic.{and-both}
 use Rattle.moves.specs.Moves.{put}
@@ -23,13 +23,9 @@ use Rattle.turn.specs.Kept.{Good}
 use Rattle.ingress.specs.declared.Checks.{Checks}
 use Rattle.ingress.specs.declared.Wrote.{Wrote}
 use Rattle.ingress.specs.declared.Wrote.the-variants as writes
-use Rattle.ingress.specs.declared.Written.{Written}
-use Rattle.ingress.specs.declared.Written.the-variants as takes
-use Rattle.ingress.specs.declared.Advanced.{Advanced}
-use Rattle.ingress.specs.declared.Advanced.the-variants as advances
 use Rattle.ingress.specs.declared.Ran.{Ran}
 use Rattle.ingress.specs.Story.{Passed}
-use Rattle.ingress.specs.Ingress.{Result, done, refusedAt, thenRun, runBy, run, ran, isSound, underTable, checks, refusal, judged, unlessRefused, committed, advanced, advanceSays, result, Writing, wrote, stopped, copied, afterCopy, writeOnce, thenWrite, writeBy, writeOn, writing, answering, written, writeSays, taking}
+use Rattle.ingress.specs.Ingress.{Result, done, refusedAt, thenRun, runBy, run, ran, isSound, underTable, checks, refusal, judged, unlessRefused, committed, advanced, Writing, wrote, stopped, copied, afterCopy, writeOnce, thenWrite, writeBy, writeOn, writing, answering, written}
 
 -- fuel does not matter
 then-same : (s : Step) (f g : World → Result (Unit {0})) → ((v : World) (n : ℕ) → s ≡ went v n → 1 ≤ n → f v ≡ g v) → thenRun s f ≡ thenRun s g
@@ -321,53 +317,3 @@ module _ (c : Choice) (p : List ℕ) (w : World) where
   pub write-wrote : Passed c w → (r : Wrote) (b m q : List ℕ) → writing r b m q ≡ writeOn c p 0 w → (x : Wrote) → r ≡ x → answering (writing x b m q) ≡ written c p w
   unfolding written unlessRefused
   write-wrote g r b m q e x v = ap (λ (y : Wrote). answering (writing y b m q)) (sym v) ∙ ap answering e ∙ rw (sym g)
-
--- The promises of `advance` and `write` determine the answer and every byte of the three memories: each can be read off the result.
-abbrev advanced-of : Outcome (Unit {0}) → State → Advanced
-advanced-of (answered x) s = advances.Is s
-advanced-of (refused k v) s =
-    if eqb k 1 then advances.TooLong
-    else if eqb k 2 then advances.BadTable (getD v 0 0)
-    else if eqb k 3 then advances.BadState
-    else if eqb k 4 then advances.NoRoom
-    else advances.Full s
-
-advanced-back : (s : State) (r : Advanced) → advanced-of (advanceSays s r .0) (advanceSays s r .1) ≡ r
-advanced-back s (advances.Is x) = refl
-advanced-back s advances.TooLong = refl
-advanced-back s (advances.BadTable k) = refl
-advanced-back s advances.BadState = refl
-advanced-back s advances.NoRoom = refl
-advanced-back s (advances.Full x) = refl
-
-abbrev written-of : Outcome ℕ → State → Written
-written-of (answered n) s = takes.Is s n
-written-of (refused k v) s =
-    if eqb k 1 then takes.TooLong
-    else if eqb k 2 then takes.BadTable (getD v 0 0)
-    else if eqb k 3 then takes.BadState
-    else takes.Full s (getD v 0 0)
-
-written-back : (s : State) (r : Written) → written-of (writeSays s r .0) (writeSays s r .1) ≡ r
-written-back s (takes.Is x n) = refl
-written-back s takes.TooLong = refl
-written-back s (takes.BadTable k) = refl
-written-back s takes.BadState = refl
-written-back s (takes.Full x n) = refl
-
--- two results that leave the same memories
-abbrev SameMemories : {A : Type 0} → Result A → Result A → Type 0
-SameMemories x y = (x .left .buf ≡ y .left .buf) × ((x .left .slotMemory ≡ y .left .slotMemory) × (x .left .queueMemory ≡ y .left .queueMemory))
-
-same-memories : {A : Type 0} (x y : Result A) → x ≡ y → SameMemories x y
-same-memories x y e = (ap (λ z. z .left .buf) e, (ap (λ z. z .left .slotMemory) e, ap (λ z. z .left .queueMemory) e))
-
-pub advance-one : (x : Result (Unit {0})) (s : State) (r q : Advanced) (b m n b′ m′ n′ : List ℕ) → result s r b m n ≡ x → result s q b′ m′ n′ ≡ x → (r ≡ q) × SameMemories (result s r b m n) (result s q b′ m′ n′)
-advance-one x s r q b m n b′ m′ n′ e f =
-    let g : result s r b m n ≡ result s q b′ m′ n′ = e ∙ sym f in
-    (sym (advanced-back s r) ∙ ap (λ (y : Result (Unit {0})). advanced-of (y .said) (y .left .state)) g ∙ advanced-back s q, same-memories _ _ g)
-
-pub write-one : (x : Result ℕ) (s : State) (r q : Written) (b m n b′ m′ n′ : List ℕ) → taking s r b m n ≡ x → taking s q b′ m′ n′ ≡ x → (r ≡ q) × SameMemories (taking s r b m n) (taking s q b′ m′ n′)
-write-one x s r q b m n b′ m′ n′ e f =
-    let g : taking s r b m n ≡ taking s q b′ m′ n′ = e ∙ sym f in
-    (sym (written-back s r) ∙ ap (λ (y : Result ℕ). written-of (y .said) (y .left .state)) g ∙ written-back s q, same-memories _ _ g)

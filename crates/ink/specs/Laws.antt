@@ -28,7 +28,7 @@ module _ (o : List ℕ) (n : ℕ) (p : List ℕ) where
     pub ink-at : (o′ : List ℕ) (n′ : ℕ) → inked o′ n′ ≡ ink o n p → n′ ≡ n + length p
     ink-at o′ n′ e = ap (λ (x : Ink). x .at) (e ∙ sym ink-is)
 
--- the promise of each call determines where the text ends and every byte of the memory
+-- what is inked has one memory and one end
 pub ink-one : (x : Ink) (o o′ : List ℕ) (n n′ : ℕ) → inked o n ≡ x → inked o′ n′ ≡ x → (n ≡ n′) × (o ≡ o′)
 ink-one x o o′ n n′ e f = (ap (λ (y : Ink). y .at) (e ∙ sym f), ap (λ (y : Ink). y .out) (e ∙ sym f))
 

@@ -24,9 +24,7 @@ use Rattle.steps.specs.declared.Stepped.the-variants.{Is, End}
 use Rattle.steps.specs.Steps.{stepsFrom, steps, firstOf, eaten}
 use Rattle.steps.specs.Laws.{Begins, Run, steps-run, steps-more, at-end, at-step, step-within, eaten-within}
 use Rattle.report.specs.declared.Drawn.{Drawn}
-use Rattle.report.specs.declared.Reported.{Reported}
-use Rattle.report.specs.declared.Reported.the-variants as saying
-use Rattle.report.specs.Report.{nameOf, numberText, payloadText, valueOf, lineOf, lines, textOf, Drawing, drawn, draw, Reporting, is, short, report, reported}
+use Rattle.report.specs.Report.{nameOf, numberText, payloadText, valueOf, lineOf, lines, textOf, Drawing, drawn, draw, is, short, report}
 
 -- how long the texts are
 payload-length : (p : List ℕ) → length (payloadText p) ≤ 1 + 2 * length p
@@ -258,21 +256,3 @@ module _ (s o : List ℕ) where
                 append-assoc (a ++ b ++ bytes "left") c (bytes "\n") ∙ append-assoc (a ++ b) (bytes "left") (c ++ bytes "\n") ∙ append-assoc a b (bytes "left" ++ (c ++ bytes "\n")) in
                 let q : a ++ (b ++ (bytes "left" ++ (c ++ bytes "\n"))) ≡ textOf s = rw (le-ltb 4096 (length s) l) in
                 ap is (then-ink o 0 (a ++ b ++ bytes "left" ++ c) (bytes "\n") o₄ n₄ r counted e (omega (arith, count-front)) ∙ ap (ink o 0) (w ∙ q)) ∙ at-text
-
--- the promise of `report` determines its answer and every byte of the memory
-abbrev reported-of : Reporting → Reported
-reported-of (is x) = saying.Is (x .at)
-reported-of (short o) = saying.Short
-
-abbrev memory-of : Reporting → List ℕ
-memory-of (is x) = x .out
-memory-of (short o) = o
-
-reported-back : (r : Reported) (o : List ℕ) → (reported-of (reported r o) ≡ r) × (memory-of (reported r o) ≡ o)
-reported-back (saying.Is n) o = (refl, refl)
-reported-back saying.Short o = (refl, refl)
-
-pub report-one : (x : Reporting) (r q : Reported) (o o′ : List ℕ) → reported r o ≡ x → reported q o′ ≡ x → (r ≡ q) × (o ≡ o′)
-report-one x r q o o′ e f =
-    let g : reported r o ≡ reported q o′ = e ∙ sym f in
-    (sym (reported-back r o .0) ∙ ap reported-of g ∙ reported-back q o′ .0, sym (reported-back r o .1) ∙ ap memory-of g ∙ reported-back q o′ .1)

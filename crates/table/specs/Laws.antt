@@ -28,7 +28,7 @@ use Rattle.table.specs.declared.Checked.{Checked}
 use Rattle.table.specs.declared.Checked.the-variants as checks
 use Rattle.table.specs.Table.{isPlain, allPlain, isText, textAt, promptAt, recordAt, textOf, endOf, goodIf, goodAt, thenRule, rulingBy, ruling, outcome, markNumber, sameMark, thenNext, nextBy, nextOf, Token, tokenOf, thenTokens, tokensBy, tokens, Entry, entryOf, ofMark, entries}
 
--- The check's promise determines its answer.
+-- no two answers of the check have the same outcome
 pub outcome-one : (r q : Checked) → outcome r ≡ outcome q → r ≡ q
 outcome-one (checks.Good n) (checks.Good m) e = cc
 outcome-one (checks.Good n) (checks.Faulty m) e = let z : _≡_ {A = ℕ} 0 1 = cc in absurd (omega arith)

@@ -1,5 +1,5 @@
 -- Laws of a turn for its programs and the loops above it. What it needs of the layers below are the laws that they export.
-use mathlib.Core.Path.{_≡_, refl, sym, ap, _∙_}
+use mathlib.Core.Path.{_≡_, sym, ap, _∙_}
 use mathlib.Core.Bool.{true, false}
 use mathlib.Core.List.{List}
 use Prim.Native.Nat.{ℕ, _+_, _-_, _≤_, _<_, min}
@@ -23,9 +23,7 @@ use Rattle.queue.specs.declared.Queue.{Queue}
 use Rattle.turn.specs.declared.State.{State}
 use Rattle.turn.specs.declared.Delivered.{Delivered}
 use Rattle.turn.specs.declared.Delivered.the-variants as delivers
-use Rattle.turn.specs.declared.Stepped.{Stepped}
-use Rattle.turn.specs.declared.Stepped.the-variants as steps
-use Rattle.turn.specs.Turn.{withEnd, withSlot, withQueue, toQueue, toSlot, deliver, delivery, World, world, held, Choice, choice, says, payloadOf, delivering, Step, went, stuck, onward, once, stepped}
+use Rattle.turn.specs.Turn.{withEnd, withSlot, withQueue, toQueue, toSlot, deliver, delivery, World, world, held, Choice, choice, says, payloadOf, delivering, Step, went, stuck, onward, once}
 use Rattle.turn.specs.Says.{held-long, held-is, says-is, says-within, says-byte}
 
 -- where a delivery went: r is what the queue or the slot answered, k the memory that it left
@@ -119,28 +117,3 @@ module _ (c : Choice) (w : World) where
   pub once-less : left-by (once c w) .state .end ≤ w .state .end
   unfolding once onward
   once-less = ways (λ s. left-by s .state .end ≤ w .state .end) (delivering c w .waits) (λ q. omega arith) (λ q. omega (arith, held-long w))
-
--- The promise of `step` determines the answer and every byte of the three memories: each can be read off the turn.
-abbrev stepped-of : Step → Stepped
-stepped-of (went w n) = steps.Is (w .state) n
-stepped-of (stuck w) = steps.Full
-
-module _ (s : State) (b m n : List ℕ) where
-  stepped-back : (r : Stepped) → (stepped-of (stepped s r b m n) ≡ r) × ((left-by (stepped s r b m n) .buf ≡ b) × ((left-by (stepped s r b m n) .slotMemory ≡ m) × (left-by (stepped s r b m n) .queueMemory ≡ n)))
-  stepped-back (steps.Is x k) = (refl, (refl, (refl, refl)))
-  stepped-back steps.Full = (refl, (refl, (refl, refl)))
-
-pub step-one : (x : Step) (s : State) (r q : Stepped) (b m n b′ m′ n′ : List ℕ) → stepped s r b m n ≡ x → stepped s q b′ m′ n′ ≡ x → (r ≡ q) × ((b ≡ b′) × ((m ≡ m′) × (n ≡ n′)))
-step-one x s r q b m n b′ m′ n′ e f =
-    let g = e ∙ sym f in
-    let k = stepped-back s b m n r in
-    let l = stepped-back s b′ m′ n′ q in (
-      sym (k .0) ∙ ap stepped-of g ∙ l .0,
-      (
-        sym (k .1 .0) ∙ ap (λ (y : Step). left-by y .buf) g ∙ l .1 .0,
-        (
-          sym (k .1 .1 .0) ∙ ap (λ (y : Step). left-by y .slotMemory) g ∙ l .1 .1 .0,
-          sym (k .1 .1 .1) ∙ ap (λ (y : Step). left-by y .queueMemory) g ∙ l .1 .1 .1,
-        ),
-      ),
-    )

@@ -1,0 +1,7 @@
+-- Any two results that a contract of this crate allows are equal.
+use Rattle.outcome.specs.One.{One}
+use Rattle.text.specs.Logic.{determined}
+use Rattle.seek.proofs as calls
+
+pub find-one : One calls.find.Reads.Post
+find-one κs a x y s t = determined
