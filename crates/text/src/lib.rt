@@ -101,11 +101,17 @@ pub fn trim(set: Blanks, s: &[u8]) -> Span
     Span { start: a, len: n }
 }
 
-// Letter case is exact: the crate's `tag_no_case` runs behind a search that is.
+// A byte as it is compared: itself. Letter case is exact: the crate's `tag_no_case` runs behind a search that is.
+fn exact(byte: u8) -> u8
+    ensures { λ r. ⌜ r ≡ byte ⌝ }
+{
+    byte
+}
+
 fn same(a: u8, b: u8) -> bool
     ensures { λ r. ⌜ r ≡ eqb a b ⌝ }
 {
-    a == b
+    exact(a) == exact(b)
 }
 
 // Does t stand in s at `at`, where there is room for it?

@@ -1,6 +1,9 @@
 -- `again` meets its contract: the retry found nothing, or its answer is moved.
+use mathlib.Core.Path.{ap, _∙_}
+use Prim.Native.Nat.{ℕ}
 use native.Mathlib.Omega.{arith}
 use borrow.Author.Tests.{not-true, not-false}
+use Rattle.answers.specs.Answer.{shiftWithin}
 use Rattle.digest.specs.Step.{again-lost, again-found}
 use borrow.Author.Needs.{needs}
 use Rattle.digest.proofs.again.Statement.{statement}
@@ -31,7 +34,7 @@ returns-2 c =
     let args = c .before .before .before .args in
     let is-found = c .before .before .is-found in
     let pre = c .before .before .before .pre in
-    again-found (args .r) (args .e) _ (is-found .ensures) (not-false _ (c .before .if1 .left)) (pre .0) (pre .1) _ (c .shifted .ensures)
+    again-found (args .r) (args .e) _ (is-found .ensures) (not-false _ (c .before .if1 .left)) (pre .0) (pre .1) _ (c .shifted .ensures ∙ ap (λ (d : ℕ). shiftWithin d (args .r)) (omega arith))
 
 pub again-spec : {M : Type 1} → statement M
 again-spec =

@@ -1,5 +1,6 @@
 -- `digest` meets its contract: the refusals in their order, then the recursive digester; what it heard by the theorem.
 use mathlib.Core.Path.{sym, ap, _∙_}
+use native.Mathlib.Omega.{arith}
 use Rattle.table.specs.Table.{outcome}
 use Rattle.digest.specs.Calls.{digest-long, digest-bad, digest-is, digest-heard}
 use borrow.Author.Needs.{needs}
@@ -9,7 +10,7 @@ use Rattle.digest.proofs.digest.Tie as tie
 returns : tie.Need-returns
 returns c =
     let args = c .before .before .before .args in
-    (digest-long (args .table .now) (args .input .now) (c .if1 .taken), tt)
+    (digest-long (args .table .now) (args .input .now) (omega arith), tt)
 
 check-requires : tie.Need-check-requires
 check-requires c κs = search needs
@@ -26,16 +27,14 @@ digest-in-requires c κs = search needs
 returns-2 : tie.Need-returns-2
 returns-2 c =
     let args = c .before .before .before .before .before .before .before .args in
-    let if1 = c .before .before .before .before .if1 in
     let check = c .before .before .before .check in
-    (digest-bad (args .table .now) (args .input .now) (if1 .left) _ (ap outcome (sym (c .before .k .given .1)) ∙ check .ensures), tt)
+    (digest-bad (args .table .now) (args .input .now) (omega arith) _ (ap outcome (sym (c .before .k .given .1)) ∙ check .ensures), tt)
 
 returns-3 : tie.Need-returns-3
 returns-3 c =
     let lent = c .before .before .before .before .before .before .before .args in
-    let short = c .before .before .before .before .if1 in
     let good = ap outcome (sym (c .before .enum-told .given .1)) ∙ c .before .before .before .check .ensures in
-    (digest-is (lent .table .now) (lent .input .now) (short .left) _ good _ (c .digest-in .ensures), digest-heard (lent .table .now) (lent .input .now) _ (sym good) _ (c .digest-in .ensures))
+    (digest-is (lent .table .now) (lent .input .now) (omega arith) _ good _ (c .digest-in .ensures), digest-heard (lent .table .now) (lent .input .now) _ (sym good) _ (c .digest-in .ensures))
 
 pub digest-spec : {M : Type 1} → statement M
 digest-spec =

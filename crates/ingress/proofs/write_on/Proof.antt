@@ -1,10 +1,11 @@
 -- `write_on` meets its contract: what is to be written of the piece is what is to be written of its rest. The measure is what is not yet taken.
-use mathlib.Core.Path.{refl, _∙_}
-use Prim.Native.Nat.{_-_}
+use mathlib.Core.Path.{_≡_, refl, ap, _∙_}
+use Prim.Native.Nat.{ℕ, _-_}
 use native.Mathlib.Omega.{arith}
 use lib.ListN.{length}
 use Rattle.text.specs.Laws.{rest}
-use Rattle.turn.specs.Turn.{world, choice}
+use Rattle.turn.specs.Turn.{World, world, choice}
+use Rattle.ingress.specs.Ingress.{Writing, stopped}
 use Rattle.ingress.specs.Laws.{Writes, on-full, full-room, on-still, on-room, on-again}
 use borrow.Author.Needs.{needs}
 use Rattle.ingress.proofs.write_on.Statement.{statement}
@@ -64,12 +65,16 @@ same-length-3 c =
     let write-once = c .before .before .before .before .before .before .before .before .before .write-once in
     write-once .kept .1 .1 .1 .1 .1 .0 ∙ loop .inv .queueLong
 
+-- However the sum of the bytes taken is written.
+stops : (w : World) (x : Writing) (k n : ℕ) → n ≡ k → stopped k w ≡ x → stopped n w ≡ x
+stops w x k n e f = ap (λ (m : ℕ). stopped m w) e ∙ f
+
 returns : tie.Need-returns Inv-loop μ-loop
 returns c =
     let args = c .before .before .before .before .before .before .before .before .before .before .before .before .before .before .before .before .before .before .before .before .args in
     let loop = c .before .before .before .before .before .before .before .before .before .before .before .before .before .before .loop in
     let write-once = c .before .before .before .before .before .before .before .before .before .write-once in
-    on-full (choice (args .table .now)) (args .piece .now) (world (args .state) (args .buf .now) (args .slot-mem .now) (args .queue-mem .now)) (loop .taken) (world (loop .s) (loop .buf) (loop .slot-mem) (loop .queue-mem)) (loop .inv) _ (rest (args .piece .now) (loop .taken)) _ _ _ _ (write-once .ensures) _ _ (c .before .next .given .1)
+    stops _ _ _ _ (omega arith) (on-full (choice (args .table .now)) (args .piece .now) (world (args .state) (args .buf .now) (args .slot-mem .now) (args .queue-mem .now)) (loop .taken) (world (loop .s) (loop .buf) (loop .slot-mem) (loop .queue-mem)) (loop .inv) _ (rest (args .piece .now) (loop .taken)) _ _ _ _ (write-once .ensures) _ _ (c .before .next .given .1))
 
 enum-known-next-2 : tie.Need-enum-known-next-2 Inv-loop μ-loop
 enum-known-next-2 c = search needs

@@ -55,7 +55,7 @@ returns-2 c =
     let loop-test = c .before .before .before .before .before .loop-test in
     let is-digit = c .before .before .before .is-digit in
     let if1 = c .before .before .if1 in
-    run-large _ _ _ _ (loop .inv) (loop-test .taken) (sym (is-digit .ensures) ∙ not-false _ (if1 .left)) _ (c .before .wide .ensures) (c .if2 .taken)
+    run-large _ _ _ _ (loop .inv) (loop-test .taken) (sym (is-digit .ensures) ∙ not-false _ (if1 .left)) _ (c .before .wide .ensures) (omega arith)
 
 add-i : tie.Need-add-i Inv-loop μ-loop
 add-i c = omega arith
@@ -69,7 +69,7 @@ loop-again c =
     let loop-test = c .before .before .before .before .before .loop-test in
     let is-digit = c .before .before .before .is-digit in
     let if1 = c .before .before .if1 in
-    run-more _ _ _ _ (loop .inv) (loop-test .taken) (sym (is-digit .ensures) ∙ not-false _ (if1 .left)) _ (c .before .wide .ensures) (c .if2 .left)
+    run-more _ _ _ _ (loop .inv) (loop-test .taken) (sym (is-digit .ensures) ∙ not-false _ (if1 .left)) _ (c .before .wide .ensures) (omega arith)
 
 returns-3 : tie.Need-returns-3 Inv-loop μ-loop
 returns-3 c = run-end _ _ _ _ (c .before .loop .inv) (c .loop-test .left)

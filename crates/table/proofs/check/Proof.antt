@@ -24,9 +24,8 @@ enum-told c = search needs
 returns : tie.Need-returns Inv-loop μ-loop
 returns c =
     let loop = c .before .before .before .before .loop in
-    let loop-test = c .before .before .before .loop-test in
     let good-at = c .before .before .good-at in
-    check-end _ (loop .at) (loop .n) (loop .inv) (loop-test .taken) _ (good-at .ensures) (c .enum-told .given .1)
+    check-end _ (loop .at) (loop .n) (loop .inv) (omega arith) _ (good-at .ensures) (c .enum-told .given .1)
 
 enum-told-2 : tie.Need-enum-told-2 Inv-loop μ-loop
 enum-told-2 c = search needs
@@ -34,9 +33,8 @@ enum-told-2 c = search needs
 returns-2 : tie.Need-returns-2 Inv-loop μ-loop
 returns-2 c =
     let loop = c .before .before .before .before .loop in
-    let loop-test = c .before .before .before .loop-test in
     let good-at = c .before .before .good-at in
-    check-faulty _ (loop .at) (loop .n) (loop .inv) (loop-test .taken) _ (good-at .ensures) (c .enum-told2 .given .1)
+    check-faulty _ (loop .at) (loop .n) (loop .inv) (omega arith) _ (good-at .ensures) (c .enum-told2 .given .1)
 
 enum-known-r : tie.Need-enum-known-r Inv-loop μ-loop
 enum-known-r c = search needs
@@ -58,20 +56,19 @@ loop-less c = omega arith
 loop-again : tie.Need-loop-again Inv-loop μ-loop
 loop-again c =
     let loop = c .before .before .before .before .before .before .loop in
-    let loop-test = c .before .before .before .before .before .loop-test in
     let good-at = c .before .before .before .before .good-at in
     let r = c .before .before .r in
-    check-more _ (loop .at) (loop .n) (loop .inv) (loop-test .taken) _ (good-at .ensures) _ (r .given .1)
+    check-more _ (loop .at) (loop .n) (loop .inv) (omega arith) _ (good-at .ensures) _ (r .given .1)
 
 returns-3 : tie.Need-returns-3 Inv-loop μ-loop
 returns-3 c =
     let loop = c .before .before .loop in
-    check-over _ (loop .at) (loop .n) (loop .inv) (c .before .loop-test .left) (c .if1 .taken)
+    check-over _ (loop .at) (loop .n) (loop .inv) (omega arith) (c .if1 .taken)
 
 returns-4 : tie.Need-returns-4 Inv-loop μ-loop
 returns-4 c =
     let loop = c .before .before .loop in
-    check-full _ (loop .at) (loop .n) (loop .inv) (c .before .loop-test .left) (c .if1 .left)
+    check-full _ (loop .at) (loop .n) (loop .inv) (omega arith) (c .if1 .left)
 
 pub check-spec : {M : Type 1} → statement M
 check-spec =
