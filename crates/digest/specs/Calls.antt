@@ -17,7 +17,7 @@ use Rattle.digest.specs.declared.Digested.the-variants as says
 use Rattle.outcome.specs.Laws.{ways}
 use Rattle.answers.specs.Answer.{nothing, Within}
 use Rattle.answers.specs.Laws.{nothing-within}
-use Rattle.digest.specs.Digest.{digestIn, underTable, digest, digestChecked, outcome}
+use Rattle.digest.specs.Digest.{digestIn, underTable, digest, digestUnchecked, outcome}
 use Rattle.digest.specs.Heard.{Heard, HeardIn}
 use Rattle.digest.specs.Step.{digest-within}
 use Rattle.digest.specs.Numbered.{Below, digest-below}
@@ -67,27 +67,27 @@ module _ (t s : List ℕ) where
     unfolding underTable
     digest-is n p a w = ap answered w ∙ ap (λ (x : Outcome ℕ). underTable x t s) p ∙ at-table
 
-    pub checked-is : (a : Answer) → a ≡ digestIn (tokens t) s → a ≡ digestChecked t s
-    unfolding digestChecked
-    checked-is a w = rw (le-ltb 4096 (length s) l) w
+    pub unchecked-is : (a : Answer) → a ≡ digestIn (tokens t) s → a ≡ digestUnchecked t s
+    unfolding digestUnchecked
+    unchecked-is a w = rw (le-ltb 4096 (length s) l) w
 
     -- demand 3, first half, under a good table that isn't checked again
-    pub checked-heard : (n : ℕ) → ruling t ≡ answered n → Heard (tokens t) s (digestChecked t s)
-    checked-heard n h = digest-heard t s n h (digestChecked t s) (sym (checked-is (digestIn (tokens t) s) refl))
+    pub unchecked-heard : (n : ℕ) → ruling t ≡ answered n → Heard (tokens t) s (digestUnchecked t s)
+    unchecked-heard n h = digest-heard t s n h (digestUnchecked t s) (sym (unchecked-is (digestIn (tokens t) s) refl))
 
-  pub checked-long : 4096 < length s → (a : Answer) → a ≡ nothing 0 → a ≡ digestChecked t s
-  unfolding digestChecked
-  checked-long h a w = rw (lt-ltb 4096 (length s) h) w
+  pub unchecked-long : 4096 < length s → (a : Answer) → a ≡ nothing 0 → a ≡ digestUnchecked t s
+  unfolding digestUnchecked
+  unchecked-long h a w = rw (lt-ltb 4096 (length s) h) w
 
   -- what a digest under a checked table consumes lies in the input, and the payload in what is consumed
-  pub checked-inside : Within (length s) (digestChecked t s)
-  unfolding digestChecked
-  checked-inside = ways (Within (length s)) (ltb 4096 (length s)) (λ q. nothing-within 0 (length s) (omega arith)) (λ q. digest-within (tokens t) s)
+  pub unchecked-inside : Within (length s) (digestUnchecked t s)
+  unfolding digestUnchecked
+  unchecked-inside = ways (Within (length s)) (ltb 4096 (length s)) (λ q. nothing-within 0 (length s) (omega arith)) (λ q. digest-within (tokens t) s)
 
   -- a notice's number is below 64, under any table
-  pub checked-below : Below 64 (digestChecked t s)
-  unfolding digestChecked
-  checked-below = ways (Below 64) (ltb 4096 (length s)) (λ q f. absurd (false-true f refl)) (λ q. digest-below 64 (tokens t) (numbers-below mark.Notice t) s)
+  pub unchecked-below : Below 64 (digestUnchecked t s)
+  unfolding digestUnchecked
+  unchecked-below = ways (Below 64) (ltb 4096 (length s)) (λ q f. absurd (false-true f refl)) (λ q. digest-below 64 (tokens t) (numbers-below mark.Notice t) s)
 
-  pub checked-within : digestChecked t s .consumed ≤ length s
-  checked-within = checked-inside .all
+  pub unchecked-within : digestUnchecked t s .consumed ≤ length s
+  unchecked-within = unchecked-inside .all

@@ -59,6 +59,6 @@ outcome says.TooLong = refused 1 []
 outcome (says.BadTable k) = refused 2 (k ∷ [])
 
 -- under a table that isn't asked about: its records as they lie; an input over 4,096 bytes is None, 0
-unfoldable pub digestChecked : List ℕ → List ℕ → Answer
+unfoldable pub digestUnchecked : List ℕ → List ℕ → Answer
 unfolding digestIn
-digestChecked t s = if ltb 4096 (length s) then nothing 0 else digestIn (tokens t) s
+digestUnchecked t s = if ltb 4096 (length s) then nothing 0 else digestIn (tokens t) s

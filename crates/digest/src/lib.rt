@@ -8,7 +8,7 @@ ghost use Rattle.text.specs.Text.{partOf, partAt, further};
 ghost use Rattle.answers.specs.Answer.{isFound, Within};
 ghost use Rattle.items.specs.Hints.{Known};
 ghost use Rattle.level.specs.Level.{GoneAll};
-ghost use Rattle.digest.specs.Digest.{retries, again, digestIn, digest, digestChecked, outcome};
+ghost use Rattle.digest.specs.Digest.{retries, again, digestIn, digest, digestUnchecked, outcome};
 ghost use Rattle.digest.specs.Heard.{HeardIn};
 use answers::Answer;
 use items::Hints;
@@ -94,10 +94,10 @@ pub fn digest(table: &[u8], input: &[u8]) -> Digested
     }
 }
 
-// The same under a table that was checked before: it isn't checked again. Under a faulty one the records count as they lie,
+// The same under a table that the caller vouches for: it isn't checked. Under a faulty one the records count as they lie,
 // up to the first that can't be read. An input over 4,096 bytes is None with nothing consumed.
-pub fn digest_checked(table: &[u8], input: &[u8]) -> Answer
-    ensures { λ r. ⌜ r ≡ digestChecked (now (table .entry)) (now (input .entry)) ⌝ }
+pub fn digest_unchecked(table: &[u8], input: &[u8]) -> Answer
+    ensures { λ r. ⌜ r ≡ digestUnchecked (now (table .entry)) (now (input .entry)) ⌝ }
 {
     if input.len() <= LONGEST {
         return digest_in(table, input);

@@ -18,7 +18,7 @@ use Rattle.answers.specs.declared.Kind.{Kind}
 use Rattle.answers.specs.declared.Kind.the-variants as kind
 use Rattle.answers.specs.declared.Answer.{Answer}
 use Rattle.answers.specs.Answer.{Number, none, number, numberOf, isFound}
-use Rattle.digest.specs.Calls.{checked-inside}
+use Rattle.digest.specs.Calls.{unchecked-inside}
 use Rattle.steps.specs.declared.Step.{Step}
 use Rattle.steps.specs.declared.Stepped.the-variants.{Is, End}
 use Rattle.steps.specs.Steps.{stepsFrom, steps, firstOf, eaten}
@@ -122,7 +122,7 @@ module _ (a : Answer) (s : List ℕ) where
 -- the lines take at most 55 bytes for each byte
 step-inside : (s : List ℕ) (i : ℕ) (x : Step) → Begins [] s i x → x .answer .len ≤ x .answer .consumed
 step-inside s i x b =
-    let w = checked-inside [] (drop i s) in
+    let w = unchecked-inside [] (drop i s) in
     omega (arith, w .payload, ap (λ (a : Answer). a .consumed) (b .says), ap (λ (a : Answer). a .len) (b .says))
 
 lines-eaten : (s : List ℕ) (i : ℕ) (l : List Step) → Run [] s i l → length (lines s l) ≤ 55 * eaten l

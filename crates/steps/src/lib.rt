@@ -1,5 +1,5 @@
 // The steps of an input that is digested to its end, until 0 is consumed or nothing is left: each begins where the one before it ended.
-// The caller holds the place and asks for the step that begins there. The table isn't asked about, as in `digest_checked`.
+// The caller holds the place and asks for the step that begins there. The table isn't asked about, as in `digest_unchecked`.
 ghost use mathlib.Core.Path.{_≡_};
 ghost use Rattle.steps.specs.Steps.{stepsFrom, firstOf};
 use answers::Answer;
@@ -23,7 +23,7 @@ pub fn next(table: &[u8], input: &[u8], from: usize) -> Stepped
     if input.len() < from {
         return Stepped::End;
     }
-    let a = digest::digest_checked(table, &input[from..]);
+    let a = digest::digest_unchecked(table, &input[from..]);
     let consumed = a.consumed;
     if consumed == 0 {
         return Stepped::End;

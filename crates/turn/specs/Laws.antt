@@ -9,7 +9,7 @@ use Rattle.moves.specs.Moves.{moved}
 use Rattle.outcome.specs.Laws.{ways}
 use Rattle.answers.specs.Answer.{isNotice}
 use Rattle.answers.specs.declared.Answer.{Answer}
-use Rattle.digest.specs.Digest.{digestChecked}
+use Rattle.digest.specs.Digest.{digestUnchecked}
 use Rattle.slot.specs.Slot.{signalled}
 use Rattle.slot.specs.Slot as slots
 use Rattle.slot.specs.declared.Slot.{Slot}
@@ -45,7 +45,7 @@ module _ (s : State) (a : Answer) (p m n : List ℕ) where
     slot-is x q y v = ap (λ (z : State). delivery s (delivers.Is z) k n) v ∙ to-slot (turns.Is x) q
 
 -- the ways out of `step`, e being where the bytes held end
-module _ (t : List ℕ) (s : State) (b m n : List ℕ) (e : ℕ) (h : e ≡ min (s .end) (length b)) (a : Answer) (ea : a ≡ digestChecked t (take e b)) where
+module _ (t : List ℕ) (s : State) (b m n : List ℕ) (e : ℕ) (h : e ≡ min (s .end) (length b)) (a : Answer) (ea : a ≡ digestUnchecked t (take e b)) where
   -- what is consumed lies in what is held
   pub step-room : a .consumed ≤ e
   step-room = omega (arith, h, ap (λ (x : Answer). x .consumed) (ea ∙ says-is s b m n e h t), says-within (choice t) (world s b m n), held-long (world s b m n))

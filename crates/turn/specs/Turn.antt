@@ -9,7 +9,7 @@ use Rattle.outcome.specs.Outcome.{Outcome, answered, refused, if_then_else_}
 use Rattle.table.specs.Table.{tokens}
 use Rattle.answers.specs.Answer.{isNotice}
 use Rattle.answers.specs.declared.Answer.{Answer}
-use Rattle.digest.specs.Digest.{digestChecked}
+use Rattle.digest.specs.Digest.{digestUnchecked}
 use Rattle.digest.specs.Finished.{NothingFinished}
 use Rattle.slot.specs.Slot.{signalled}
 use Rattle.slot.specs.Slot as slots
@@ -91,7 +91,7 @@ choice t = record { table = t }
 
 -- what the digester says of the bytes held
 unfoldable pub says : Choice → World → Answer
-says c w = digestChecked (c .table) (held w)
+says c w = digestUnchecked (c .table) (held w)
 
 -- no line start of the bytes held holds a finished item
 abbrev pub Quiet : Choice → World → Type 0

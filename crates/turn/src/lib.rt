@@ -118,7 +118,7 @@ pub fn step(
     ensures { λ r. ⌜ stepped state r (now (buf .exit)) (now («slot_mem» .exit)) (now («queue_mem» .exit)) ≡ once (choice (now (table .entry))) (world state (now (buf .entry)) (now («slot_mem» .entry)) (now («queue_mem» .entry))) ⌝ }
 {
     let end = fitting(state.end, buf.len());
-    let a = digest::digest_checked(table, &buf[..end]);
+    let a = digest::digest_unchecked(table, &buf[..end]);
     let n = a.consumed;
     let p = digest::payload(&buf[..end], a.place, a.len);
     match deliver(state, a, p, slot_mem, queue_mem) {

@@ -10,16 +10,16 @@ use Rattle.turn.proofs.step.Tie as tie
 fitting-requires : tie.Need-fitting-requires
 fitting-requires c κs = search needs
 
-slice-reshare-prefix-digest-checked : tie.Need-slice-reshare-prefix-digest-checked
-slice-reshare-prefix-digest-checked c = search needs
+slice-reshare-prefix-digest-unchecked : tie.Need-slice-reshare-prefix-digest-unchecked
+slice-reshare-prefix-digest-unchecked c = search needs
 
-slice-aggregate-digest-checked : tie.Need-slice-aggregate-digest-checked
-slice-aggregate-digest-checked c =
+slice-aggregate-digest-unchecked : tie.Need-slice-aggregate-digest-unchecked
+slice-aggregate-digest-unchecked c =
     let args = c .before .before .before .before .before .before .args in
     sym (length-take-le _ (args .buf .now) (omega (arith, c .before .fitting .ensures)))
 
-digest-checked-requires : tie.Need-digest-checked-requires
-digest-checked-requires c κs = search needs
+digest-unchecked-requires : tie.Need-digest-unchecked-requires
+digest-unchecked-requires c κs = search needs
 
 slice-reshare-prefix-payload : tie.Need-slice-reshare-prefix-payload
 slice-reshare-prefix-payload c = search needs
@@ -37,8 +37,8 @@ deliver-requires : tie.Need-deliver-requires
 deliver-requires c κs =
     let args = c .before .before .before .before .before .before .before .before .before .before .before .args in
     let fitting = c .before .before .before .before .before .before .fitting in
-    let digest-checked = c .before .before .before .before .digest-checked in
-    step-number (args .table .now) (args .state) (args .buf .now) (args .slot-mem .now) (args .queue-mem .now) _ (fitting .ensures) _ (digest-checked .ensures)
+    let digest-unchecked = c .before .before .before .before .digest-unchecked in
+    step-number (args .table .now) (args .state) (args .buf .now) (args .slot-mem .now) (args .queue-mem .now) _ (fitting .ensures) _ (digest-unchecked .ensures)
 
 enum-told : tie.Need-enum-told
 enum-told c = search needs
@@ -53,8 +53,8 @@ sub-with-end : tie.Need-sub-with-end
 sub-with-end c =
     let args = c .before .before .before .before .before .before .before .before .before .before .before .before .before .before .before .before .before .before .before .before .before .before .before .args in
     let fitting = c .before .before .before .before .before .before .before .before .before .before .before .before .before .before .before .before .before .before .fitting in
-    let digest-checked = c .before .before .before .before .before .before .before .before .before .before .before .before .before .before .before .before .digest-checked in
-    step-room (args .table .now) (args .state) (args .buf .now) (args .slot-mem .now) (args .queue-mem .now) _ (fitting .ensures) _ (digest-checked .ensures)
+    let digest-unchecked = c .before .before .before .before .before .before .before .before .before .before .before .before .before .before .before .before .digest-unchecked in
+    step-room (args .table .now) (args .state) (args .buf .now) (args .slot-mem .now) (args .queue-mem .now) _ (fitting .ensures) _ (digest-unchecked .ensures)
 
 with-end-requires : tie.Need-with-end-requires
 with-end-requires c κs = search needs
@@ -72,10 +72,10 @@ returns : tie.Need-returns
 returns c =
     let args = c .before .before .before .before .before .before .before .before .before .before .before .before .before .before .before .before .before .before .args in
     let fitting = c .before .before .before .before .before .before .before .before .before .before .before .before .before .fitting in
-    let digest-checked = c .before .before .before .before .before .before .before .before .before .before .before .digest-checked in
+    let digest-unchecked = c .before .before .before .before .before .before .before .before .before .before .before .digest-unchecked in
     let payload = c .before .before .before .before .before .before .before .before .before .payload in
     let deliver = c .before .before .before .before .before .before .deliver in
-    step-full (args .table .now) (args .state) (args .buf .now) (args .slot-mem .now) (args .queue-mem .now) _ (fitting .ensures) _ (digest-checked .ensures) _ (payload .ensures .0) _ _ _ (deliver .ensures) (c .enum-told .given .1)
+    step-full (args .table .now) (args .state) (args .buf .now) (args .slot-mem .now) (args .queue-mem .now) _ (fitting .ensures) _ (digest-unchecked .ensures) _ (payload .ensures .0) _ _ _ (deliver .ensures) (c .enum-told .given .1)
 
 same-length-4 : tie.Need-same-length-4
 same-length-4 c = search needs
@@ -90,21 +90,21 @@ returns-2 : tie.Need-returns-2
 returns-2 c =
     let args = c .before .before .before .before .before .before .before .before .before .before .before .before .before .before .before .before .before .before .before .before .before .before .before .before .args in
     let fitting = c .before .before .before .before .before .before .before .before .before .before .before .before .before .before .before .before .before .before .before .fitting in
-    let digest-checked = c .before .before .before .before .before .before .before .before .before .before .before .before .before .before .before .before .before .digest-checked in
+    let digest-unchecked = c .before .before .before .before .before .before .before .before .before .before .before .before .before .before .before .before .before .digest-unchecked in
     let payload = c .before .before .before .before .before .before .before .before .before .before .before .before .before .before .before .payload in
     let deliver = c .before .before .before .before .before .before .before .before .before .before .before .before .deliver in
     let next = c .before .before .before .before .before .before .next in
     let move-down = c .before .before .before .move-down in
-    step-is (args .table .now) (args .state) (args .buf .now) (args .slot-mem .now) (args .queue-mem .now) _ (fitting .ensures) _ (digest-checked .ensures) _ (payload .ensures .0) _ _ _ (deliver .ensures) _ (next .given .1) _ (move-down .ensures) _ (c .with-end .ensures)
+    step-is (args .table .now) (args .state) (args .buf .now) (args .slot-mem .now) (args .queue-mem .now) _ (fitting .ensures) _ (digest-unchecked .ensures) _ (payload .ensures .0) _ _ _ (deliver .ensures) _ (next .given .1) _ (move-down .ensures) _ (c .with-end .ensures)
 
 pub step-spec : {M : Type 1} → statement M
 step-spec =
     tie.close
     (tie.spec
     fitting-requires
-    slice-reshare-prefix-digest-checked
-    slice-aggregate-digest-checked
-    digest-checked-requires
+    slice-reshare-prefix-digest-unchecked
+    slice-aggregate-digest-unchecked
+    digest-unchecked-requires
     slice-reshare-prefix-payload
     slice-aggregate-payload
     payload-requires
