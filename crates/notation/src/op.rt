@@ -1,7 +1,7 @@
 // The ops of a script, read.
 use answers::Kind;
+use data::Filled;
 use fields::Amount;
-use fields::Filled;
 use fields::Memory;
 
 // An op. Its last number is how many bytes it has; they were read into the piece's memory.
@@ -78,7 +78,7 @@ pub fn read_op(s: &[u8], piece: &mut Memory) -> Op {
     let letter = fields::byte_at(s, 0);
     let rest = fields::between(s, 1, s.len());
     if takes_bytes(letter) {
-        return match fields::data(rest, piece) {
+        return match data::data(rest, piece) {
             Filled::Is(n) => op_of_bytes(letter, n),
             Filled::Bad => Op::Bad,
         };

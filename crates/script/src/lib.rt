@@ -2,8 +2,8 @@
 // It is part of a harness and promises only that it doesn't trip; what it answers is held to a file of another origin (tests/model.py).
 use answers::Answer;
 use answers::Kind;
+use data::Filled;
 use digest::Digested;
-use fields::Filled;
 use fields::Memory;
 use notation::form::Form;
 use notation::form::Start;
@@ -152,19 +152,19 @@ fn load(
     slot_mem: &mut Memory,
     queue_mem: &mut Memory,
 ) -> Loaded {
-    let Filled::Is(t) = fields::data(fields::part_of(line, k, b' '), table) else {
+    let Filled::Is(t) = data::data(fields::part_of(line, k, b' '), table) else {
         return Loaded::Bad;
     };
     let second = fields::plus(k, 1);
-    let Filled::Is(b) = fields::data(fields::part_of(line, second, b' '), buf) else {
+    let Filled::Is(b) = data::data(fields::part_of(line, second, b' '), buf) else {
         return Loaded::Bad;
     };
     let third = fields::plus(k, 2);
-    let Filled::Is(s) = fields::data(fields::part_of(line, third, b' '), slot_mem) else {
+    let Filled::Is(s) = data::data(fields::part_of(line, third, b' '), slot_mem) else {
         return Loaded::Bad;
     };
     let fourth = fields::plus(k, 3);
-    let Filled::Is(q) = fields::data(fields::part_of(line, fourth, b' '), queue_mem) else {
+    let Filled::Is(q) = data::data(fields::part_of(line, fourth, b' '), queue_mem) else {
         return Loaded::Bad;
     };
     Loaded::Is(Lengths {
@@ -264,10 +264,10 @@ fn digest_case(
     out: &mut Memory,
     at: usize,
 ) -> usize {
-    let Filled::Is(t) = fields::data(fields::part_of(line, 0, b' '), table) else {
+    let Filled::Is(t) = data::data(fields::part_of(line, 0, b' '), table) else {
         return say::bad_line(out, at);
     };
-    let Filled::Is(n) = fields::data(fields::part_of(line, 1, b' '), buf) else {
+    let Filled::Is(n) = data::data(fields::part_of(line, 1, b' '), buf) else {
         return say::bad_line(out, at);
     };
     do_digest(text::part(table, 0, t), text::part(buf, 0, n), out, at)

@@ -2,8 +2,8 @@
 use lib.ListN.{length}
 use Prim.Native.Nat.{_-_}
 use borrow.Author.Needs.{needs}
-use Rattle.fields.proofs.plain.Statement.{statement}
-use Rattle.fields.proofs.plain.Tie as tie
+use Rattle.data.proofs.plain.Statement.{statement}
+use Rattle.data.proofs.plain.Tie as tie
 
 abbrev Inv-loop : tie.InvT-loop
 Inv-loop s mem₀ at to₀ i₀ mem to i = Unit {0}

@@ -1,7 +1,7 @@
 -- `data_parts` is safe and ends. The measure is how many parts are left.
 use borrow.Author.Needs.{needs}
-use Rattle.fields.proofs.data_parts.Statement.{statement}
-use Rattle.fields.proofs.data_parts.Tie as tie
+use Rattle.data.proofs.data_parts.Statement.{statement}
+use Rattle.data.proofs.data_parts.Tie as tie
 
 abbrev Inv-loop : tie.InvT-loop
 Inv-loop s mem₀ at₀ from₀ left₀ mem at from left = Unit {0}

@@ -1,7 +1,7 @@
 -- `repeat` is safe and ends. The measure is how often the byte is still to be put.
 use borrow.Author.Needs.{needs}
-use Rattle.fields.proofs.repeat.Statement.{statement}
-use Rattle.fields.proofs.repeat.Tie as tie
+use Rattle.data.proofs.repeat.Statement.{statement}
+use Rattle.data.proofs.repeat.Tie as tie
 
 abbrev Inv-loop : tie.InvT-loop
 Inv-loop mem₀ at count b left₀ i₀ mem left i = Unit {0}
