@@ -41,9 +41,9 @@ extern "C" {
 
 /* A state: nine numbers. Every array is a state.
  * END, LEN, START and COUNT are taken whole; NUMBER, SLOT_LOST and QUEUE_LOST over 4,294,967,295 read as that.
- * A call that isn't refused, and an advance or write refused with WX_FULL, writes numbers back in their plain form (0 or 1 for
- * SIGNALLED, at most 14 for HELD, at most 4,294,967,295 for the three named last): a slot call those of the slot, a queue call
- * those of the queue, an advance or write all nine. A look, a payload and a take from an empty queue write none.
+ * A number that reads already as it is to read stays as it stood, so that a call changes no number but those that it gives another
+ * meaning. One that it changes is left in its plain form: 0 or 1 for SIGNALLED, at most 14 for HELD, at most 4,294,967,295 for the
+ * three named last.
  * A first state: wx_slot_new, wx_queue_new and wx_ingress_clear on any array. */
 #define WX_NUMBERS 9
 enum {
@@ -120,8 +120,8 @@ uint32_t wx_slot_lookup(const uint64_t state[WX_NUMBERS], const uint8_t *mem, si
  * Refusals: WX_BAD_STATE. */
 uint32_t wx_slot_reset(uint64_t state[WX_NUMBERS], const uint8_t *mem, size_t mem_len);
 
-/* The stored payload as a part of the slot's memory.
- * out[0]: its place there, which is 0; out[1]: its length, 0 where LEN is past the memory. */
+/* The payload that a signalled slot holds, as a part of the slot's memory.
+ * out[0]: its place there, which is 0; out[1]: its length, 0 of a free slot and where LEN is past the memory. */
 void wx_slot_payload(const uint64_t state[WX_NUMBERS], const uint8_t *mem, size_t mem_len, uint64_t out[WX_OUT]);
 
 /* Makes the queue's three numbers those of an empty queue with nothing lost. The other numbers stay. */

@@ -151,6 +151,8 @@ static void slot(void)
     OUT("the stored payload", 0, 3, WAS, WAS, WAS);
     same("a reset", wx_slot_reset(state, mem, sizeof mem), WX_DONE);
     STATE("a reset", WAS, 0, WX_OK, 0, 3, 1, WAS, WAS, WAS);
+    wx_slot_payload(state, mem, sizeof mem, out);
+    OUT("a free slot's payload", 0, 0, WAS, WAS, WAS);
     same("a long Ok", wx_slot_signal(state, ok, (const uint8_t *)"12345", 5, mem, sizeof mem), WX_DONE);
     STATE("a long Ok", WAS, 1, WX_CAPACITY, 0, 0, 1, WAS, WAS, WAS);
     same_bytes("a long Ok, memory", mem, "xyzd", 4);
@@ -164,6 +166,14 @@ static void slot(void)
     STATE("a length past the memory", WAS, 1, WX_CAPACITY, 0, 5, 1, WAS, WAS, WAS);
     wx_slot_payload(state, mem, sizeof mem, out);
     OUT("a length past the memory, payload", 0, 0, WAS, WAS, WAS);
+
+    /* numbers out of plain form: what a call doesn't change stays as it stood */
+    state[WX_SIGNALLED] = 7, state[WX_HELD] = 99, state[WX_NUMBER] = UINT64_MAX, state[WX_LEN] = 3, state[WX_SLOT_LOST] = UINT64_MAX;
+    same("out of plain form, None", wx_slot_signal(state, none, (const uint8_t *)"", 0, mem, sizeof mem), WX_DONE);
+    same("out of plain form, lost", wx_slot_signal(state, cme, (const uint8_t *)"", 0, mem, sizeof mem), WX_DONE);
+    STATE("out of plain form, signals", WAS, 7, 99, UINT64_MAX, 3, UINT64_MAX, WAS, WAS, WAS);
+    same("out of plain form, reset", wx_slot_reset(state, mem, sizeof mem), WX_DONE);
+    STATE("out of plain form, reset", WAS, 0, 99, UINT64_MAX, 3, UINT64_MAX, WAS, WAS, WAS);
 }
 
 static void queue(void)

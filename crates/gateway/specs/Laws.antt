@@ -1,15 +1,17 @@
 -- The ways out of the exports, each with what led there.
 use mathlib.Core.Path.{_≡_, refl, sym, ap, _∙_}
-use mathlib.Core.Bool.{true}
+use mathlib.Core.Bool.{true, false}
 use mathlib.Core.List.{List, [], _∷_}
-use Prim.Native.Nat.{ℕ, _+_}
+use Prim.Native.Nat.{ℕ, _+_, _≤_, _<_}
 use lib.ListN.{length}
 use lib.Dec.{leb}
+use borrow.Author.Tests.{le-leb, lt-leb}
 use Rattle.text.specs.Text.{partOf, partAt}
 use Rattle.outcome.specs.Outcome.{Outcome}
 use Rattle.outcome.specs.Laws.{ways}
 use Rattle.answers.specs.declared.Answer.{Answer}
 use Rattle.slot.specs.Slot as slots
+use Rattle.slot.specs.Laws as slot-laws
 use Rattle.slot.specs.declared.Slot.{Slot}
 use Rattle.slot.specs.declared.Turned.{Turned}
 use Rattle.slot.specs.declared.Reset.{Reset}
@@ -24,26 +26,36 @@ use Rattle.turn.specs.declared.State.{State}
 use Rattle.ingress.specs.declared.Advanced.{Advanced}
 use Rattle.ingress.specs.declared.Written.{Written}
 use Rattle.numbers.specs.Numbers.{heldNumber, answerOf, slotOf, queueOf, stateOf, withSlot, withQueue, laid}
+use Rattle.numbers.specs.Laws.{slot-stays, freed-stays}
 use Rattle.gateway.specs.Gateway.{numberOf, valuesOf, Call, call, said, partValues, numbersBy, resetSaid, Turn, turn, signalSaid, putSaid, readValues, gotValues, withGot, Take, took, takeSaid, Whole, whole, numbersLeft, wholeSaid, countValues, noValues}
 
 -- an export returns its call's number, with the values at the front of the array
 pub says : {A : Type 0} (f : A → List ℕ) (o : List ℕ) (x y : Outcome A) → x ≡ y → (q : List ℕ) → q ≡ laid (valuesOf f x) o → call (numberOf x) q ≡ said f y o
 says f o x y e q h = ap (call (numberOf x)) h ∙ ap (λ (z : Outcome _). said f z o) e
 
+-- where a part of the memory s begins
+module _ (s : List ℕ) (place len : ℕ) where
+  pub fits-not : length s < place + len → 0 ≡ partAt s place len
+  unfolding partAt
+  fits-not h = rw (lt-leb (place + len) (length s) h)
+
+  pub fits-there : place + len ≤ length s → place ≡ partAt s place len
+  unfolding partAt
+  fits-there h = rw (le-leb (place + len) (length s) h)
+
 -- and that part as two numbers
-pub part-is : (s o : List ℕ) (place len : ℕ) (p : List ℕ) → p ≡ partOf s place len → (a : ℕ) → a ≡ partAt s place len → (q : List ℕ) → q ≡ laid (a ∷ length p ∷ []) o → q ≡ laid (partValues s place len) o
-part-is s o place len p e a g q h = h ∙ (λ i. laid (g i ∷ length (e i) ∷ []) o)
+pub part-is : (s o : List ℕ) (place len : ℕ) (p : List ℕ) → p ≡ partOf s place len → (a : ℕ) → a ≡ partAt s place len → laid (a ∷ length p ∷ []) o ≡ laid (partValues s place len) o
+part-is s o place len p e a g = λ i. laid (g i ∷ length (e i) ∷ []) o
 
 -- what a look at a signalled slot answers, and the payload that it holds
-pub look-is : (o : List ℕ) (x : Slot) (h : ℕ) → h ≡ heldNumber (x .held) → (q : List ℕ) → q ≡ laid (1 ∷ h ∷ x .number ∷ x .len ∷ []) o → q ≡ laid (readValues (record { there = true; slot = x })) o
-look-is o x h e q f = f ∙ ap (λ (n : ℕ). laid (1 ∷ n ∷ x .number ∷ x .len ∷ []) o) e
+pub look-is : (o : List ℕ) (x : Slot) (h : ℕ) → h ≡ heldNumber (x .held) → laid (1 ∷ h ∷ x .number ∷ x .len ∷ []) o ≡ laid (readValues (record { there = true; slot = x })) o
+look-is o x h e = ap (λ (n : ℕ). laid (1 ∷ n ∷ x .number ∷ x .len ∷ []) o) e
 
-pub slot-part : (v m o : List ℕ) (s : Slot) → s ≡ slotOf v → (p : List ℕ) → p ≡ partOf m 0 (s .len) → (q : List ℕ) → q ≡ laid (0 ∷ length p ∷ []) o → q ≡ laid (partValues m 0 (slotOf v .len)) o
+pub slot-part : (v m o : List ℕ) (s : Slot) → s ≡ slotOf v → (p : List ℕ) → p ≡ partOf m 0 (slots.readable s) → laid (0 ∷ length p ∷ []) o ≡ laid (partValues m 0 (slots.readable (slotOf v))) o
 unfolding partAt
-slot-part v m o s es p e q f =
-    f
-    ∙ (λ i. laid (ways (λ n. 0 ≡ n) (leb (0 + s .len) (length m)) (λ w. refl) (λ w. refl) i ∷ length (e i) ∷ []) o)
-    ∙ ap (λ (y : Slot). laid (partValues m 0 (y .len)) o) es
+slot-part v m o s es p e =
+    (λ i. laid (ways (λ n. 0 ≡ n) (leb (0 + slots.readable s) (length m)) (λ w. refl) (λ w. refl) i ∷ length (e i) ∷ []) o)
+    ∙ ap (λ (y : Slot). laid (partValues m 0 (slots.readable y)) o) es
 
 -- a signal: the slot s read from the numbers v, the answer a from the array w, the call's outcome r with the memory k that it left
 pub signal-is : (v w p m : List ℕ) (s : Slot) → s ≡ slotOf v → (a : Answer) → a ≡ answerOf w → (r : Turned) (k : List ℕ) → slots.after (slots.outcome r) k ≡ slots.signalled s a p m → (x : Turned) → r ≡ x → (u : List ℕ) → u ≡ numbersBy withSlot (slots.outcome x) v → turn (numberOf (slots.outcome x)) u k ≡ signalSaid (slots.signalled (slotOf v) (answerOf w) p m) v
@@ -84,6 +96,20 @@ module _ (v o : List ℕ) (s : State) (es : s ≡ stateOf v) (t b m n b′ m′ 
       (λ i. whole (numberOf (taking s x b′ m′ n′ .said)) (f i) (g i) b′ m′ n′)
       ∙ ap (λ (y : Written). wholeSaid countValues (taking s y b′ m′ n′) v o) (sym q)
       ∙ ap (λ (z : Result ℕ). wholeSaid countValues z v o) (e ∙ ap (λ (y : State). written (choice t) p (world y b m n)) es)
+
+-- Where document 01 has a call change nothing, or one thing alone, every other number of the state stays as it stood, in plain form or not.
+module _ (a b c d e f g h i : ℕ) (m : List ℕ) (k : e ≤ length m) where
+  -- a signal of None or of a notice
+  pub signal-still : (w p : List ℕ) → slots.isResponse (answerOf w .kind) ≡ false → signalSaid (slots.signalled (slotOf (a ∷ b ∷ c ∷ d ∷ e ∷ f ∷ g ∷ h ∷ i ∷ [])) (answerOf w) p m) (a ∷ b ∷ c ∷ d ∷ e ∷ f ∷ g ∷ h ∷ i ∷ []) ≡ turn 0 (a ∷ b ∷ c ∷ d ∷ e ∷ f ∷ g ∷ h ∷ i ∷ []) m
+  signal-still w p r =
+      ap (λ (z : slots.After). signalSaid z (a ∷ b ∷ c ∷ d ∷ e ∷ f ∷ g ∷ h ∷ i ∷ [])) (sym (slot-laws.signal-none (slotOf (a ∷ b ∷ c ∷ d ∷ e ∷ f ∷ g ∷ h ∷ i ∷ [])) (answerOf w) p m k r))
+      ∙ ap (λ (v : List ℕ). turn 0 v m) (slot-stays a b c d e f g h i)
+
+  -- a reset
+  pub reset-still : resetSaid (slots.wasReset (slotOf (a ∷ b ∷ c ∷ d ∷ e ∷ f ∷ g ∷ h ∷ i ∷ [])) m) (a ∷ b ∷ c ∷ d ∷ e ∷ f ∷ g ∷ h ∷ i ∷ []) ≡ call 0 (a ∷ 0 ∷ c ∷ d ∷ e ∷ f ∷ g ∷ h ∷ i ∷ [])
+  reset-still =
+      ap (λ (z : Outcome Slot). resetSaid z (a ∷ b ∷ c ∷ d ∷ e ∷ f ∷ g ∷ h ∷ i ∷ [])) (sym (slot-laws.reset-is (slotOf (a ∷ b ∷ c ∷ d ∷ e ∷ f ∷ g ∷ h ∷ i ∷ [])) m k))
+      ∙ ap (call 0) (freed-stays a b c d e f g h i)
 
 -- Each export's promise determines the number that it returns and all that it leaves.
 pub call-one : (w : Call) (r q : ℕ) (o p : List ℕ) → call r o ≡ w → call q p ≡ w → (r ≡ q) × (o ≡ p)

@@ -1,11 +1,13 @@
 // Document 01's calls for C and Rust: numbers and byte slices go in, the refusal's number comes out (0: not refused).
 // What a call answers stands at the front of a lent array of five numbers, whose other numbers stay as they were.
-// Each export promises that it equals the call behind it; none has a condition on its arguments.
+// Each export promises that it equals the call behind it; none has a condition on its arguments. It changes no number of the state but
+// those that the call gives another meaning.
 ghost use mathlib.Core.Path.{_≡_};
 ghost use lib.ListN.{getD};
+ghost use Rattle.text.specs.Text.{partAt};
 ghost use Rattle.table.specs.Table.{ruling};
 ghost use Rattle.digest.specs.Digest.{digest};
-ghost use Rattle.slot.specs.Slot.{newSlot, signalled, wasReset, wasRead};
+ghost use Rattle.slot.specs.Slot.{newSlot, signalled, wasReset, wasRead, readable};
 ghost use Rattle.queue.specs.Queue.{ours, newQueue, capacityOf, putInto, taken};
 ghost use Rattle.turn.specs.Turn.{world, choice};
 ghost use Rattle.ingress.specs.Ingress.{advanced, written, cleared};
@@ -25,6 +27,11 @@ use slot::Slot;
 use slot::Turned;
 use table::Checked;
 
+// What a look or a take answers first: whether there was something.
+const THERE: u64 = 1;
+
+const NOTHING: u64 = 0;
+
 // Is the table good? Answers the number of its records; refusal 2 answers the first faulty record's number.
 #[no_mangle]
 pub extern "C" fn wx_table_check(table: &[u8], out: &mut [u64; OUT]) -> u32
@@ -32,11 +39,11 @@ pub extern "C" fn wx_table_check(table: &[u8], out: &mut [u64; OUT]) -> u32
 {
     match table::check(table) {
         Checked::Good(n) => {
-            numbers::lay_one(out, n as u64);
+            out[0] = n as u64;
             0
         }
         Checked::Faulty(k) => {
-            numbers::lay_one(out, k as u64);
+            out[0] = k as u64;
             2
         }
     }
@@ -54,10 +61,24 @@ pub extern "C" fn wx_digest(table: &[u8], input: &[u8], out: &mut [u64; OUT]) ->
         }
         Digested::TooLong => 1,
         Digested::BadTable(k) => {
-            numbers::lay_one(out, k as u64);
+            out[0] = k as u64;
             2
         }
     }
+}
+
+// Where a part of a memory begins: at its place, or at the front where it doesn't fit.
+fn fitted(s: &[u8], place: usize, len: usize) -> usize
+    ensures { λ r. ⌜ r ≡ partAt (now (s .entry)) place len ⌝ }
+{
+    let size = s.len();
+    if size < len {
+        return 0;
+    }
+    if size - len < place {
+        return 0;
+    }
+    place
 }
 
 // The payload of an answer, fitted: its place in the input and its length; both 0 where it doesn't fit.
@@ -66,7 +87,8 @@ pub extern "C" fn wx_payload(input: &[u8], place: usize, len: usize, out: &mut [
     ensures { λ _. ⌜ now (out .exit) ≡ laid (partValues (now (input .entry)) place len) (now (out .entry)) ⌝ }
 {
     let n = digest::payload(input, place, len).len();
-    numbers::lay_two(out, numbers::fitted(input, place, len) as u64, n as u64);
+    out[0] = fitted(input, place, len) as u64;
+    out[1] = n as u64;
 }
 
 // Makes the slot a new one: free, an empty Ok held, nothing lost.
@@ -106,17 +128,14 @@ pub extern "C" fn wx_slot_lookup(state: &[u64; NUMBERS], mem: &[u8], out: &mut [
     match numbers::slot_of(state).lookup(mem) {
         Looked::Signalled(x) => {
             let held = x.held;
-            numbers::lay_four(
-                out,
-                1,
-                numbers::held_number(held),
-                x.number as u64,
-                x.len as u64,
-            );
+            out[0] = THERE;
+            out[1] = numbers::held_number(held);
+            out[2] = x.number as u64;
+            out[3] = x.len as u64;
             0
         }
         Looked::Nothing(_) => {
-            numbers::lay_one(out, 0);
+            out[0] = NOTHING;
             0
         }
         Looked::BadLength => 3,
@@ -138,14 +157,15 @@ pub extern "C" fn wx_slot_reset(state: &mut [u64; NUMBERS], mem: &[u8]) -> u32
     }
 }
 
-// The stored payload, fitted: its place in the slot's memory and its length; both 0 where it doesn't fit.
+// The payload that can be read, fitted: its place in the slot's memory and its length; both 0 of a free slot and where it doesn't fit.
 #[no_mangle]
 pub extern "C" fn wx_slot_payload(state: &[u64; NUMBERS], mem: &[u8], out: &mut [u64; OUT])
-    ensures { λ _. ⌜ now (out .exit) ≡ laid (partValues (now (mem .entry)) 0 (slotOf (now (state .entry)) .len)) (now (out .entry)) ⌝ }
+    ensures { λ _. ⌜ now (out .exit) ≡ laid (partValues (now (mem .entry)) 0 (readable (slotOf (now (state .entry))))) (now (out .entry)) ⌝ }
 {
     let slot = numbers::slot_of(state);
     let n = slot.payload(mem).len();
-    numbers::lay_two(out, 0, n as u64);
+    out[0] = 0;
+    out[1] = n as u64;
 }
 
 // Makes the queue an empty one with nothing lost.
@@ -193,17 +213,14 @@ pub extern "C" fn wx_queue_take(state: &mut [u64; NUMBERS], mem: &[u8], out: &mu
     match numbers::queue_of(state).take(mem) {
         Taken::Is(rest, notice) => {
             numbers::put_queue(state, rest);
-            numbers::lay_four(
-                out,
-                1,
-                notice.number as u64,
-                notice.place as u64,
-                notice.len as u64,
-            );
+            out[0] = THERE;
+            out[1] = notice.number as u64;
+            out[2] = notice.place as u64;
+            out[3] = notice.len as u64;
             0
         }
         Taken::Nothing(_) => {
-            numbers::lay_one(out, 0);
+            out[0] = NOTHING;
             0
         }
         Taken::Bad => 3,
@@ -237,7 +254,7 @@ pub extern "C" fn wx_ingress_advance(
         }
         Advanced::TooLong => 1,
         Advanced::BadTable(k) => {
-            numbers::lay_one(out, k as u64);
+            out[0] = k as u64;
             2
         }
         Advanced::BadState => 3,
@@ -272,18 +289,18 @@ pub extern "C" fn wx_ingress_write(
     ) {
         Written::Is(s, n) => {
             numbers::put_state(state, s);
-            numbers::lay_one(out, n as u64);
+            out[0] = n as u64;
             0
         }
         Written::TooLong => 1,
         Written::BadTable(k) => {
-            numbers::lay_one(out, k as u64);
+            out[0] = k as u64;
             2
         }
         Written::BadState => 3,
         Written::Full(s, n) => {
             numbers::put_state(state, s);
-            numbers::lay_one(out, n as u64);
+            out[0] = n as u64;
             5
         }
     }
@@ -296,5 +313,5 @@ pub extern "C" fn wx_ingress_clear(state: &mut [u64; NUMBERS])
 {
     let old = state[numbers::END] as usize;
     let end = ingress::clear(old);
-    numbers::put_end(state, end);
+    state[numbers::END] = end as u64;
 }

@@ -3,7 +3,7 @@ use mathlib.Core.List.{List, [], _∷_}
 use Prim.Native.Nat.{ℕ, min}
 use lib.ListN.{getD}
 use lib.Seq.{sets}
-use lib.Dec.{ltb}
+use lib.Dec.{eqb, ltb}
 use Rattle.outcome.specs.Outcome.{if_then_else_}
 use Rattle.answers.specs.declared.Kind.{Kind}
 use Rattle.answers.specs.declared.Kind.the-variants as kind
@@ -81,21 +81,28 @@ queueOf v = record { start = getD v 6 0; count = getD v 7 0; lost = word (getD v
 abbrev pub stateOf : List ℕ → State
 stateOf v = record { end = getD v 0 0; slot = slotOf v; queue = queueOf v }
 
-abbrev pub slotNumbers : Slot → List ℕ
-slotNumbers x = (if x .signalled then 1 else 0) ∷ heldNumber (x .held) ∷ x .number ∷ x .len ∷ x .lost ∷ []
+-- What stands where `old` stood once `new` is to be read there. A number over the largest plain one, `most`, reads as that; one that reads as `new` already stays as it stood.
+unfoldable pub kept : ℕ → ℕ → ℕ → ℕ
+kept most old new = if eqb (min old most) new then old else new
 
-abbrev pub queueNumbers : Queue → List ℕ
-queueNumbers x = x .start ∷ x .count ∷ x .lost ∷ []
+-- A state's numbers v with another slot: signalled is at most 1, held at most 14, number and lost answers are of 32 bits; the length is taken whole.
+abbrev pub withSlot : List ℕ → Slot → List ℕ
+withSlot v x =
+    sets v 1
+    (kept 1 (getD v 1 0) (if x .signalled then 1 else 0)
+    ∷ kept 14 (getD v 2 0) (heldNumber (x .held))
+    ∷ kept 4294967295 (getD v 3 0) (x .number)
+    ∷ x .len
+    ∷ kept 4294967295 (getD v 5 0) (x .lost)
+    ∷ [])
 
--- the nine numbers with another end, another slot or another queue, the others as they stood; and with all three
+-- with another queue: start and count are taken whole
+abbrev pub withQueue : List ℕ → Queue → List ℕ
+withQueue v x = sets v 6 (x .start ∷ x .count ∷ kept 4294967295 (getD v 8 0) (x .lost) ∷ [])
+
+-- with another end, which is taken whole; and with all three
 abbrev pub withEnd : List ℕ → ℕ → List ℕ
 withEnd v n = sets v 0 (n ∷ [])
-
-abbrev pub withSlot : List ℕ → Slot → List ℕ
-withSlot v x = sets v 1 (slotNumbers x)
-
-abbrev pub withQueue : List ℕ → Queue → List ℕ
-withQueue v x = sets v 6 (queueNumbers x)
 
 abbrev pub withState : List ℕ → State → List ℕ
 withState v s = withQueue (withSlot (withEnd v (s .end)) (s .slot)) (s .queue)

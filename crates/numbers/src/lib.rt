@@ -1,10 +1,9 @@
-// What each number of a lent array means: the state as nine numbers, and what a call answers as five.
-// Any nine numbers are a state, and a state that is written reads back as it was.
+// What each number of a lent array means: the state as nine numbers, and the digester's answer as five.
+// Any nine numbers are a state, and a state that is written reads back as it was. A number that reads already as it is to read stays
+// as it stood, in plain form or not: so a call changes no number but those that it gives another meaning.
 ghost use mathlib.Core.Path.{_≡_};
-ghost use mathlib.Core.List.{[], _∷_};
-ghost use Rattle.text.specs.Text.{partAt};
 ghost use Rattle.outcome.specs.Outcome.{if_then_else_};
-ghost use Rattle.numbers.specs.Numbers.{kindNumber, kindOf, word, heldNumber, heldOf, answerOf, slotOf, queueOf, stateOf, withEnd, withSlot, withQueue, withState, laid, answerValues};
+ghost use Rattle.numbers.specs.Numbers.{kindNumber, kindOf, word, heldNumber, heldOf, answerOf, slotOf, queueOf, stateOf, kept, withSlot, withQueue, withState, laid, answerValues};
 use answers::Answer;
 use answers::Kind;
 use queue::Queue;
@@ -38,6 +37,13 @@ const START: usize = 6;
 const COUNT: usize = 7;
 
 const QUEUE_LOST: usize = 8;
+
+// The largest plain numbers: signalled, CapacityError, and a number of 32 bits.
+const MOST_SIGNALLED: u64 = 1;
+
+const MOST_HELD: u64 = 14;
+
+const MOST_WORD: u64 = 4294967295;
 
 // The number of each kind.
 fn kind_number(kind: Kind) -> u64
@@ -88,8 +94,8 @@ fn kind_of(n: u64) -> Kind
 fn word(n: u64) -> u32
     ensures { λ r. ⌜ r ≡ word n ⌝ }
 {
-    if 4294967295 < n {
-        return 4294967295;
+    if MOST_WORD < n {
+        return MOST_WORD as u32;
     }
     n as u32
 }
@@ -172,11 +178,17 @@ pub fn state_of(state: &[u64; NUMBERS]) -> State
     }
 }
 
-// Another end, the other numbers as they stood.
-pub fn put_end(state: &mut [u64; NUMBERS], end: usize)
-    ensures { λ _. ⌜ now (state .exit) ≡ withEnd (now (state .entry)) end ⌝ }
+// What is to stand where `old` stood, so that it reads as `new`: `old` where it reads so already, since a number over `most` reads as that.
+fn kept(most: u64, old: u64, new: u64) -> u64
+    ensures { λ r. ⌜ r ≡ kept most old new ⌝ }
 {
-    state[END] = end as u64;
+    if old <= most {
+        return new;
+    }
+    if new == most {
+        return old;
+    }
+    new
 }
 
 // Another slot, the other numbers as they stood.
@@ -184,54 +196,34 @@ pub fn put_slot(state: &mut [u64; NUMBERS], x: Slot)
     ensures { λ _. ⌜ now (state .exit) ≡ withSlot (now (state .entry)) x ⌝ }
 {
     let held = x.held;
-    state[SIGNALLED] = flag_number(x.signalled);
-    state[HELD] = held_number(held);
-    state[NUMBER] = x.number as u64;
+    let signalled = kept(MOST_SIGNALLED, state[SIGNALLED], flag_number(x.signalled));
+    let content = kept(MOST_HELD, state[HELD], held_number(held));
+    let number = kept(MOST_WORD, state[NUMBER], x.number as u64);
+    let lost = kept(MOST_WORD, state[SLOT_LOST], x.lost as u64);
+    state[SIGNALLED] = signalled;
+    state[HELD] = content;
+    state[NUMBER] = number;
     state[LEN] = x.len as u64;
-    state[SLOT_LOST] = x.lost as u64;
+    state[SLOT_LOST] = lost;
 }
 
 // Another queue, the other numbers as they stood.
 pub fn put_queue(state: &mut [u64; NUMBERS], x: Queue)
     ensures { λ _. ⌜ now (state .exit) ≡ withQueue (now (state .entry)) x ⌝ }
 {
+    let lost = kept(MOST_WORD, state[QUEUE_LOST], x.lost as u64);
     state[START] = x.start as u64;
     state[COUNT] = x.count as u64;
-    state[QUEUE_LOST] = x.lost as u64;
+    state[QUEUE_LOST] = lost;
 }
 
 // A state as its nine numbers.
 pub fn put_state(state: &mut [u64; NUMBERS], s: State)
     ensures { λ _. ⌜ now (state .exit) ≡ withState (now (state .entry)) s ⌝ }
 {
-    put_end(state, s.end);
+    state[END] = s.end as u64;
     put_slot(state, s.slot);
     put_queue(state, s.queue);
-}
-
-// One number at the front of what a call answers.
-pub fn lay_one(out: &mut [u64; OUT], a: u64)
-    ensures { λ _. ⌜ now (out .exit) ≡ laid (a ∷ []) (now (out .entry)) ⌝ }
-{
-    out[0] = a;
-}
-
-// Two numbers.
-pub fn lay_two(out: &mut [u64; OUT], a: u64, b: u64)
-    ensures { λ _. ⌜ now (out .exit) ≡ laid (a ∷ b ∷ []) (now (out .entry)) ⌝ }
-{
-    out[0] = a;
-    out[1] = b;
-}
-
-// Four numbers.
-pub fn lay_four(out: &mut [u64; OUT], a: u64, b: u64, c: u64, d: u64)
-    ensures { λ _. ⌜ now (out .exit) ≡ laid (a ∷ b ∷ c ∷ d ∷ []) (now (out .entry)) ⌝ }
-{
-    out[0] = a;
-    out[1] = b;
-    out[2] = c;
-    out[3] = d;
 }
 
 // An answer of the digester: kind, number, place, length, bytes consumed.
@@ -244,18 +236,4 @@ pub fn lay_answer(out: &mut [u64; OUT], a: Answer)
     out[2] = a.place as u64;
     out[3] = a.len as u64;
     out[4] = a.consumed as u64;
-}
-
-// Where a part of a memory begins: at its place, or at the front where it doesn't fit.
-pub fn fitted(s: &[u8], place: usize, len: usize) -> usize
-    ensures { λ r. ⌜ r ≡ partAt (now (s .entry)) place len ⌝ }
-{
-    let size = s.len();
-    if size < len {
-        return 0;
-    }
-    if size - len < place {
-        return 0;
-    }
-    place
 }

@@ -20,6 +20,7 @@ use Rattle.queue.specs.declared.Taken.{Taken}
 use Rattle.queue.specs.declared.Taken.the-variants as takes
 use Rattle.queue.specs.Queue.{ours, capacityOf, startIn, inBounds, ringPlace, lostOne, longer, After, after, written, putInto, outcome, got, empty, taking, shorter, recordGood, taken}
 
+-- two answers with the same outcome are equal
 pub outcome-one : (r q : Put) → outcome r ≡ outcome q → r ≡ q
 outcome-one (puts.Is x) (puts.Is y) e = cc
 outcome-one (puts.Is x) puts.BadBounds e = let z : _≡_ {A = ℕ} 0 1 = cc in absurd (omega arith)
@@ -31,9 +32,9 @@ outcome-one puts.Full (puts.Is y) e = let z : _≡_ {A = ℕ} 0 1 = cc in absurd
 outcome-one puts.Full puts.BadBounds e = let z : _≡_ {A = ℕ} 3 5 = cc in absurd (omega arith)
 outcome-one puts.Full puts.Full e = refl
 
--- the promise of `put` determines its answer and every byte of the memory
-pub put-one : (w : After) (r q : Put) (m n : List ℕ) → after (outcome r) m ≡ w → after (outcome q) n ≡ w → (r ≡ q) × (m ≡ n)
-put-one w r q m n e f =
+-- and so are two answers of a put with the memories that they left
+pub after-one : (w : After) (r q : Put) (m n : List ℕ) → after (outcome r) m ≡ w → after (outcome q) n ≡ w → (r ≡ q) × (m ≡ n)
+after-one w r q m n e f =
     let g : after (outcome r) m ≡ after (outcome q) n = e ∙ sym f in
     (outcome-one r q (ap (λ (x : After). x .said) g), ap (λ (x : After). x .memory) g)
 

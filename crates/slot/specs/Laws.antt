@@ -38,9 +38,9 @@ resetting-one (resets.Is x) resets.BadLength e = let z : _≡_ {A = ℕ} 0 1 = c
 resetting-one resets.BadLength (resets.Is y) e = let z : _≡_ {A = ℕ} 0 1 = cc in absurd (omega arith)
 resetting-one resets.BadLength resets.BadLength e = refl
 
--- the promise of `signal` determines its answer and every byte of the memory
-pub signal-one : (w : After) (r q : Turned) (m n : List ℕ) → after (outcome r) m ≡ w → after (outcome q) n ≡ w → (r ≡ q) × (m ≡ n)
-signal-one w r q m n e f =
+-- and so are two answers of a signal with the memories that they left
+pub after-one : (w : After) (r q : Turned) (m n : List ℕ) → after (outcome r) m ≡ w → after (outcome q) n ≡ w → (r ≡ q) × (m ≡ n)
+after-one w r q m n e f =
     let g : after (outcome r) m ≡ after (outcome q) n = e ∙ sym f in
     (outcome-one r q (ap (λ (x : After). x .said) g), ap (λ (x : After). x .memory) g)
 

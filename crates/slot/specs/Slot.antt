@@ -116,3 +116,7 @@ reading looks.BadLength = refused 3 []
 
 unfoldable pub wasRead : Slot → List ℕ → Outcome Reading
 wasRead x m = if ltb (length m) (x .len) then refused 3 [] else answered (record { there = x .signalled; slot = x })
+
+-- Reading a free slot answers nothing: how many bytes of the memory's front are a payload to be read.
+abbrev pub readable : Slot → ℕ
+readable x = if x .signalled then x .len else 0

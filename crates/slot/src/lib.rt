@@ -3,7 +3,7 @@
 // where the stored length is past the memory, and then neither slot nor memory has changed.
 ghost use mathlib.Core.Path.{_≡_};
 ghost use Rattle.text.specs.Text.{partOf, partAt, further};
-ghost use Rattle.slot.specs.Slot.{isResponse, carries, newSlot, lostOne, filled, overflowing, after, signalled, outcome, wasReset, resetting, wasRead, reading};
+ghost use Rattle.slot.specs.Slot.{isResponse, carries, newSlot, lostOne, filled, overflowing, after, signalled, outcome, wasReset, resetting, wasRead, reading, readable};
 use answers::Answer;
 use answers::Kind;
 
@@ -194,11 +194,22 @@ impl Slot {
         Looked::Nothing(self)
     }
 
-    // The stored payload as a part of the caller's memory; a stored length past the memory gives its empty front part.
-    pub fn payload(self, mem: &[u8]) -> &[u8]
-        ensures { λ r. ⌜ now r ≡ partOf (now (mem .entry)) 0 (self .len) ⌝ }
-        ensures lies { λ r. ⌜ r .ptr ≡ further (mem .entry .ptr) (partAt (now (mem .entry)) 0 (self .len)) ⌝ }
+    // How many bytes of the memory's front can be read: what a signalled slot stores; a free one answers nothing.
+    fn readable(self) -> usize
+        ensures { λ r. ⌜ r ≡ readable self ⌝ }
     {
-        text::part(mem, 0, self.len)
+        if self.signalled {
+            return self.len;
+        }
+        0
+    }
+
+    // The payload of the answer that can be read, as a part of the caller's memory. A free slot gives the empty front part, and so does
+    // a stored length past the memory. It hands no slot back: the caller's stands.
+    pub fn payload(self, mem: &[u8]) -> &[u8]
+        ensures { λ r. ⌜ now r ≡ partOf (now (mem .entry)) 0 (readable self) ⌝ }
+        ensures lies { λ r. ⌜ r .ptr ≡ further (mem .entry .ptr) (partAt (now (mem .entry)) 0 (readable self)) ⌝ }
+    {
+        text::part(mem, 0, self.readable())
     }
 }

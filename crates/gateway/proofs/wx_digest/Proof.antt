@@ -1,11 +1,10 @@
 -- `wx_digest` meets its contract: it equals `digest::digest`.
 use mathlib.Core.Path.{refl, sym, ap, _∙_}
-use Rattle.table.specs.Table.{outcome}
 use Rattle.numbers.specs.Numbers.{answerValues}
 use Rattle.gateway.specs.Laws.{says}
+use Rattle.digest.specs.Digest as digests
 use borrow.Author.Needs.{needs}
 use Rattle.gateway.proofs.wx_digest.Statement.{statement}
-use Rattle.digest.specs.Digest as digests
 use Rattle.gateway.proofs.wx_digest.Tie as tie
 
 digest-requires : tie.Need-digest-requires
@@ -23,8 +22,8 @@ enum-told c = search needs
 enum-known-k : tie.Need-enum-known-k
 enum-known-k c = search needs
 
-lay-one-requires : tie.Need-lay-one-requires
-lay-one-requires c κs = search needs
+element-write-out : tie.Need-element-write-out
+element-write-out c = search needs
 
 returns : tie.Need-returns
 returns c =
@@ -40,9 +39,9 @@ returns-2 c =
 
 returns-3 : tie.Need-returns-3
 returns-3 c =
-    let digest = c .before .before .before .before .before .digest in
-    let k = c .before .before .before .k in
-    says answerValues _ _ _ (ap digests.outcome (sym (k .given .1)) ∙ digest .ensures .0) _ (c .lay-one .ensures)
+    let args = c .before .before .before .before .before .before .args in
+    let digest = c .before .before .before .digest in
+    says answerValues (args .out .now) _ _ (ap digests.outcome (sym (c .before .k .given .1)) ∙ digest .ensures .0) _ refl
 
 pub wx-digest-spec : {M : Type 1} → statement M
 wx-digest-spec =
@@ -53,7 +52,7 @@ wx-digest-spec =
     lay-answer-requires
     enum-told
     enum-known-k
-    lay-one-requires
+    element-write-out
     returns
     returns-2
     returns-3)

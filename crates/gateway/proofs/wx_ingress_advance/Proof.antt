@@ -23,8 +23,8 @@ enum-told c = search needs
 enum-known-k : tie.Need-enum-known-k
 enum-known-k c = search needs
 
-lay-one-requires : tie.Need-lay-one-requires
-lay-one-requires c κs = search needs
+element-write-out : tie.Need-element-write-out
+element-write-out c = search needs
 
 enum-told-2 : tie.Need-enum-told-2
 enum-told-2 c = search needs
@@ -82,11 +82,10 @@ same-length-9 c = search needs
 
 returns-3 : tie.Need-returns-3
 returns-3 c =
-    let args = c .before .before .before .before .before .before .before .before .before .before .before .before .before .before .before .before .before .before .before .before .before .args in
-    let state-of = c .before .before .before .before .before .before .before .before .before .before .before .before .before .before .before .state-of in
-    let advance = c .before .before .before .before .before .before .before .before .before .before .before .advance in
-    let k = c .before .before .before .k in
-    advance-is (args .state .now) (args .out .now) _ (state-of .ensures) (args .table .now) (args .buf .now) (args .slot-mem .now) (args .queue-mem .now) _ _ _ (args .commit) _ (advance .ensures .0) _ (k .given .1) (args .state .now) refl _ (c .lay-one .ensures)
+    let args = c .before .before .before .before .before .before .before .before .before .before .before .before .before .before .before .before .before .before .before .args in
+    let state-of = c .before .before .before .before .before .before .before .before .before .before .before .before .before .state-of in
+    let advance = c .before .before .before .before .before .before .before .before .before .advance in
+    advance-is (args .state .now) (args .out .now) _ (state-of .ensures) (args .table .now) (args .buf .now) (args .slot-mem .now) (args .queue-mem .now) _ _ _ (args .commit) _ (advance .ensures .0) _ (c .before .k .given .1) (args .state .now) refl _ refl
 
 same-length-10 : tie.Need-same-length-10
 same-length-10 c = search needs
@@ -147,7 +146,7 @@ wx-ingress-advance-spec =
     put-state-requires
     enum-told
     enum-known-k
-    lay-one-requires
+    element-write-out
     enum-told-2
     enum-told-3
     enum-known-s-2

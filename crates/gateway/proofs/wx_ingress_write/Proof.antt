@@ -17,8 +17,8 @@ enum-known-s c = search needs
 put-state-requires : tie.Need-put-state-requires
 put-state-requires c κs = search needs
 
-lay-one-requires : tie.Need-lay-one-requires
-lay-one-requires c κs = search needs
+element-write-out : tie.Need-element-write-out
+element-write-out c = search needs
 
 enum-told : tie.Need-enum-told
 enum-told c = search needs
@@ -26,8 +26,8 @@ enum-told c = search needs
 enum-known-k : tie.Need-enum-known-k
 enum-known-k c = search needs
 
-lay-one-requires-2 : tie.Need-lay-one-requires-2
-lay-one-requires-2 c κs = search needs
+element-write-out-2 : tie.Need-element-write-out-2
+element-write-out-2 c = search needs
 
 enum-told-2 : tie.Need-enum-told-2
 enum-told-2 c = search needs
@@ -38,8 +38,8 @@ enum-known-s-2 c = search needs
 put-state-requires-2 : tie.Need-put-state-requires-2
 put-state-requires-2 c κs = search needs
 
-lay-one-requires-3 : tie.Need-lay-one-requires-3
-lay-one-requires-3 c κs = search needs
+element-write-out-3 : tie.Need-element-write-out-3
+element-write-out-3 c = search needs
 
 same-length : tie.Need-same-length
 same-length c = search needs
@@ -52,12 +52,11 @@ same-length-3 c = search needs
 
 returns : tie.Need-returns
 returns c =
-    let args = c .before .before .before .before .before .before .before .before .before .before .before .before .before .before .before .before .before .before .before .before .before .before .before .before .args in
-    let state-of = c .before .before .before .before .before .before .before .before .before .before .before .before .before .before .before .before .before .state-of in
-    let write = c .before .before .before .before .before .before .before .before .before .before .before .before .before .write in
-    let s = c .before .before .before .before .before .s in
-    let put-state = c .before .before .put-state in
-    write-is (args .state .now) (args .out .now) _ (state-of .ensures) (args .table .now) (args .buf .now) (args .slot-mem .now) (args .queue-mem .now) _ _ _ (args .piece .now) _ (write .ensures .0) _ (s .given .1) _ (put-state .ensures) _ (c .lay-one .ensures)
+    let args = c .before .before .before .before .before .before .before .before .before .before .before .before .before .before .before .before .before .before .before .before .before .before .args in
+    let state-of = c .before .before .before .before .before .before .before .before .before .before .before .before .before .before .before .state-of in
+    let write = c .before .before .before .before .before .before .before .before .before .before .before .write in
+    let s = c .before .before .before .s in
+    write-is (args .state .now) (args .out .now) _ (state-of .ensures) (args .table .now) (args .buf .now) (args .slot-mem .now) (args .queue-mem .now) _ _ _ (args .piece .now) _ (write .ensures .0) _ (s .given .1) _ (c .put-state .ensures) _ refl
 
 same-length-4 : tie.Need-same-length-4
 same-length-4 c = search needs
@@ -86,11 +85,10 @@ same-length-9 c = search needs
 
 returns-3 : tie.Need-returns-3
 returns-3 c =
-    let args = c .before .before .before .before .before .before .before .before .before .before .before .before .before .before .before .before .before .before .before .before .before .before .args in
-    let state-of = c .before .before .before .before .before .before .before .before .before .before .before .before .before .before .before .state-of in
-    let write = c .before .before .before .before .before .before .before .before .before .before .before .write in
-    let k = c .before .before .before .k in
-    write-is (args .state .now) (args .out .now) _ (state-of .ensures) (args .table .now) (args .buf .now) (args .slot-mem .now) (args .queue-mem .now) _ _ _ (args .piece .now) _ (write .ensures .0) _ (k .given .1) (args .state .now) refl _ (c .lay-one2 .ensures)
+    let args = c .before .before .before .before .before .before .before .before .before .before .before .before .before .before .before .before .before .before .before .before .args in
+    let state-of = c .before .before .before .before .before .before .before .before .before .before .before .before .before .state-of in
+    let write = c .before .before .before .before .before .before .before .before .before .write in
+    write-is (args .state .now) (args .out .now) _ (state-of .ensures) (args .table .now) (args .buf .now) (args .slot-mem .now) (args .queue-mem .now) _ _ _ (args .piece .now) _ (write .ensures .0) _ (c .before .k .given .1) (args .state .now) refl _ refl
 
 same-length-10 : tie.Need-same-length-10
 same-length-10 c = search needs
@@ -119,12 +117,11 @@ same-length-15 c = search needs
 
 returns-5 : tie.Need-returns-5
 returns-5 c =
-    let args = c .before .before .before .before .before .before .before .before .before .before .before .before .before .before .before .before .before .before .before .before .before .before .before .before .args in
-    let state-of = c .before .before .before .before .before .before .before .before .before .before .before .before .before .before .before .before .before .state-of in
-    let write = c .before .before .before .before .before .before .before .before .before .before .before .before .before .write in
-    let s2 = c .before .before .before .before .before .s2 in
-    let put-state2 = c .before .before .put-state2 in
-    write-is (args .state .now) (args .out .now) _ (state-of .ensures) (args .table .now) (args .buf .now) (args .slot-mem .now) (args .queue-mem .now) _ _ _ (args .piece .now) _ (write .ensures .0) _ (s2 .given .1) _ (put-state2 .ensures) _ (c .lay-one3 .ensures)
+    let args = c .before .before .before .before .before .before .before .before .before .before .before .before .before .before .before .before .before .before .before .before .before .before .args in
+    let state-of = c .before .before .before .before .before .before .before .before .before .before .before .before .before .before .before .state-of in
+    let write = c .before .before .before .before .before .before .before .before .before .before .before .write in
+    let s2 = c .before .before .before .s2 in
+    write-is (args .state .now) (args .out .now) _ (state-of .ensures) (args .table .now) (args .buf .now) (args .slot-mem .now) (args .queue-mem .now) _ _ _ (args .piece .now) _ (write .ensures .0) _ (s2 .given .1) _ (c .put-state2 .ensures) _ refl
 
 pub wx-ingress-write-spec : {M : Type 1} → statement M
 wx-ingress-write-spec =
@@ -134,14 +131,14 @@ wx-ingress-write-spec =
     write-requires
     enum-known-s
     put-state-requires
-    lay-one-requires
+    element-write-out
     enum-told
     enum-known-k
-    lay-one-requires-2
+    element-write-out-2
     enum-told-2
     enum-known-s-2
     put-state-requires-2
-    lay-one-requires-3
+    element-write-out-3
     same-length
     same-length-2
     same-length-3

@@ -10,14 +10,18 @@ payload-requires c κs = search needs
 fitted-requires : tie.Need-fitted-requires
 fitted-requires c κs = search needs
 
-lay-two-requires : tie.Need-lay-two-requires
-lay-two-requires c κs = search needs
+element-write-out : tie.Need-element-write-out
+element-write-out c = search needs
+
+element-write-out-2 : tie.Need-element-write-out-2
+element-write-out-2 c = search needs
 
 returns : tie.Need-returns
 returns c =
-    let args = c .before .before .before .before .before .args in
-    let payload = c .before .before .before .payload in
-    part-is (args .input .now) (args .out .now) (args .place) (args .len) _ (payload .ensures .0) _ (c .before .fitted .ensures) _ (c .lay-two .ensures)
+    let args = c .before .before .before .args in
+    part-is (args .input .now) (args .out .now) (args .place) (args .len) _ (c .before .payload .ensures .0) _ (c .fitted .ensures)
 
 pub wx-payload-spec : {M : Type 1} → statement M
-wx-payload-spec = tie.close (tie.spec payload-requires fitted-requires lay-two-requires returns)
+wx-payload-spec =
+    tie.close
+    (tie.spec payload-requires fitted-requires element-write-out element-write-out-2 returns)

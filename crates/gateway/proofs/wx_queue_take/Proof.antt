@@ -1,6 +1,5 @@
 -- `wx_queue_take` meets its contract: it equals `Queue::take`.
 use mathlib.Core.Path.{refl}
-use lib.ListN.{take}
 use Rattle.gateway.specs.Laws.{take-is}
 use borrow.Author.Needs.{needs}
 use Rattle.gateway.proofs.wx_queue_take.Statement.{statement}
@@ -18,37 +17,44 @@ enum-known-rest c = search needs
 put-queue-requires : tie.Need-put-queue-requires
 put-queue-requires c κs = search needs
 
-cast-lay-four : tie.Need-cast-lay-four
-cast-lay-four c = search needs
+element-write-out : tie.Need-element-write-out
+element-write-out c = search needs
 
-lay-four-requires : tie.Need-lay-four-requires
-lay-four-requires c κs = search needs
+cast-out : tie.Need-cast-out
+cast-out c = search needs
+
+element-write-out-2 : tie.Need-element-write-out-2
+element-write-out-2 c = search needs
+
+element-write-out-3 : tie.Need-element-write-out-3
+element-write-out-3 c = search needs
+
+element-write-out-4 : tie.Need-element-write-out-4
+element-write-out-4 c = search needs
 
 enum-told : tie.Need-enum-told
 enum-told c = search needs
 
-lay-one-requires : tie.Need-lay-one-requires
-lay-one-requires c κs = search needs
+element-write-out-5 : tie.Need-element-write-out-5
+element-write-out-5 c = search needs
 
 enum-told-2 : tie.Need-enum-told-2
 enum-told-2 c = search needs
 
 returns : tie.Need-returns
 returns c =
-    let args = c .before .before .before .before .before .before .before .before .before .before .before .before .args in
-    let queue-of = c .before .before .before .before .before .before .before .before .before .queue-of in
-    let take = c .before .before .before .before .before .before .before .before .take in
-    let x = c .before .before .before .before .before .before .rest in
-    let put-queue = c .before .before .before .put-queue in
-    take-is (args .state .now) (args .out .now) (args .mem .now) _ (queue-of .ensures) _ (take .ensures) _ (x .given .1) _ (put-queue .ensures) _ (c .lay-four .ensures)
+    let args = c .before .before .before .before .before .before .before .before .before .before .args in
+    let queue-of = c .before .before .before .before .before .before .before .queue-of in
+    let take = c .before .before .before .before .before .before .take in
+    let x = c .before .before .before .before .rest in
+    take-is (args .state .now) (args .out .now) (args .mem .now) _ (queue-of .ensures) _ (take .ensures) _ (x .given .1) _ (c .before .put-queue .ensures) _ refl
 
 returns-2 : tie.Need-returns-2
 returns-2 c =
-    let args = c .before .before .before .before .before .before .before .before .args in
-    let queue-of = c .before .before .before .before .before .queue-of in
-    let take = c .before .before .before .before .take in
-    let enum-told = c .before .before .enum-told in
-    take-is (args .state .now) (args .out .now) (args .mem .now) _ (queue-of .ensures) _ (take .ensures) _ (enum-told .given .1) (args .state .now) refl _ (c .lay-one .ensures)
+    let args = c .before .before .before .before .before .before .args in
+    let queue-of = c .before .before .before .queue-of in
+    let take = c .before .before .take in
+    take-is (args .state .now) (args .out .now) (args .mem .now) _ (queue-of .ensures) _ (take .ensures) _ (c .enum-told .given .1) (args .state .now) refl _ refl
 
 returns-3 : tie.Need-returns-3
 returns-3 c =
@@ -65,10 +71,13 @@ wx-queue-take-spec =
     take-requires
     enum-known-rest
     put-queue-requires
-    cast-lay-four
-    lay-four-requires
+    element-write-out
+    cast-out
+    element-write-out-2
+    element-write-out-3
+    element-write-out-4
     enum-told
-    lay-one-requires
+    element-write-out-5
     enum-told-2
     returns
     returns-2

@@ -10,16 +10,18 @@ slot-of-requires c κs = search needs
 payload-requires : tie.Need-payload-requires
 payload-requires c κs = search needs
 
-lay-two-requires : tie.Need-lay-two-requires
-lay-two-requires c κs = search needs
+element-write-out : tie.Need-element-write-out
+element-write-out c = search needs
+
+element-write-out-2 : tie.Need-element-write-out-2
+element-write-out-2 c = search needs
 
 returns : tie.Need-returns
 returns c =
-    let args = c .before .before .before .before .before .args in
-    let slot-of = c .before .before .before .slot-of in
-    let payload = c .before .before .payload in
-    slot-part (args .state .now) (args .mem .now) (args .out .now) _ (slot-of .ensures) _ (payload .ensures .0) _ (c .lay-two .ensures)
+    let args = c .before .before .before .args in
+    slot-part (args .state .now) (args .mem .now) (args .out .now) _ (c .before .slot-of .ensures) _ (c .payload .ensures .0)
 
 pub wx-slot-payload-spec : {M : Type 1} → statement M
 wx-slot-payload-spec =
-    tie.close (tie.spec slot-of-requires payload-requires lay-two-requires returns)
+    tie.close
+    (tie.spec slot-of-requires payload-requires element-write-out element-write-out-2 returns)

@@ -1,5 +1,5 @@
 -- `wx_table_check` meets its contract: it equals `table::check`.
-use mathlib.Core.Path.{sym, ap, _∙_}
+use mathlib.Core.Path.{refl, sym, ap, _∙_}
 use Rattle.table.specs.Table.{outcome}
 use Rattle.gateway.specs.Gateway.{countValues}
 use Rattle.gateway.specs.Laws.{says}
@@ -13,26 +13,26 @@ check-requires c κs = search needs
 enum-known-n : tie.Need-enum-known-n
 enum-known-n c = search needs
 
-lay-one-requires : tie.Need-lay-one-requires
-lay-one-requires c κs = search needs
+element-write-out : tie.Need-element-write-out
+element-write-out c = search needs
 
 enum-known-k : tie.Need-enum-known-k
 enum-known-k c = search needs
 
-lay-one-requires-2 : tie.Need-lay-one-requires-2
-lay-one-requires-2 c κs = search needs
+element-write-out-2 : tie.Need-element-write-out-2
+element-write-out-2 c = search needs
 
 returns : tie.Need-returns
 returns c =
-    let check = c .before .before .before .before .before .check in
-    let n = c .before .before .before .n in
-    says countValues _ _ _ (ap outcome (sym (n .given .1)) ∙ check .ensures) _ (c .lay-one .ensures)
+    let args = c .before .before .before .before .before .args in
+    let check = c .before .before .before .check in
+    says countValues (args .out .now) _ _ (ap outcome (sym (c .before .n .given .1)) ∙ check .ensures) _ refl
 
 returns-2 : tie.Need-returns-2
 returns-2 c =
-    let check = c .before .before .before .before .before .check in
-    let k = c .before .before .before .k in
-    says countValues _ _ _ (ap outcome (sym (k .given .1)) ∙ check .ensures) _ (c .lay-one2 .ensures)
+    let args = c .before .before .before .before .before .args in
+    let check = c .before .before .before .check in
+    says countValues (args .out .now) _ _ (ap outcome (sym (c .before .k .given .1)) ∙ check .ensures) _ refl
 
 pub wx-table-check-spec : {M : Type 1} → statement M
 wx-table-check-spec =
@@ -40,8 +40,8 @@ wx-table-check-spec =
     (tie.spec
     check-requires
     enum-known-n
-    lay-one-requires
+    element-write-out
     enum-known-k
-    lay-one-requires-2
+    element-write-out-2
     returns
     returns-2)

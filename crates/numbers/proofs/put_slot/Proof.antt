@@ -3,20 +3,47 @@ use borrow.Author.Needs.{needs}
 use Rattle.numbers.proofs.put_slot.Statement.{statement}
 use Rattle.numbers.proofs.put_slot.Tie as tie
 
+element-copy-out-kept : tie.Need-element-copy-out-kept
+element-copy-out-kept c = search needs
+
 flag-number-requires : tie.Need-flag-number-requires
 flag-number-requires c κs = search needs
 
-element-write-state : tie.Need-element-write-state
-element-write-state c = search needs
+kept-requires : tie.Need-kept-requires
+kept-requires c κs = search needs
+
+element-copy-out-kept-2 : tie.Need-element-copy-out-kept-2
+element-copy-out-kept-2 c = search needs
 
 held-number-requires : tie.Need-held-number-requires
 held-number-requires c κs = search needs
 
+kept-requires-2 : tie.Need-kept-requires-2
+kept-requires-2 c κs = search needs
+
+element-copy-out-kept-3 : tie.Need-element-copy-out-kept-3
+element-copy-out-kept-3 c = search needs
+
+cast-kept : tie.Need-cast-kept
+cast-kept c = search needs
+
+kept-requires-3 : tie.Need-kept-requires-3
+kept-requires-3 c κs = search needs
+
+element-copy-out-kept-4 : tie.Need-element-copy-out-kept-4
+element-copy-out-kept-4 c = search needs
+
+cast-kept-2 : tie.Need-cast-kept-2
+cast-kept-2 c = search needs
+
+kept-requires-4 : tie.Need-kept-requires-4
+kept-requires-4 c κs = search needs
+
+element-write-state : tie.Need-element-write-state
+element-write-state c = search needs
+
 element-write-state-2 : tie.Need-element-write-state-2
 element-write-state-2 c = search needs
-
-cast-state : tie.Need-cast-state
-cast-state c = search needs
 
 element-write-state-3 : tie.Need-element-write-state-3
 element-write-state-3 c = search needs
@@ -24,26 +51,37 @@ element-write-state-3 c = search needs
 element-write-state-4 : tie.Need-element-write-state-4
 element-write-state-4 c = search needs
 
-cast-state-2 : tie.Need-cast-state-2
-cast-state-2 c = search needs
-
 element-write-state-5 : tie.Need-element-write-state-5
 element-write-state-5 c = search needs
 
 returns : tie.Need-returns
-returns c = rw (c .before .before .before .flag-number .ensures, c .before .before .held-number .ensures)
+returns c =
+    let flag-number = c .before .before .before .before .before .before .before .before .before .before .flag-number in
+    let kept = c .before .before .before .before .before .before .before .before .before .kept in
+    let held-number = c .before .before .before .before .before .before .before .held-number in
+    let kept2 = c .before .before .before .before .before .before .kept2 in
+    let kept3 = c .before .before .before .kept3 in
+    rw (kept .ensures, kept2 .ensures, kept3 .ensures, c .kept4 .ensures, flag-number .ensures, held-number .ensures)
 
 pub put-slot-spec : {M : Type 1} → statement M
 put-slot-spec =
     tie.close
     (tie.spec
+    element-copy-out-kept
     flag-number-requires
-    element-write-state
+    kept-requires
+    element-copy-out-kept-2
     held-number-requires
+    kept-requires-2
+    element-copy-out-kept-3
+    cast-kept
+    kept-requires-3
+    element-copy-out-kept-4
+    cast-kept-2
+    kept-requires-4
+    element-write-state
     element-write-state-2
-    cast-state
     element-write-state-3
     element-write-state-4
-    cast-state-2
     element-write-state-5
     returns)

@@ -3,8 +3,8 @@ use borrow.Author.Needs.{needs}
 use Rattle.numbers.proofs.put_state.Statement.{statement}
 use Rattle.numbers.proofs.put_state.Tie as tie
 
-put-end-requires : tie.Need-put-end-requires
-put-end-requires c κs = search needs
+element-write-state : tie.Need-element-write-state
+element-write-state c = search needs
 
 put-slot-requires : tie.Need-put-slot-requires
 put-slot-requires c κs = search needs
@@ -13,7 +13,8 @@ put-queue-requires : tie.Need-put-queue-requires
 put-queue-requires c κs = search needs
 
 returns : tie.Need-returns
-returns c = rw (c .put-queue .ensures, c .before .before .put-slot .ensures, c .before .before .before .before .put-end .ensures)
+returns c = rw (c .put-queue .ensures, c .before .before .put-slot .ensures)
 
 pub put-state-spec : {M : Type 1} → statement M
-put-state-spec = tie.close (tie.spec put-end-requires put-slot-requires put-queue-requires returns)
+put-state-spec =
+    tie.close (tie.spec element-write-state put-slot-requires put-queue-requires returns)

@@ -1,8 +1,8 @@
 -- `fitted` meets its contract.
-use Rattle.numbers.specs.Laws.{fits-not, fits-there}
+use Rattle.gateway.specs.Laws.{fits-not, fits-there}
 use native.Mathlib.Omega.{arith}
-use Rattle.numbers.proofs.fitted.Statement.{statement}
-use Rattle.numbers.proofs.fitted.Tie as tie
+use Rattle.gateway.proofs.fitted.Statement.{statement}
+use Rattle.gateway.proofs.fitted.Tie as tie
 
 returns : tie.Need-returns
 returns c =
