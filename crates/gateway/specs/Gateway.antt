@@ -108,6 +108,10 @@ abbrev pub numbersLeft : {A : Type 0} → Outcome A → List ℕ → State → L
 numbersLeft (answered x) v s = withState v s
 numbersLeft (refused n w) v s = if eqb n 5 then withState v s else v
 
+-- what it returns and leaves of the numbers and the array, by what it says and the state that is left
+abbrev pub leftSaid : {A : Type 0} → (A → List ℕ) → Outcome A × State → List ℕ → List ℕ → Take
+leftSaid f x v o = took (numberOf (x .0)) (numbersLeft (x .0) v (x .1)) (laid (valuesOf f (x .0)) o)
+
 abbrev pub wholeSaid : {A : Type 0} → (A → List ℕ) → Result A → List ℕ → List ℕ → Whole
 wholeSaid f r v o = whole (numberOf (r .said)) (numbersLeft (r .said) v (r .left .state)) (laid (valuesOf f (r .said)) o) (r .left .buf) (r .left .slotMemory) (r .left .queueMemory)
 

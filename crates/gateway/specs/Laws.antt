@@ -21,13 +21,13 @@ use Rattle.queue.specs.declared.Queue.{Queue}
 use Rattle.queue.specs.declared.Put.{Put}
 use Rattle.queue.specs.declared.Taken.{Taken}
 use Rattle.turn.specs.Turn.{world, choice}
-use Rattle.ingress.specs.Ingress.{Result, advanced, result, written, taking}
+use Rattle.ingress.specs.Ingress.{Result, advanceSays, advanced, result, writeSays, written, taking}
 use Rattle.turn.specs.declared.State.{State}
 use Rattle.ingress.specs.declared.Advanced.{Advanced}
 use Rattle.ingress.specs.declared.Written.{Written}
 use Rattle.numbers.specs.Numbers.{heldNumber, answerOf, slotOf, queueOf, stateOf, withSlot, withQueue, laid}
 use Rattle.numbers.specs.Laws.{slot-stays, freed-stays}
-use Rattle.gateway.specs.Gateway.{numberOf, valuesOf, Call, call, said, partValues, numbersBy, resetSaid, Turn, turn, signalSaid, putSaid, readValues, gotValues, withGot, Take, took, takeSaid, Whole, whole, numbersLeft, wholeSaid, countValues, noValues}
+use Rattle.gateway.specs.Gateway.{numberOf, valuesOf, Call, call, said, partValues, numbersBy, resetSaid, Turn, turn, signalSaid, putSaid, readValues, gotValues, withGot, Take, took, takeSaid, Whole, whole, leftSaid, wholeSaid, countValues, noValues}
 
 -- an export returns its call's number, with the values at the front of the array
 pub says : {A : Type 0} (f : A → List ℕ) (o : List ℕ) (x y : Outcome A) → x ≡ y → (q : List ℕ) → q ≡ laid (valuesOf f x) o → call (numberOf x) q ≡ said f y o
@@ -83,19 +83,17 @@ take-is v o m s es r e x q u f k g =
     ∙ ap (λ (y : Taken). takeSaid (queues.taking y) v o) (sym q)
     ∙ ap (λ (z : Outcome Got). takeSaid z v o) (e ∙ ap (λ (y : Queue). queues.taken ours y m) es)
 
--- an advance or a write: from the state s read from the numbers v, with what it left of the three memories
-module _ (v o : List ℕ) (s : State) (es : s ≡ stateOf v) (t b m n b′ m′ n′ : List ℕ) where
-  pub advance-is : (c : ℕ) (r : Advanced) → result s r b′ m′ n′ ≡ advanced (choice t) c (world s b m n) → (x : Advanced) → r ≡ x → (u : List ℕ) → u ≡ numbersLeft (result s x b′ m′ n′ .said) v (result s x b′ m′ n′ .left .state) → (k : List ℕ) → k ≡ laid (valuesOf noValues (result s x b′ m′ n′ .said)) o → whole (numberOf (result s x b′ m′ n′ .said)) u k b′ m′ n′ ≡ wholeSaid noValues (advanced (choice t) c (world (stateOf v) b m n)) v o
-  advance-is c r e x q u f k g =
-      (λ i. whole (numberOf (result s x b′ m′ n′ .said)) (f i) (g i) b′ m′ n′)
-      ∙ ap (λ (y : Advanced). wholeSaid noValues (result s y b′ m′ n′) v o) (sym q)
-      ∙ ap (λ (z : Result Unit). wholeSaid noValues z v o) (e ∙ ap (λ (y : State). advanced (choice t) c (world y b m n)) es)
+-- an advance or a write: its answer r is one of the cases x, whose numbers are laid;
+pub laid-is : {A R : Type 0} (says : R → Outcome A × State) (f : A → List ℕ) (v o : List ℕ) (r x : R) → r ≡ x → (n : ℕ) (u k : List ℕ) → took n u k ≡ leftSaid f (says x) v o → took n u k ≡ leftSaid f (says r) v o
+laid-is says f v o r x q n u k e = e ∙ ap (λ (y : _). leftSaid f (says y) v o) (sym q)
 
-  pub write-is : (p : List ℕ) (r : Written) → taking s r b′ m′ n′ ≡ written (choice t) p (world s b m n) → (x : Written) → r ≡ x → (u : List ℕ) → u ≡ numbersLeft (taking s x b′ m′ n′ .said) v (taking s x b′ m′ n′ .left .state) → (k : List ℕ) → k ≡ laid (valuesOf countValues (taking s x b′ m′ n′ .said)) o → whole (numberOf (taking s x b′ m′ n′ .said)) u k b′ m′ n′ ≡ wholeSaid countValues (written (choice t) p (world (stateOf v) b m n)) v o
-  write-is p r e x q u f k g =
-      (λ i. whole (numberOf (taking s x b′ m′ n′ .said)) (f i) (g i) b′ m′ n′)
-      ∙ ap (λ (y : Written). wholeSaid countValues (taking s y b′ m′ n′) v o) (sym q)
-      ∙ ap (λ (z : Result ℕ). wholeSaid countValues z v o) (e ∙ ap (λ (y : State). written (choice t) p (world y b m n)) es)
+-- from the state s read from the numbers v, with what it left of the three memories
+module _ (v o : List ℕ) (s : State) (es : s ≡ stateOf v) (t b m n b′ m′ n′ : List ℕ) (x : ℕ) (u k : List ℕ) where
+  pub advance-is : (c : ℕ) (r : Advanced) → result s r b′ m′ n′ ≡ advanced (choice t) c (world s b m n) → took x u k ≡ leftSaid noValues (advanceSays (stateOf v) r) v o → whole x u k b′ m′ n′ ≡ wholeSaid noValues (advanced (choice t) c (world (stateOf v) b m n)) v o
+  advance-is c r e g = ap (λ (y : Take). whole (y .number) (y .state) (y .out) b′ m′ n′) g ∙ ap (λ (z : Result Unit). wholeSaid noValues z v o) (rw es at e)
+
+  pub write-is : (p : List ℕ) (r : Written) → taking s r b′ m′ n′ ≡ written (choice t) p (world s b m n) → took x u k ≡ leftSaid countValues (writeSays (stateOf v) r) v o → whole x u k b′ m′ n′ ≡ wholeSaid countValues (written (choice t) p (world (stateOf v) b m n)) v o
+  write-is p r e g = ap (λ (y : Take). whole (y .number) (y .state) (y .out) b′ m′ n′) g ∙ ap (λ (z : Result ℕ). wholeSaid countValues z v o) (rw es at e)
 
 -- Where document 01 has a call change nothing, or one thing alone, every other number of the state stays as it stood, in plain form or not.
 module _ (a b c d e f g h i : ℕ) (m : List ℕ) (k : e ≤ length m) where

@@ -10,9 +10,9 @@ ghost use Rattle.digest.specs.Digest.{digest};
 ghost use Rattle.slot.specs.Slot.{newSlot, signalled, wasReset, wasRead, readable};
 ghost use Rattle.queue.specs.Queue.{ours, newQueue, capacityOf, putInto, taken};
 ghost use Rattle.turn.specs.Turn.{world, choice};
-ghost use Rattle.ingress.specs.Ingress.{advanced, written, cleared};
+ghost use Rattle.ingress.specs.Ingress.{advanceSays, advanced, writeSays, written, cleared};
 ghost use Rattle.numbers.specs.Numbers.{answerOf, slotOf, queueOf, stateOf, withEnd, withSlot, withQueue, laid, answerValues};
-ghost use Rattle.gateway.specs.Gateway.{call, said, countValues, partValues, resetSaid, turn, signalSaid, putSaid, readValues, took, takeSaid, whole, wholeSaid, noValues};
+ghost use Rattle.gateway.specs.Gateway.{call, said, countValues, partValues, resetSaid, turn, signalSaid, putSaid, readValues, took, takeSaid, leftSaid, whole, wholeSaid, noValues};
 use digest::Digested;
 use ingress::Advanced;
 use ingress::Written;
@@ -227,27 +227,11 @@ pub extern "C" fn wx_queue_take(state: &mut [u64; NUMBERS], mem: &[u8], out: &mu
     }
 }
 
-// Adds the commit to what is in the buffer, then digests, delivers and moves. Refusal 2 answers the faulty record's number.
-#[no_mangle]
-pub extern "C" fn wx_ingress_advance(
-    state: &mut [u64; NUMBERS],
-    commit: usize,
-    table: &[u8],
-    buf: &mut [u8],
-    slot_mem: &mut [u8],
-    queue_mem: &mut [u8],
-    out: &mut [u64; OUT],
-) -> u32
-    ensures { λ r. ⌜ whole r (now (state .exit)) (now (out .exit)) (now (buf .exit)) (now («slot_mem» .exit)) (now («queue_mem» .exit)) ≡ wholeSaid noValues (advanced (choice (now (table .entry))) commit (world (stateOf (now (state .entry))) (now (buf .entry)) (now («slot_mem» .entry)) (now («queue_mem» .entry)))) (now (state .entry)) (now (out .entry)) ⌝ }
+// What an advance leaves of the nine numbers, and its number. It is a function of its own since the three memories would be carried along each way out.
+fn lay_advanced(state: &mut [u64; NUMBERS], out: &mut [u64; OUT], what: Advanced) -> u32
+    ensures { λ r. ⌜ took r (now (state .exit)) (now (out .exit)) ≡ leftSaid noValues (advanceSays (stateOf (now (state .entry))) what) (now (state .entry)) (now (out .entry)) ⌝ }
 {
-    match ingress::advance(
-        numbers::state_of(state),
-        commit,
-        table,
-        buf,
-        slot_mem,
-        queue_mem,
-    ) {
+    match what {
         Advanced::Is(s) => {
             numbers::put_state(state, s);
             0
@@ -266,27 +250,35 @@ pub extern "C" fn wx_ingress_advance(
     }
 }
 
-// Copies as much of the piece as fits, advances, and goes on. Answers the bytes taken, at refusal 5 too; refusal 2 the faulty record's number.
+// Adds the commit to what is in the buffer, then digests, delivers and moves. Refusal 2 answers the faulty record's number.
 #[no_mangle]
-pub extern "C" fn wx_ingress_write(
+pub extern "C" fn wx_ingress_advance(
     state: &mut [u64; NUMBERS],
-    piece: &[u8],
+    commit: usize,
     table: &[u8],
     buf: &mut [u8],
     slot_mem: &mut [u8],
     queue_mem: &mut [u8],
     out: &mut [u64; OUT],
 ) -> u32
-    ensures { λ r. ⌜ whole r (now (state .exit)) (now (out .exit)) (now (buf .exit)) (now («slot_mem» .exit)) (now («queue_mem» .exit)) ≡ wholeSaid countValues (written (choice (now (table .entry))) (now (piece .entry)) (world (stateOf (now (state .entry))) (now (buf .entry)) (now («slot_mem» .entry)) (now («queue_mem» .entry)))) (now (state .entry)) (now (out .entry)) ⌝ }
+    ensures { λ r. ⌜ whole r (now (state .exit)) (now (out .exit)) (now (buf .exit)) (now («slot_mem» .exit)) (now («queue_mem» .exit)) ≡ wholeSaid noValues (advanced (choice (now (table .entry))) commit (world (stateOf (now (state .entry))) (now (buf .entry)) (now («slot_mem» .entry)) (now («queue_mem» .entry)))) (now (state .entry)) (now (out .entry)) ⌝ }
 {
-    match ingress::write(
+    let what = ingress::advance(
         numbers::state_of(state),
-        piece,
+        commit,
         table,
         buf,
         slot_mem,
         queue_mem,
-    ) {
+    );
+    lay_advanced(state, out, what)
+}
+
+// The same of a write, with the bytes that it took.
+fn lay_written(state: &mut [u64; NUMBERS], out: &mut [u64; OUT], what: Written) -> u32
+    ensures { λ r. ⌜ took r (now (state .exit)) (now (out .exit)) ≡ leftSaid countValues (writeSays (stateOf (now (state .entry))) what) (now (state .entry)) (now (out .entry)) ⌝ }
+{
+    match what {
         Written::Is(s, n) => {
             numbers::put_state(state, s);
             out[0] = n as u64;
@@ -304,6 +296,30 @@ pub extern "C" fn wx_ingress_write(
             5
         }
     }
+}
+
+// Copies as much of the piece as fits, advances, and goes on. Answers the bytes taken, at refusal 5 too; refusal 2 the faulty record's number.
+#[no_mangle]
+pub extern "C" fn wx_ingress_write(
+    state: &mut [u64; NUMBERS],
+    piece: &[u8],
+    table: &[u8],
+    buf: &mut [u8],
+    slot_mem: &mut [u8],
+    queue_mem: &mut [u8],
+    out: &mut [u64; OUT],
+) -> u32
+    ensures { λ r. ⌜ whole r (now (state .exit)) (now (out .exit)) (now (buf .exit)) (now («slot_mem» .exit)) (now («queue_mem» .exit)) ≡ wholeSaid countValues (written (choice (now (table .entry))) (now (piece .entry)) (world (stateOf (now (state .entry))) (now (buf .entry)) (now («slot_mem» .entry)) (now («queue_mem» .entry)))) (now (state .entry)) (now (out .entry)) ⌝ }
+{
+    let what = ingress::write(
+        numbers::state_of(state),
+        piece,
+        table,
+        buf,
+        slot_mem,
+        queue_mem,
+    );
+    lay_written(state, out, what)
 }
 
 // Drops what is in the buffer: the end becomes 0, the other numbers stay.
