@@ -3,7 +3,7 @@
 # prove WHO NAME..: has rt prove the crates, which proves again only what has changed since it was last proved. Says as WHO, on standard error, which crate of
 # how many was proved; what rt says goes into target/log/WHO.proving, which is named where it fails. Status 1 where a crate isn't proved or nothing can be written.
 prove() {
-    local who=$1 log=target/log/${1##*/}.proving n=0 said='' part='' line got rt
+    local who=$1 log=target/log/${1##*/}.proving n=0 said='' part='' line got rt new
     shift
     if ! mkdir -p target/log 2>/dev/null || ! { : >>target/log/lock && : >>"$log"; } 2>/dev/null; then
         printf '%s: "%s" can not be written: what is proved and built goes into its folder target\n' "$who" "$PWD" >&2
@@ -19,25 +19,28 @@ prove() {
     while :; do
         IFS= read -r -t 1 -u 8 line
         got=$?
+        new=''
         if [ "$got" -gt 128 ]; then
             part+=$line
             # rt says a crate's lines when it is done with it; that it has begun with one is seen by a new file of what the prover says.
-            if [ -z "$said" ] && [ -n "$(find target/log -name '*.say' -newer target/log/lock -print -quit)" ]; then
-                printf '%s: proving what is new of %s crates; all of them take minutes\n' "$who" $# >&2
-                said=yes
-            fi
-            continue
+            [ -n "$said" ] || new=$(find target/log -name '*.say' -newer target/log/lock -print -quit)
+        else
+            line=$part$line part=''
+            [ -z "$line" ] || printf '%s\n' "$line" >>"$log"
+            case $line in
+                'rt: '*' proved (unchanged '*) n=$((n + 1)) ;;
+                'rt: '*' proved ('* | 'rt: '*' NOT PROVED'*)
+                    n=$((n + 1))
+                    new=${line#rt: }
+                    ;;
+            esac
         fi
-        line=$part$line part=''
-        [ -z "$line" ] || printf '%s\n' "$line" >>"$log"
-        case $line in
-            'rt: '*' proved (unchanged '*) n=$((n + 1)) ;;
-            'rt: '*' proved ('* | 'rt: '*' NOT PROVED'*)
-                n=$((n + 1))
-                printf '%s: crate %s of %s: %s\n' "$who" "$n" $# "${line#rt: }" >&2
-                ;;
-        esac
-        [ "$got" -eq 0 ] || break
+        if [ -n "$new" ] && [ -z "$said" ]; then
+            printf '%s: proving what is new of %s crates; all of them take minutes\n' "$who" $# >&2
+            said=yes
+        fi
+        [ "$got" -gt 128 ] || [ -z "$new" ] || printf '%s: crate %s of %s: %s\n' "$who" "$n" $# "$new" >&2
+        [ "$got" -eq 0 ] || [ "$got" -gt 128 ] || break
     done
     exec 8<&-
     wait "$rt"

@@ -1,9 +1,10 @@
 /* hear: prints what a modem says, as it says it.
  *
- *     hear [NOTICE ..] < DEVICE        such as: hear RING +CREG < /dev/ttyUSB0
+ *     [QUIET=MS] hear [NOTICE ..] < DEVICE        such as: hear RING +CREG < /dev/ttyUSB0
  *
  * The device is read as it is set; `stty -F DEVICE raw 115200` sets it. A NOTICE is a line that is that text, or the text, `:` and more: +CREG hears
- * "+CREG: 1"; +IPD doesn't hear "+IPD,12:abc".
+ * "+CREG: 1"; +IPD doesn't hear "+IPD,12:abc". A > or @ is a prompt where for MS milliseconds nothing follows it: 200, which is more than lies between two bytes
+ * of a line, also where an adapter gathers them.
  * Status 0: the input came to its end; 1: it could not be read, or the output not be written, or a call was refused; 2: wrong usage. */
 #include "walumbeex.h"
 
@@ -14,10 +15,7 @@
 #include <string.h>
 #include <unistd.h>
 
-#define USAGE "usage: hear [NOTICE ..] < DEVICE   (a NOTICE is a text such as RING or +CREG)"
-
-/* So many milliseconds without a byte are quiet: more than lies between two bytes of a line, also where an adapter gathers them. */
-#define QUIET 200
+#define USAGE "usage: [QUIET=MS] hear [NOTICE ..] < DEVICE   (a NOTICE is a text such as RING or +CREG; MS is 1 to 60000)"
 
 /* The memory for an answer. */
 #ifndef ANSWER
@@ -27,6 +25,7 @@
 /* Room for one text more than a table may have, so that one too many is seen to be. */
 static uint8_t table[65 * 35], buf[WX_LONGEST], slot_mem[ANSWER], queue_mem[4 * WX_RECORD];
 static size_t table_len;
+static int quiet = 200;
 static uint64_t state[WX_NUMBERS], out[WX_OUT];
 
 /* By WX_HELD's numbers. */
@@ -161,7 +160,7 @@ static size_t heard_now(uint8_t *heard, size_t room)
         if (got < 0)
             stop("standard input can't be read");
         n += (size_t)got;
-    } while (got > 0 && n < room && ends_as_a_prompt(heard, n) && poll(&line, 1, QUIET) > 0);
+    } while (got > 0 && n < room && ends_as_a_prompt(heard, n) && poll(&line, 1, quiet) > 0);
     return n;
 }
 
@@ -177,6 +176,13 @@ int main(int words, char **word)
         fprintf(stderr, "hear: libgateway.a is of version %u and walumbeex.h of version %u: take both from the same sources\n", (unsigned)wx_version(),
                 (unsigned)WX_VERSION);
         return 1;
+    }
+    if (getenv("QUIET") != NULL) {
+        quiet = atoi(getenv("QUIET"));
+        if (quiet < 1 || quiet > 60000) {
+            fprintf(stderr, "hear: QUIET is \"%s\"; " USAGE "\n", getenv("QUIET"));
+            return 2;
+        }
     }
     for (int i = 1; i < words; i++) {
         size_t n = strlen(word[i]);

@@ -1,10 +1,11 @@
 //! Prints what a modem says, as it says it.
 //!
-//!     listen DEVICE [NOTICE ..]     such as: listen /dev/ttyUSB0 RING +CREG
-//!     listen - [NOTICE ..]          the same from standard input
+//!     [QUIET=MS] listen DEVICE [NOTICE ..]     such as: listen /dev/ttyUSB0 RING +CREG
+//!     [QUIET=MS] listen - [NOTICE ..]          the same from standard input
 //!
 //! The device is read as it is set; `stty -F DEVICE raw 115200` sets it. A NOTICE is a line that is that text, or the text, `:` and
-//! more: +CREG hears `+CREG: 1`; +IPD doesn't hear `+IPD,12:abc`.
+//! more: +CREG hears `+CREG: 1`; +IPD doesn't hear `+IPD,12:abc`. A `>` or `@` is a prompt where for MS milliseconds nothing
+//! follows it: 200, which is more than lies between two bytes of a line, also where an adapter gathers them.
 //!
 //! Status 0: the input came to its end; 1: it could not be read, or the output not be written, or a call was refused; 2: wrong
 //! usage.
@@ -16,10 +17,8 @@ use std::time::Duration;
 use std::{env, fs, io, process, thread};
 use walumbeex::{Digester, Ingress, Refusal, Response, Table, TableBuilder};
 
-const USAGE: &str = "usage: listen DEVICE [NOTICE ..]   (DEVICE - is standard input; a NOTICE is a text such as RING or +CREG)";
-
-/// So long without a byte is quiet: longer than what lies between two bytes of a line, also where an adapter gathers them.
-const QUIET: Duration = Duration::from_millis(200);
+const USAGE: &str = "usage: [QUIET=MS] listen DEVICE [NOTICE ..]   \
+                     (DEVICE - is standard input; a NOTICE is a text such as RING or +CREG; MS is 1 to 60000)";
 
 /// Prints the notices that wait, oldest first.
 fn notices(ingress: &mut Ingress<'_>) -> Result<(), Box<dyn Error>> {
@@ -139,7 +138,7 @@ fn piece_of(bytes: &[u8]) -> usize {
     (1..bytes.len()).find(|&k| bytes[k - 1] == b'\n' && !ends_as_a_prompt(&bytes[..k])).unwrap_or(bytes.len())
 }
 
-fn listen(source: Box<dyn Read + Send>, table: Table<'_>) -> Result<(), Box<dyn Error>> {
+fn listen(source: Box<dyn Read + Send>, table: Table<'_>, quiet: Duration) -> Result<(), Box<dyn Error>> {
     let (mut buf, mut slot_mem, mut queue_mem) = ([0; 4096], [0; 4096], [0; 4 * 132]);
     let mut ingress = Ingress::new(Digester::new(table), &mut buf, &mut slot_mem, &mut queue_mem)?;
 
@@ -155,7 +154,7 @@ fn listen(source: Box<dyn Read + Send>, table: Table<'_>) -> Result<(), Box<dyn 
             }
             // A prompt is where nothing follows; inside a line more comes at once.
             if failed.is_none() && ends_as_a_prompt(&heard) {
-                next = reads.recv_timeout(QUIET).ok();
+                next = reads.recv_timeout(quiet).ok();
             }
         }
         let mut rest = &heard[..];
@@ -186,6 +185,10 @@ fn main() {
     if device == "--help" {
         return print(USAGE).unwrap_or_else(|e| stop(&e.to_string(), 1));
     }
+    let quiet = match env::var("QUIET").as_deref().unwrap_or("200").parse() {
+        Ok(ms @ 1..=60000) => Duration::from_millis(ms),
+        _ => stop(&format!("QUIET is no number of 1 to 60000; {USAGE}"), 2),
+    };
     // Room for one text more than a table may have, so that one too many is seen to be.
     let mut memory = [0; 65 * 35];
     let mut builder = TableBuilder::new(&mut memory);
@@ -198,7 +201,7 @@ fn main() {
         "-" => Box::new(io::stdin()),
         _ => Box::new(fs::File::open(&device).unwrap_or_else(|e| stop(&format!("{device}: {e}; {USAGE}"), 1))),
     };
-    if let Err(e) = listen(source, builder.finish()) {
+    if let Err(e) = listen(source, builder.finish(), quiet) {
         stop(&e.to_string(), 1)
     }
 }

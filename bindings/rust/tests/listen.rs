@@ -105,14 +105,14 @@ fn output_that_cant_be_written() {
 #[test]
 fn how_to_use_it() {
     let said = listen(&["--help"], b"");
-    assert!(said.stdout.starts_with(b"usage: listen DEVICE"), "{said:?}");
+    assert!(said.stdout.starts_with(b"usage: [QUIET=MS] listen DEVICE"), "{said:?}");
     assert_eq!((said.stderr.len(), said.status.code()), (0, Some(0)));
 }
 
 #[test]
 fn wrong_usage() {
     for (words, status, what) in [
-        (&[][..], 2, "listen: no device was named; usage: listen DEVICE"),
+        (&[][..], 2, "listen: no device was named; usage: [QUIET=MS] listen DEVICE"),
         (&["/no/such/device"], 1, "listen: /no/such/device: "),
         (&["-", "RING", " x"], 2, "listen: notice \" x\": byte 0 of the text"),
         (
@@ -142,11 +142,12 @@ fn a_prompt_byte_inside_a_line_is_no_prompt() {
         (b"\r\n<html>\r\n</html>\r\n\r\nOK\r\n", 10, r"ok          <html>\r\n</html>"),
         (b"\r\n<html>\r\n</html>\r\n\r\nOK\r\n", 0, r"ok          <html>\r\n</html>"),
     ] {
-        let mut child = program().arg("-").stdin(Stdio::piped()).stdout(Stdio::piped()).spawn().unwrap();
+        // With patience, since a busy machine may be slow to write the rest.
+        let mut child = program().arg("-").env("QUIET", "20000").stdin(Stdio::piped()).stdout(Stdio::piped()).spawn().unwrap();
         let mut line_in = child.stdin.take().unwrap();
         line_in.write_all(&answer[..at]).unwrap();
-        // Two reads; a fraction of the time after which the line is quiet.
-        thread::sleep(Duration::from_millis(if at > 0 { 30 } else { 0 }));
+        // Long enough for two reads.
+        thread::sleep(Duration::from_millis(if at > 0 { 100 } else { 0 }));
         line_in.write_all(&answer[at..]).unwrap();
         drop(line_in);
         let said = child.wait_with_output().unwrap();
