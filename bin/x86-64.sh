@@ -20,7 +20,7 @@ x86_64() {
     done
 
     flags=(-C "linker=$kit/bin/clang" -C linker-flavor=gcc -C "link-arg=--target=$target" -C "link-arg=--sysroot=$kit" -C "link-arg=--gcc-toolchain=$kit"
-        -C link-arg=-fuse-ld=lld -C "link-arg=-B$kit/lib" -C "link-arg=-L$kit/lib" -C "link-arg=-L$work/link" -C link-arg=-Wl,--dynamic-linker=/lib64/ld-linux-x86-64.so.2)
+        -C link-arg=-fuse-ld=lld -C "link-arg=-B$kit/lib" -C "link-arg=-L$kit/lib" -C "link-arg=-L$work/link" -C "link-arg=-Wl,--dynamic-linker=/lib64/ld-linux-x86-64.so.2")
     if [ ! -d "$("${RUSTC:-rustc}" --print target-libdir --target $target 2>/dev/null)" ]; then
         debian "$work" || { echo "x86-64: this Rust compiler has no standard library for x86-64, and Debian's could not be had" >&2; return 1; }
         export RUSTC=/usr/bin/rustc RUSTDOC=/usr/bin/rustdoc
