@@ -1,15 +1,56 @@
 /* Walumbeex for C: an AT digester, a response slot, a bounded notice queue and the ingress above them.
  *
- * Link with libgateway.a (`rt staticlib gateway`; x86-64, System V calling convention). Each function is proved to equal
- * the call of document 01 behind it: the definitions are in crates/numbers/specs/Numbers.antt (what each number means) and
- * crates/gateway/specs/Gateway.antt (what a call returns and leaves), the promises in crates/gateway/src/lib.rt. No function has a condition on its numbers: any number and any array may be handed in.
+ * Bytes from a modem go in; what they were comes out: an answer (OK, an error, a prompt) at the slot, unsolicited lines (notices) at the queue.
+ *
+ * Link with libgateway.a (`rt staticlib gateway`; x86-64, System V calling convention, pointers of 64 bits). Each function is proved to equal
+ * the call of document 01 (docs/01.md) behind it: the definitions are in crates/numbers/specs/Numbers.antt (what each number means) and
+ * crates/gateway/specs/Gateway.antt (what a call returns and leaves), the promises in crates/gateway/src/lib.rt. No function has a condition on its numbers:
+ * any number and any array may be handed in.
  *
  * What the proofs take from the caller, as for any C function:
  *   - a pointer p with its count n points to n bytes, and is not NULL, also where n is 0;
  *   - `state` points to WX_NUMBERS numbers, `out` and `answer` to WX_OUT numbers;
  *   - what a call may write (no `const`) does not overlap anything else that is handed to the same call;
- *   - no other thread uses any of it during the call.
+ *   - no other thread uses any of it during the call;
+ *   - the archive is of this header's version: once, before all else, stop where wx_version() is not WX_VERSION;
+ *   - the stack is long enough (below).
  * Nothing is kept after a call returns, and nothing is allocated.
+ *
+ * A program: check the version; wx_slot_new, wx_queue_new and wx_ingress_clear on one array of WX_NUMBERS numbers; then, for what each read of the device gave,
+ * wx_ingress_write, wx_slot_lookup and wx_slot_reset where an answer is held, wx_queue_take until it is empty. bindings/c/hear.c is one.
+ *
+ * Where a piece is cut changes what is heard. A `>` or `@` with only blanks (space, tab, CR, LF) behind it is a prompt, and so is a custom prompt's text, so a
+ * piece that ends at such a byte inside a line is heard as a prompt:
+ *     AT+CGDCONT?\r\r\n+CGDCONT: 1,"IP","me@apn"\r\n\r\nOK\r\n
+ * is an Ok with the payload +CGDCONT: 1,"IP","me@apn"; cut behind the @ it is a prompt @ and then an Ok with none. So hand over what a read gave, never single
+ * bytes; where its last byte that is no blank is > or @, wait a moment for the line to go quiet, and hand it over with what still came. An error hangs on the cut
+ * too: `ERROR` and an `OK` behind it in one piece are an Ok.
+ *
+ * Going on after WX_FULL, and with a full buffer:
+ *   1. the bytes taken (out[0]) are consumed or in the buffer: never offer them again;
+ *   2. take a notice, which makes room, and advance by 0, which delivers the notice that waits; again from 2 where that is WX_FULL;
+ *   3. write the rest of the piece. A write that takes 0 of a piece that isn't empty has found no room, and digests nothing: advance by 0;
+ *   4. if there is still no room, no further byte can finish what is there: wx_ingress_clear drops it.
+ * With a buffer of 0 bytes, or a queue below WX_RECORD bytes under a table with notices, this goes round for ever; a buffer over WX_LONGEST bytes is refused by
+ * every call.
+ *
+ * The token table: records one after the other, at most WX_TABLE_RECORDS of them, with nothing before, between or behind them. Each is
+ *     byte 0, 1   a mark, two letters: UR a notice, CS a custom success, CE a custom error, CP a custom prompt
+ *     byte 2      only where the mark is CP: the byte that the prompt is told by, any byte
+ *     the next    the length of the text, 1 to WX_LONGEST_TEXT
+ *     the rest    the text: bytes 0x20 to 0x7E, the first and the last no space
+ * A record is known by its number in the table, from 0; texts may be equal, and the earlier record wins. The empty table (length 0) is good.
+ *     "UR\7+UUSORD" "CS\7SHUT OK" "CP$\5SEND:"      (in C; 10, 10 and 9 bytes: records 0, 1 and 2)
+ * A notice is a line that is the text, or the text, `:` and more: +UUSORD hears "+UUSORD: 0,4", and +IPD doesn't hear "+IPD,12:abc". A custom success or error is a
+ * line that is the text, letter case exact; a custom prompt is an input that ends in the text, blanks aside.
+ *
+ * The stack: a digest recurses once for each CRLF at the front of what is left. It took 120 bytes of stack for each byte of the input, or of the bytes in the
+ * buffer, where that is all CRLFs: 485 KiB for WX_LONGEST. No proof covers it: where the stack is too short, as for 2,048 CRLFs (4,096 bytes) on a thread with
+ * 480 KiB, the program ends by SIGSEGV. Give a thread 160 bytes for each byte of the buffer, 640 KiB for WX_LONGEST (the tests run that), or lend a shorter buffer.
+ *
+ * Work: a digest's grows with its input, and no faster: twice the input takes at most 2.2 times the instructions (docs/BENCHMARKS.md; at most some 1.2 million for
+ * 4,096 bytes). An advance or write digests again all that is in the buffer, so that a stream handed over in pieces that finish nothing costs the square of its
+ * length: 1,024 bytes one by one took 37 million instructions, and 4,096 took 556 million.
  *
  * Licence: Apache-2.0 (see LICENSE and NOTICE).
  */
@@ -23,7 +64,11 @@
 extern "C" {
 #endif
 
-/* What a function that returns uint32_t returns: 0, or the number of the refusal. Of those that a call can give, the lowest is given.
+/* The version of this header: one more whenever a function's parameters, an array's length or the meaning of a number in one changes. An archive of another version
+ * may take an array for longer than it is, so compare before any other call. */
+#define WX_VERSION 1u
+
+/* What a function that returns uint32_t returns (but wx_version): 0, or the number of the refusal. Of those that a call can give, the lowest is given.
  * A refusal of 1 to 4 leaves every number and byte as it stood, but for out[0] at WX_BAD_TABLE. */
 #define WX_DONE 0u      /* not refused */
 #define WX_TOO_LONG 1u  /* the input or the ingress buffer is over WX_LONGEST bytes */
@@ -34,10 +79,13 @@ extern "C" {
 #define WX_FULL 5u      /* a notice of 1 to 128 bytes meets a full queue: the earlier steps are done, the notice and what lay
                            with it are still in the buffer */
 
-#define WX_LONGEST 4096   /* the longest input of a digest, and the longest ingress buffer */
-#define WX_RECORD 132     /* a record of the queue's memory, of which at most WX_RECORDS are used */
-#define WX_RECORDS 16
-#define WX_LONGEST_NOTICE 128 /* a longer payload is counted as a lost notice */
+/* The limits. A code of +CME ERROR or +CMS ERROR is at most 65,535: a line with a larger one is no error. */
+#define WX_LONGEST 4096       /* the longest input of a digest, and the longest ingress buffer; a piece given to wx_ingress_write may be longer */
+#define WX_TABLE_RECORDS 64   /* the most records of a table */
+#define WX_LONGEST_TEXT 32    /* the longest text of a record */
+#define WX_RECORD 132         /* a record of the queue's memory: the mark UR, the table number, the payload's length, 128 bytes of payload */
+#define WX_RECORDS 16         /* the most notices that a queue holds, however long its memory is */
+#define WX_LONGEST_NOTICE 128 /* a longer payload is counted as a lost notice; so is an empty one */
 
 /* A state: nine numbers. Every array is a state.
  * END, LEN, START and COUNT are taken whole; NUMBER, SLOT_LOST and QUEUE_LOST over 4,294,967,295 read as that.
@@ -81,8 +129,11 @@ enum {
  * A refused call answers what stands beside its number above, and no more. */
 #define WX_OUT 5
 
+/* The archive's version, to be compared with WX_VERSION. An archive that lacks it is older than version 1. */
+uint32_t wx_version(void);
+
 /* Is the token table good?
- * table, table_len: the table's records, document 01's form; the empty table is good.
+ * table, table_len: the table's records, as above.
  * out[0]: how many records it has; at WX_BAD_TABLE the first faulty record's number.
  * Refusals: WX_BAD_TABLE. */
 uint32_t wx_table_check(const uint8_t *table, size_t table_len, uint64_t out[WX_OUT]);
@@ -152,8 +203,8 @@ uint32_t wx_ingress_advance(uint64_t state[WX_NUMBERS], size_t commit, const uin
                             size_t buf_len, uint8_t *slot_mem, size_t slot_mem_len, uint8_t *queue_mem, size_t queue_mem_len,
                             uint64_t out[WX_OUT]);
 
-/* Copies as much of the piece as fits into buf, advances, and goes on until the piece is used up or there is no room.
- * piece, piece_len: bytes from the modem, of any length.
+/* Copies as much of the piece as fits into buf, advances, and goes on until the piece is used up or there is no room. An empty piece digests nothing.
+ * piece, piece_len: bytes from the modem, of any length; where the piece ends changes what is heard (above).
  * out[0]: the bytes taken, at WX_FULL too (they are consumed or in the buffer: never offer them again); at WX_BAD_TABLE the
  * first faulty record's number.
  * Refusals: WX_TOO_LONG, WX_BAD_TABLE, WX_BAD_STATE, WX_FULL. */

@@ -11,6 +11,11 @@
 
 #define TABLE "UR\7+UUSORD"
 
+/* A caller's arrays are of this length: where one of these changes, so does the version. */
+#if WX_VERSION != 1u || WX_NUMBERS != 9 || WX_OUT != 5
+#error "an array has changed: raise WX_VERSION and wx_version, and write the new lengths here"
+#endif
+
 static int differences;
 
 static void same(const char *what, uint64_t said, uint64_t expected)
@@ -113,6 +118,17 @@ static void digest_refusals(void)
     OUT("a part that just fits", 2, 4, WAS, WAS, WAS);
 }
 
+/* The deepest retry; the test gives it the stack that the header says. */
+static void deepest(void)
+{
+    static uint8_t crlfs[WX_LONGEST];
+    uint64_t out[WX_OUT];
+    for (size_t i = 0; i < WX_LONGEST; i++)
+        crlfs[i] = i % 2 == 0 ? '\r' : '\n';
+    same("2,048 CRLFs", wx_digest(crlfs, 0, crlfs, WX_LONGEST, out), WX_DONE);
+    OUT("2,048 CRLFs", WX_NONE, 0, 0, 0, 0);
+}
+
 static void table_check(void)
 {
     static const uint8_t good[] = "UR\4RINGCS\2GO", faulty[] = "UR\4RINGUR\0";
@@ -122,6 +138,8 @@ static void table_check(void)
     OUT("the empty table", 0, WAS, WAS, WAS, WAS);
     same("a table of two", wx_table_check(good, sizeof good - 1, out), WX_DONE);
     OUT("a table of two", 2, WAS, WAS, WAS, WAS);
+    same("the header's example", wx_table_check((const uint8_t *)"UR\7+UUSORD" "CS\7SHUT OK" "CP$\5SEND:", 29, out), WX_DONE);
+    OUT("the header's example", 3, WAS, WAS, WAS, WAS);
     same("an empty text", wx_table_check(faulty, sizeof faulty - 1, out), WX_BAD_TABLE);
     OUT("an empty text", 1, WAS, WAS, WAS, WAS);
 }
@@ -255,14 +273,39 @@ static void ingress(void)
     STATE("a clear", 0, 1, WX_OK, 0, 11, 0, 0, 1, 0);
 }
 
+/* What the header says of a cut: the same bytes, whole and cut behind the @. */
+static void cut(void)
+{
+    static const uint8_t answer[] = "AT+CGDCONT?\r\r\n+CGDCONT: 1,\"IP\",\"me@apn\"\r\n\r\nOK\r\n";
+    const size_t len = sizeof answer - 1, at = (size_t)((const uint8_t *)memchr(answer, '@', len) - answer) + 1;
+    uint64_t state[WX_NUMBERS], out[WX_OUT];
+    uint8_t buf[64], slot_mem[64], queue_mem[WX_RECORD];
+    wx_slot_new(state);
+    wx_queue_new(state);
+    wx_ingress_clear(state);
+#define WRITE(what, piece, n) same(what, wx_ingress_write(state, piece, n, (const uint8_t *)"", 0, MEMORIES), WX_DONE)
+    WRITE("a whole answer", answer, len);
+    STATE("a whole answer", 0, 1, WX_OK, 0, 25, 0, 0, 0, 0);
+    same_bytes("a whole answer", slot_mem, "+CGDCONT: 1,\"IP\",\"me@apn\"", 25);
+    same("a reset", wx_slot_reset(state, slot_mem, sizeof slot_mem), WX_DONE);
+    WRITE("cut behind the @", answer, at);
+    STATE("cut behind the @", 0, 1, WX_PROMPT, '@', 0, 0, 0, 0, 0);
+    same("a reset", wx_slot_reset(state, slot_mem, sizeof slot_mem), WX_DONE);
+    WRITE("behind the cut", answer + at, len - at);
+    STATE("behind the cut", 0, 1, WX_OK, 0, 0, 0, 0, 0, 0);
+}
+
 int main(void)
 {
+    same("the version", wx_version(), WX_VERSION);
     table_check();
     digest();
     digest_refusals();
+    deepest();
     slot();
     queue();
     ingress();
+    cut();
     if (differences == 0)
         puts("exports: every function of walumbeex.h answered as document 01 says");
     return differences != 0;

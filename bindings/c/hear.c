@@ -1,23 +1,59 @@
 /* hear: prints what a modem says, as it says it.
  *
- *     hear [NOTICE ..] < DEVICE        such as: hear RING +CREG < /dev/ttyUSB0
+ *     [QUIET=MS] hear [NOTICE ..] < DEVICE        such as: hear RING +CREG < /dev/ttyUSB0
  *
- * The device is read as it is set; `stty -F DEVICE raw 115200` sets it. Each NOTICE is the text that a notice's line begins with. */
+ * The device is read as it is set; `stty -F DEVICE raw 115200` sets it. A NOTICE is a line that is that text, or the text, `:` and more: +CREG hears
+ * "+CREG: 1"; +IPD doesn't hear "+IPD,12:abc". A > or @ is a prompt where for MS milliseconds nothing follows it: 200, which is more than lies between two bytes
+ * of a line, also where an adapter gathers them.
+ * Status 0: the input came to its end; 1: it could not be read, or the output not be written, or a call was refused; 2: wrong usage. */
 #include "walumbeex.h"
 
+#include <errno.h>
+#include <poll.h>
 #include <stdio.h>
+#include <stdlib.h>
 #include <string.h>
 #include <unistd.h>
 
-static uint8_t table[64 * 35], buf[WX_LONGEST], slot_mem[WX_LONGEST], queue_mem[4 * WX_RECORD];
+#define USAGE "usage: [QUIET=MS] hear [NOTICE ..] < DEVICE   (a NOTICE is a text such as RING or +CREG; MS is 1 to 60000)"
+
+/* The memory for an answer. */
+#ifndef ANSWER
+#define ANSWER WX_LONGEST
+#endif
+
+/* Room for one text more than a table may have, so that one too many is seen to be. */
+static uint8_t table[65 * 35], buf[WX_LONGEST], slot_mem[ANSWER], queue_mem[4 * WX_RECORD];
 static size_t table_len;
+static int quiet = 200;
 static uint64_t state[WX_NUMBERS], out[WX_OUT];
 
 /* By WX_HELD's numbers. */
 static const char *const names[] = {
     "none", "ok", "prompt", "cme error", "cms error", "modem error", "not allowed", "error", "no carrier", "busy", "no answer", "no dialtone",
-    "error", "notice", "ok (longer than the memory for an answer)",
+    "error", "notice", "too long: an answer that the memory for it does not hold",
 };
+
+static void stop(const char *what)
+{
+    fprintf(stderr, "hear: %s: %s\n", what, strerror(errno));
+    exit(1);
+}
+
+/* The bytes, with a backslash for what can't be printed. */
+static void escaped(FILE *to, const uint8_t *bytes, size_t n)
+{
+    for (size_t i = 0; i < n; i++) {
+        if (bytes[i] == '\r')
+            fputs("\\r", to);
+        else if (bytes[i] == '\n')
+            fputs("\\n", to);
+        else if (bytes[i] < 0x20 || bytes[i] > 0x7E)
+            fprintf(to, "\\x%02x", (unsigned)bytes[i]);
+        else
+            putc(bytes[i], to);
+    }
+}
 
 /* A line for what was heard: its name, its number where the kind has one, its payload. */
 static void print(uint64_t kind, uint64_t number, const uint8_t *payload, size_t len)
@@ -29,9 +65,10 @@ static void print(uint64_t kind, uint64_t number, const uint8_t *payload, size_t
         printf(" %c", (int)number);
     if (len > 0)
         putchar(' ');
-    fwrite(payload, 1, len, stdout);
+    escaped(stdout, payload, len);
     putchar('\n');
-    fflush(stdout);
+    if (fflush(stdout) != 0)
+        stop("standard output can't be written");
 }
 
 /* Prints the oldest notice; was there one? */
@@ -60,30 +97,93 @@ static void answer(void)
     wx_slot_reset(state, slot_mem, sizeof slot_mem);
 }
 
-static uint32_t advance(size_t commit)
+static uint32_t advance(void)
 {
-    return wx_ingress_advance(state, commit, table, table_len, buf, sizeof buf, slot_mem, sizeof slot_mem, queue_mem, sizeof queue_mem, out);
+    return wx_ingress_advance(state, 0, table, table_len, buf, sizeof buf, slot_mem, sizeof slot_mem, queue_mem, sizeof queue_mem, out);
 }
 
-/* Puts one byte into the buffer and advances: the slot holds one answer, and a byte ends at most one.
- * After WX_FULL a notice is taken, which makes room, and the advance is repeated by 0. */
-static uint32_t hear(uint8_t byte)
+/* Hands a piece over, all of it. The bytes taken are never offered again. */
+static void hear(const uint8_t *piece, size_t n)
 {
-    if (state[WX_END] == sizeof buf) {
-        fprintf(stderr, "hear: the buffer is full and nothing in it is finished: %zu bytes dropped\n", sizeof buf);
-        wx_ingress_clear(state);
-    }
-    buf[state[WX_END]] = byte;
-    uint32_t refusal = advance(1);
-    while (refusal == WX_FULL && notice())
-        refusal = advance(0);
-    if (refusal == WX_DONE)
+    while (n > 0) {
+        uint32_t refusal =
+            wx_ingress_write(state, piece, n, table, table_len, buf, sizeof buf, slot_mem, sizeof slot_mem, queue_mem, sizeof queue_mem, out);
+        size_t taken = refusal == WX_DONE || refusal == WX_FULL ? out[0] : 0;
+        piece += taken;
+        n -= taken;
+        /* Nothing fitted, and a write that takes nothing digests nothing. */
+        if (refusal == WX_DONE && taken == 0)
+            refusal = advance();
+        /* A notice that is taken makes room for the one that waits. */
+        while (refusal == WX_FULL && notice())
+            refusal = advance();
+        if (refusal != WX_DONE) {
+            fprintf(stderr, "hear: refusal %u\n", (unsigned)refusal);
+            exit(1);
+        }
         answer();
-    return refusal;
+        if (taken == 0 && state[WX_END] == sizeof buf) {
+            fprintf(stderr, "hear: the buffer is full and nothing in it is finished: %zu bytes dropped\n", sizeof buf);
+            wx_ingress_clear(state);
+        }
+    }
+}
+
+/* Is the last byte, blanks aside, a > or an @? With nothing behind it, it is heard as a prompt. */
+static int ends_as_a_prompt(const uint8_t *bytes, size_t n)
+{
+    while (n > 0 && memchr(" \t\r\n", bytes[n - 1], 4) != NULL)
+        n--;
+    return n > 0 && (bytes[n - 1] == '>' || bytes[n - 1] == '@');
+}
+
+/* How many of the bytes to hand over at once: a line, since the slot holds one answer and each but a prompt ends with its line. A line that ends as a
+ * prompt goes with the next. */
+static size_t piece_of(const uint8_t *bytes, size_t n)
+{
+    for (size_t k = 1; k < n; k++)
+        if (bytes[k - 1] == '\n' && !ends_as_a_prompt(bytes, k))
+            return k;
+    return n;
+}
+
+/* What a read gave; where that ends as a prompt, with what came until the line went quiet. 0 at the end. */
+static size_t heard_now(uint8_t *heard, size_t room)
+{
+    struct pollfd line = {STDIN_FILENO, POLLIN, 0};
+    size_t n = 0;
+    ssize_t got;
+    do {
+        do
+            got = read(STDIN_FILENO, heard + n, room - n);
+        while (got < 0 && errno == EINTR);
+        if (got < 0)
+            stop("standard input can't be read");
+        n += (size_t)got;
+    } while (got > 0 && n < room && ends_as_a_prompt(heard, n) && poll(&line, 1, quiet) > 0);
+    return n;
 }
 
 int main(int words, char **word)
 {
+    if (words == 2 && strcmp(word[1], "--help") == 0) {
+        puts(USAGE);
+        if (fflush(stdout) != 0)
+            stop("standard output can't be written");
+        return 0;
+    }
+    if (wx_version() != WX_VERSION) {
+        fprintf(stderr, "hear: libgateway.a is of version %u and walumbeex.h of version %u: take both from the same sources\n", (unsigned)wx_version(),
+                (unsigned)WX_VERSION);
+        return 1;
+    }
+    if (getenv("QUIET") != NULL) {
+        quiet = atoi(getenv("QUIET"));
+        if (quiet < 1 || quiet > 60000) {
+            fprintf(stderr, "hear: QUIET is \"%s\"; " USAGE "\n", getenv("QUIET"));
+            return 2;
+        }
+    }
     for (int i = 1; i < words; i++) {
         size_t n = strlen(word[i]);
         if (n <= 32 && table_len + 3 + n <= sizeof table) {
@@ -92,7 +192,7 @@ int main(int words, char **word)
             table_len += 3 + n;
         }
         if (n > 32 || wx_table_check(table, table_len, out) != WX_DONE) {
-            fprintf(stderr, "hear: \"%s\" is no text of a notice (1 to 32 printable characters, at most 64 texts); usage: hear [NOTICE ..] < DEVICE\n", word[i]);
+            fprintf(stderr, "hear: \"%s\" is no text of a notice (1 to 32 printable characters, at most 64 texts); " USAGE "\n", word[i]);
             return 2;
         }
     }
@@ -100,19 +200,22 @@ int main(int words, char **word)
     wx_queue_new(state);
     wx_ingress_clear(state);
 
-    uint8_t heard[256];
-    ssize_t n;
-    while ((n = read(STDIN_FILENO, heard, sizeof heard)) > 0) {
-        for (ssize_t i = 0; i < n; i++) {
-            uint32_t refusal = hear(heard[i]);
-            if (refusal != WX_DONE) {
-                fprintf(stderr, "hear: refusal %u\n", (unsigned)refusal);
-                return 1;
-            }
+    uint8_t heard[WX_LONGEST];
+    size_t n;
+    while ((n = heard_now(heard, sizeof heard)) > 0) {
+        for (size_t from = 0, k; from < n; from += k) {
+            k = piece_of(heard + from, n - from);
+            hear(heard + from, k);
         }
         notices();
     }
-    if (n < 0)
-        perror("hear: standard input can't be read; usage: hear [NOTICE ..] < DEVICE");
-    return n < 0;
+    if (state[WX_SLOT_LOST] > 0 || state[WX_QUEUE_LOST] > 0)
+        fprintf(stderr, "hear: %llu answers and %llu notices were lost\n", (unsigned long long)state[WX_SLOT_LOST],
+                (unsigned long long)state[WX_QUEUE_LOST]);
+    if (state[WX_END] > 0) {
+        fputs("hear: unfinished at the end: ", stderr);
+        escaped(stderr, buf, state[WX_END]);
+        putc('\n', stderr);
+    }
+    return 0;
 }

@@ -1,16 +1,24 @@
 //! Prints what a modem says, as it says it.
 //!
-//!     listen DEVICE [NOTICE ..]     such as: listen /dev/ttyUSB0 RING +CREG
-//!     listen - [NOTICE ..]          the same from standard input
+//!     [QUIET=MS] listen DEVICE [NOTICE ..]     such as: listen /dev/ttyUSB0 RING +CREG
+//!     [QUIET=MS] listen - [NOTICE ..]          the same from standard input
 //!
-//! The device is read as it is set; `stty -F DEVICE raw 115200` sets it. Each NOTICE is the text that a notice's line begins with.
+//! The device is read as it is set; `stty -F DEVICE raw 115200` sets it. A NOTICE is a line that is that text, or the text, `:` and
+//! more: +CREG hears `+CREG: 1`; +IPD doesn't hear `+IPD,12:abc`. A `>` or `@` is a prompt where for MS milliseconds nothing
+//! follows it: 200, which is more than lies between two bytes of a line, also where an adapter gathers them.
+//!
+//! Status 0: the input came to its end; 1: it could not be read, or the output not be written, or a call was refused; 2: wrong
+//! usage.
 
 use std::error::Error;
 use std::io::{ErrorKind, Read, Write};
-use std::{env, fs, io, process};
-use walumbeex::{Digester, Ingress, Refusal, Response, TableBuilder};
+use std::sync::mpsc::{self, Receiver};
+use std::time::Duration;
+use std::{env, fs, io, process, thread};
+use walumbeex::{Digester, Ingress, Refusal, Response, Table, TableBuilder};
 
-const USAGE: &str = "usage: listen DEVICE [NOTICE ..]   (DEVICE - is standard input; a NOTICE is a text such as RING or +CREG)";
+const USAGE: &str = "usage: [QUIET=MS] listen DEVICE [NOTICE ..]   \
+                     (DEVICE - is standard input; a NOTICE is a text such as RING or +CREG; MS is 1 to 60000)";
 
 /// Prints the notices that wait, oldest first.
 fn notices(ingress: &mut Ingress<'_>) -> Result<(), Box<dyn Error>> {
@@ -21,8 +29,12 @@ fn notices(ingress: &mut Ingress<'_>) -> Result<(), Box<dyn Error>> {
 /// Prints the oldest notice; was there one?
 fn notice(ingress: &mut Ingress<'_>) -> Result<bool, Box<dyn Error>> {
     let Some(urc) = ingress.notices.take()? else { return Ok(false) };
-    writeln!(io::stdout(), "notice      {}", urc.payload.escape_ascii())?;
+    print(&format!("notice      {}", urc.payload.escape_ascii()))?;
     Ok(true)
+}
+
+fn print(line: &str) -> Result<(), Box<dyn Error>> {
+    writeln!(io::stdout(), "{line}").map_err(|e| format!("standard output can't be written: {e}").into())
 }
 
 /// Prints the answer that is held, behind the notices that came before it, and frees the slot.
@@ -31,19 +43,18 @@ fn answer(ingress: &mut Ingress<'_>) -> Result<(), Box<dyn Error>> {
         return Ok(());
     }
     notices(ingress)?;
-    let mut out = io::stdout();
     match ingress.res_slot.try_get()? {
         None => {}
-        Some(Response::Ok(payload)) => writeln!(out, "ok          {}", payload.escape_ascii())?,
-        Some(Response::Prompt(byte)) => writeln!(out, "prompt      {}", byte.escape_ascii())?,
-        Some(Response::CapacityError) => writeln!(out, "ok          (longer than the memory for an answer)")?,
-        Some(Response::OtherError) => writeln!(out, "error")?,
-        Some(Response::CmeError(code)) => writeln!(out, "cme error   {code}")?,
-        Some(Response::CmsError(code)) => writeln!(out, "cms error   {code}")?,
-        Some(Response::UnknownError) => writeln!(out, "modem error")?,
-        Some(Response::NotAllowedError) => writeln!(out, "not allowed")?,
-        Some(Response::ConnectionError(e)) => writeln!(out, "connection  {e}")?,
-        Some(Response::CustomError { text, .. }) => writeln!(out, "error       {}", text.escape_ascii())?,
+        Some(Response::Ok(payload)) => print(&format!("ok          {}", payload.escape_ascii()))?,
+        Some(Response::Prompt(byte)) => print(&format!("prompt      {}", byte.escape_ascii()))?,
+        Some(Response::CapacityError) => print("too long    an answer that the memory for it does not hold")?,
+        Some(Response::OtherError) => print("error")?,
+        Some(Response::CmeError(code)) => print(&format!("cme error   {code}"))?,
+        Some(Response::CmsError(code)) => print(&format!("cms error   {code}"))?,
+        Some(Response::UnknownError) => print("modem error")?,
+        Some(Response::NotAllowedError) => print("not allowed")?,
+        Some(Response::ConnectionError(e)) => print(&format!("connection  {e}"))?,
+        Some(Response::CustomError { text, .. }) => print(&format!("error       {}", text.escape_ascii()))?,
     }
     ingress.res_slot.reset()?;
     Ok(())
@@ -93,30 +104,66 @@ fn write(ingress: &mut Ingress<'_>, mut piece: &[u8]) -> Result<(), Box<dyn Erro
     Ok(())
 }
 
-fn listen(mut source: impl Read, texts: &[String]) -> Result<(), Box<dyn Error>> {
-    let mut table = [0; 64 * 35];
-    let mut builder = TableBuilder::new(&mut table);
-    for text in texts {
-        builder.urc(text.as_bytes()).map_err(|e| format!("notice \"{text}\": {e}"))?;
-    }
-    let (mut buf, mut slot_mem, mut queue_mem) = ([0; 4096], [0; 4096], [0; 4 * 132]);
-    let mut ingress = Ingress::new(Digester::new(builder.finish()), &mut buf, &mut slot_mem, &mut queue_mem);
-
-    let mut heard = [0; 4096];
-    loop {
-        let n = match source.read(&mut heard) {
-            Ok(n) => n,
+/// What the source gives, a read at a time. A thread reads, so that the line can be heard to be quiet.
+fn reads(mut source: Box<dyn Read + Send>) -> Receiver<io::Result<Vec<u8>>> {
+    let (sender, reads) = mpsc::sync_channel(1);
+    thread::spawn(move || loop {
+        let mut heard = vec![0; 4096];
+        let read = match source.read(&mut heard) {
             Err(e) if e.kind() == ErrorKind::Interrupted => continue,
-            Err(e) => return Err(e.into()),
+            Ok(0) => return,
+            Ok(n) => {
+                heard.truncate(n);
+                Ok(heard)
+            }
+            Err(e) => Err(e),
         };
-        // Line by line, since the slot holds one answer and each but a prompt ends with its line.
-        for piece in heard[..n].split_inclusive(|&b| b == b'\n') {
+        let failed = read.is_err();
+        if sender.send(read).is_err() || failed {
+            return;
+        }
+    });
+    reads
+}
+
+/// Is the last byte, blanks aside, a `>` or an `@`? With nothing behind it, it is heard as a prompt.
+fn ends_as_a_prompt(bytes: &[u8]) -> bool {
+    let last = bytes.iter().rev().find(|b| !b" \t\r\n".contains(b));
+    last.is_some_and(|b| b">@".contains(b))
+}
+
+/// How many of the bytes to hand over at once: a line, since the slot holds one answer and each but a prompt ends with its
+/// line. A line that ends as a prompt goes with the next.
+fn piece_of(bytes: &[u8]) -> usize {
+    (1..bytes.len()).find(|&k| bytes[k - 1] == b'\n' && !ends_as_a_prompt(&bytes[..k])).unwrap_or(bytes.len())
+}
+
+fn listen(source: Box<dyn Read + Send>, table: Table<'_>, quiet: Duration) -> Result<(), Box<dyn Error>> {
+    let (mut buf, mut slot_mem, mut queue_mem) = ([0; 4096], [0; 4096], [0; 4 * 132]);
+    let mut ingress = Ingress::new(Digester::new(table), &mut buf, &mut slot_mem, &mut queue_mem)?;
+
+    let reads = reads(source);
+    let mut failed = None;
+    while let (None, Ok(read)) = (&failed, reads.recv()) {
+        let mut heard = Vec::new();
+        let mut next = Some(read);
+        while let Some(read) = next.take() {
+            match read {
+                Ok(more) => heard.extend(more),
+                Err(e) => failed = Some(e),
+            }
+            // A prompt is where nothing follows; inside a line more comes at once.
+            if failed.is_none() && ends_as_a_prompt(&heard) {
+                next = reads.recv_timeout(quiet).ok();
+            }
+        }
+        let mut rest = &heard[..];
+        while !rest.is_empty() {
+            let (piece, behind) = rest.split_at(piece_of(rest));
             write(&mut ingress, piece)?;
+            rest = behind;
         }
         notices(&mut ingress)?;
-        if n == 0 {
-            break;
-        }
     }
     if ingress.res_slot.lost() > 0 || ingress.notices.lost() > 0 {
         eprintln!("listen: {} answers and {} notices were lost", ingress.res_slot.lost(), ingress.notices.lost());
@@ -124,23 +171,37 @@ fn listen(mut source: impl Read, texts: &[String]) -> Result<(), Box<dyn Error>>
     if !ingress.pending().is_empty() {
         eprintln!("listen: unfinished at the end: {}", ingress.pending().escape_ascii());
     }
-    Ok(())
+    failed.map_or(Ok(()), |e| Err(format!("the input can't be read: {e}").into()))
+}
+
+fn stop(what: &str, status: i32) -> ! {
+    eprintln!("listen: {what}");
+    process::exit(status)
 }
 
 fn main() {
     let mut words = env::args().skip(1);
-    let Some(device) = words.next() else {
-        eprintln!("listen: no device was named; {USAGE}");
-        process::exit(2)
+    let Some(device) = words.next() else { stop(&format!("no device was named; {USAGE}"), 2) };
+    if device == "--help" {
+        return print(USAGE).unwrap_or_else(|e| stop(&e.to_string(), 1));
+    }
+    let quiet = match env::var("QUIET").as_deref().unwrap_or("200").parse() {
+        Ok(ms @ 1..=60000) => Duration::from_millis(ms),
+        _ => stop(&format!("QUIET is no number of 1 to 60000; {USAGE}"), 2),
     };
-    let texts: Vec<String> = words.collect();
-    let done = if device == "-" {
-        listen(io::stdin().lock(), &texts)
-    } else {
-        fs::File::open(&device).map_err(|e| format!("{device}: {e}; {USAGE}").into()).and_then(|file| listen(file, &texts))
+    // Room for one text more than a table may have, so that one too many is seen to be.
+    let mut memory = [0; 65 * 35];
+    let mut builder = TableBuilder::new(&mut memory);
+    for text in words {
+        if let Err(e) = builder.urc(text.as_bytes()) {
+            stop(&format!("notice \"{text}\": {e}; {USAGE}"), 2)
+        }
+    }
+    let source: Box<dyn Read + Send> = match &*device {
+        "-" => Box::new(io::stdin()),
+        _ => Box::new(fs::File::open(&device).unwrap_or_else(|e| stop(&format!("{device}: {e}; {USAGE}"), 1))),
     };
-    if let Err(e) = done {
-        eprintln!("listen: {e}");
-        process::exit(1)
+    if let Err(e) = listen(source, builder.finish(), quiet) {
+        stop(&e.to_string(), 1)
     }
 }

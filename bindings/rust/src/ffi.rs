@@ -2,10 +2,16 @@
 //!
 //! A wrapper takes slices and arrays of a fixed length, so that every pointer is good for the length that goes with it and
 //! the borrow rules keep what is written apart from everything else. No call has a condition on its arguments (that is part
-//! of what is proved of it), so nothing else has to hold. `wx_payload` and `wx_slot_payload` have no wrapper: `get` on a
-//! slice gives the same part.
+//! of what is proved of it), so nothing else has to hold but that the archive has arrays of the same length and meaning:
+//! `same_version` asks that where one is first handed over. `wx_payload` and `wx_slot_payload` have no wrapper: `get` on a slice
+//! gives the same part.
+//!
+//! The calling convention is System V's: `build.rs` links for x86-64 Linux with pointers of 64 bits only, where it is `"C"`.
 
 use crate::Refusal;
+
+/// The version of the calls and arrays below: `WX_VERSION` of `include/walumbeex.h`.
+const VERSION: u32 = 1;
 
 /// The places of a state's nine numbers.
 pub(crate) const END: usize = 0;
@@ -67,6 +73,19 @@ extern "C" {
         out: *mut u64,
     ) -> u32;
     fn wx_ingress_clear(state: *mut u64);
+    fn wx_version() -> u32;
+}
+
+/// Stops where the archive is of another version: what it takes for an array may be longer than what it is handed.
+///
+/// Asked where numbers first reach the archive: a table, an input, a new slot, a new queue. Every state comes from the last two.
+fn same_version() {
+    // SAFETY: it takes nothing.
+    let version = unsafe { wx_version() };
+    assert!(
+        version == VERSION,
+        "libgateway.a is of version {version} and this binding of version {VERSION}: take both from the same sources"
+    );
 }
 
 /// The refusal of a number: `out` has the record's number at 2, and `taken` are the bytes taken at 5.
@@ -85,6 +104,7 @@ fn refused(number: u32, out: &Out, taken: usize) -> Result<(), Refusal> {
 
 /// How many records a good table has.
 pub(crate) fn table_check(table: &[u8]) -> Result<usize, Refusal> {
+    same_version();
     let mut out: Out = [0; 5];
     // SAFETY: see the head of this file.
     let number = unsafe { wx_table_check(table.as_ptr(), table.len(), out.as_mut_ptr()) };
@@ -94,6 +114,7 @@ pub(crate) fn table_check(table: &[u8]) -> Result<usize, Refusal> {
 
 /// Kind, number, payload's place and length, bytes consumed.
 pub(crate) fn digest(table: &[u8], input: &[u8]) -> Result<Out, Refusal> {
+    same_version();
     let mut out: Out = [0; 5];
     // SAFETY: see the head of this file.
     let number = unsafe { wx_digest(table.as_ptr(), table.len(), input.as_ptr(), input.len(), out.as_mut_ptr()) };
@@ -103,6 +124,7 @@ pub(crate) fn digest(table: &[u8], input: &[u8]) -> Result<Out, Refusal> {
 
 /// A new slot in the state.
 pub(crate) fn slot_new(state: &mut State) {
+    same_version();
     // SAFETY: see the head of this file.
     unsafe { wx_slot_new(state.as_mut_ptr()) }
 }
@@ -134,6 +156,7 @@ pub(crate) fn slot_reset(state: &mut State, mem: &[u8]) -> Result<(), Refusal> {
 
 /// An empty queue in the state.
 pub(crate) fn queue_new(state: &mut State) {
+    same_version();
     // SAFETY: see the head of this file.
     unsafe { wx_queue_new(state.as_mut_ptr()) }
 }

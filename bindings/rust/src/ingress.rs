@@ -1,18 +1,18 @@
 use crate::ffi::{self, State, END, START};
-use crate::{Digester, NoticeQueue, Refusal, ResponseSlot};
+use crate::{Digester, MemoryError, NoticeQueue, Refusal, ResponseSlot, LONGEST_INPUT};
 
 /// Bytes from a modem go in; answers come out at [`res_slot`](Ingress::res_slot), notices at
 /// [`notices`](Ingress::notices).
 ///
-/// It is the blocking half of atat's `Ingress`. All memory is lent at [`new`](Ingress::new): a buffer of up to 4,096
-/// bytes, the slot's memory (the longest answer) and the queue's (132 bytes a notice).
+/// It is the blocking half of atat's `Ingress`. All memory is lent at [`new`](Ingress::new): a buffer of 1 to 4,096
+/// bytes, the slot's memory (the longest answer) and the queue's (132 bytes a notice, at least one; at most 16 are used).
 ///
 /// ```
 /// use walumbeex::{Digester, Ingress, Response, Table, Urc};
 ///
 /// let (mut buf, mut answer, mut waiting) = ([0; 256], [0; 128], [0; 4 * 132]);
 /// let digester = Digester::new(Table::new(b"UR\x07+UUSORD").unwrap());
-/// let mut ingress = Ingress::new(digester, &mut buf, &mut answer, &mut waiting);
+/// let mut ingress = Ingress::new(digester, &mut buf, &mut answer, &mut waiting).unwrap();
 ///
 /// assert_eq!(ingress.try_write(b"\r\n+UUSORD: 0,4\r\nAT+CSQ\r\r\n+CSQ: 17"), Ok(33));
 /// assert_eq!(ingress.notices.take(), Ok(Some(Urc { record: 0, payload: b"+UUSORD: 0,4" })));
@@ -22,6 +22,33 @@ use crate::{Digester, NoticeQueue, Refusal, ResponseSlot};
 /// assert_eq!(ingress.res_slot.try_get(), Ok(Some(Response::Ok(b"+CSQ: 17,99"))));
 /// ingress.res_slot.reset().unwrap();
 /// ```
+///
+/// # Where a piece is cut
+///
+/// A `>` or an `@` that nothing but blanks follows is a prompt, as it is for atat, and so is a custom prompt's text. A modem
+/// sends such a byte inside a line too, and a piece that ends there is heard as a prompt:
+///
+/// ```
+/// use walumbeex::{Digester, Ingress, Response};
+///
+/// let answer = b"AT+CGDCONT?\r\r\n+CGDCONT: 1,\"IP\",\"me@apn\"\r\n\r\nOK\r\n";
+/// let (mut buf, mut slot, mut waiting) = ([0; 256], [0; 128], [0; 132]);
+/// let mut ingress = Ingress::new(Digester::default(), &mut buf, &mut slot, &mut waiting).unwrap();
+/// ingress.try_write(answer).unwrap();
+/// assert_eq!(ingress.res_slot.try_get(), Ok(Some(Response::Ok(b"+CGDCONT: 1,\"IP\",\"me@apn\""))));
+/// ingress.res_slot.reset().unwrap();
+///
+/// // The same, cut behind the @: a prompt, and then an Ok that has lost its payload.
+/// ingress.try_write(&answer[..35]).unwrap();
+/// assert_eq!(ingress.res_slot.try_get(), Ok(Some(Response::Prompt(b'@'))));
+/// ingress.res_slot.reset().unwrap();
+/// ingress.try_write(&answer[35..]).unwrap();
+/// assert_eq!(ingress.res_slot.try_get(), Ok(Some(Response::Ok(b""))));
+/// ```
+///
+/// So hand over what a read gave, never single bytes; where its last byte that is no blank is `>` or `@`, wait a moment for
+/// the line to go quiet and hand it over with what still came (`examples/listen.rs` does). An error, too, hangs on the cut:
+/// `ERROR` and an `OK` behind it in one piece are an Ok.
 ///
 /// # Going on after refusal 5
 ///
@@ -37,7 +64,7 @@ use crate::{Digester, NoticeQueue, Refusal, ResponseSlot};
 ///
 /// let (mut buf, mut answer, mut waiting) = ([0; 64], [0; 64], [0; 132]);
 /// let digester = Digester::new(Table::new(b"UR\x04RING").unwrap());
-/// let mut ingress = Ingress::new(digester, &mut buf, &mut answer, &mut waiting);
+/// let mut ingress = Ingress::new(digester, &mut buf, &mut answer, &mut waiting).unwrap();
 ///
 /// let piece = b"\r\nRING\r\n\r\nRING\r\n";
 /// assert_eq!(ingress.try_write(piece), Err(Refusal::QueueFull { taken: 16 }));
@@ -59,36 +86,46 @@ pub struct Ingress<'a> {
 
 impl<'a> Ingress<'a> {
     /// An ingress with nothing in its buffer, a free slot and an empty queue.
-    #[must_use]
-    pub fn new(digester: Digester<'a>, buf: &'a mut [u8], slot_mem: &'a mut [u8], queue_mem: &'a mut [u8]) -> Self {
-        Self { digester, buf, end: 0, res_slot: ResponseSlot::new(slot_mem), notices: NoticeQueue::new(queue_mem) }
+    ///
+    /// Memory that can never work is an error: a buffer of no bytes or of over 4,096, a queue below one record.
+    pub fn new(
+        digester: Digester<'a>,
+        buf: &'a mut [u8],
+        slot_mem: &'a mut [u8],
+        queue_mem: &'a mut [u8],
+    ) -> Result<Self, MemoryError> {
+        if buf.is_empty() || buf.len() > LONGEST_INPUT {
+            return Err(MemoryError::Buffer(buf.len()));
+        }
+        let (res_slot, notices) = (ResponseSlot::new(slot_mem), NoticeQueue::new(queue_mem)?);
+        Ok(Self { digester, buf, end: 0, res_slot, notices })
     }
 
     /// An ingress that goes on from nine numbers that [`state`](Ingress::state) gave, over memory that was kept, such as
-    /// over a restart. Any nine numbers may be given: where they don't fit the memory, the calls refuse with 3.
+    /// over a restart. Any nine numbers may be given: where they don't fit the memory, the calls refuse with 3. Memory that
+    /// can never work is an error, as at [`new`](Ingress::new).
     ///
     /// ```
     /// use walumbeex::{Digester, Ingress};
     /// let (mut buf, mut answer, mut waiting) = ([0; 64], [0; 64], [0; 132]);
-    /// let mut ingress = Ingress::new(Digester::default(), &mut buf, &mut answer, &mut waiting);
+    /// let mut ingress = Ingress::new(Digester::default(), &mut buf, &mut answer, &mut waiting).unwrap();
     /// ingress.try_write(b"\r\nO").unwrap();
     /// let kept = ingress.state();
     ///
-    /// let mut ingress = Ingress::with_state(Digester::default(), kept, &mut buf, &mut answer, &mut waiting);
+    /// let mut ingress = Ingress::with_state(Digester::default(), kept, &mut buf, &mut answer, &mut waiting).unwrap();
     /// ingress.try_write(b"K\r\n").unwrap();
     /// assert!(ingress.res_slot.signalled());
     /// ```
-    #[must_use]
     pub fn with_state(
         digester: Digester<'a>,
         state: [u64; 9],
         buf: &'a mut [u8],
         slot_mem: &'a mut [u8],
         queue_mem: &'a mut [u8],
-    ) -> Self {
-        let mut ingress = Self::new(digester, buf, slot_mem, queue_mem);
+    ) -> Result<Self, MemoryError> {
+        let mut ingress = Self::new(digester, buf, slot_mem, queue_mem)?;
         ingress.put_state(state);
-        ingress
+        Ok(ingress)
     }
 
     /// The nine numbers of the state: where the bytes in the buffer end; whether the slot is signalled, what it holds, the
@@ -114,7 +151,7 @@ impl<'a> Ingress<'a> {
     /// ```
     /// # use walumbeex::{Digester, Ingress};
     /// # let (mut buf, mut answer, mut waiting) = ([0; 64], [0; 64], [0; 132]);
-    /// # let mut ingress = Ingress::new(Digester::default(), &mut buf, &mut answer, &mut waiting);
+    /// # let mut ingress = Ingress::new(Digester::default(), &mut buf, &mut answer, &mut waiting).unwrap();
     /// ingress.write_buf()[..6].copy_from_slice(b"\r\nOK\r\n");
     /// ingress.try_advance(6).unwrap();
     /// assert!(ingress.res_slot.signalled());
@@ -126,8 +163,8 @@ impl<'a> Ingress<'a> {
 
     /// Commits so many bytes of [`write_buf`](Ingress::write_buf), then digests and delivers all that is finished.
     ///
-    /// Refused with 1 where the buffer is over 4,096 bytes, 2 where the table isn't good, 3 where the state doesn't fit,
-    /// 4 where the commit is more than the room, and 5 where a notice meets a full queue.
+    /// Refused with 2 where the table isn't good, 3 where the state doesn't fit, 4 where the commit is more than the room, and
+    /// 5 where a notice meets a full queue.
     pub fn try_advance(&mut self, commit: usize) -> Result<(), Refusal> {
         let mut state = self.state();
         let done = ffi::ingress_advance(&mut state, commit, self.digester.table(), self.buf, self.res_slot.mem, self.notices.mem);
@@ -138,7 +175,7 @@ impl<'a> Ingress<'a> {
     /// Copies as much of a piece as fits, advances, and goes on until the piece is used up or there is no room: the bytes
     /// taken.
     ///
-    /// Refused with 1, 2, 3 and 5 as [`try_advance`](Ingress::try_advance); refusal 5 carries the bytes taken.
+    /// Refused with 2, 3 and 5 as [`try_advance`](Ingress::try_advance); refusal 5 carries the bytes taken.
     pub fn try_write(&mut self, piece: &[u8]) -> Result<usize, Refusal> {
         let mut state = self.state();
         let done = ffi::ingress_write(&mut state, piece, self.digester.table(), self.buf, self.res_slot.mem, self.notices.mem);

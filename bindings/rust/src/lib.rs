@@ -15,7 +15,8 @@
 //! | `UrcChannel` | [`NoticeQueue`] at [`Ingress::notices`], [`Urc`] |
 //! | `ingress::Error` | [`Refusal`] |
 //!
-//! There is no allocation, no thread and no global state: all memory is lent by the caller. No call panics.
+//! There is no allocation, no thread and no global state: all memory is lent by the caller. No call panics, but for one reason:
+//! the archive that was linked is of another version than this crate.
 //!
 //! ```
 //! use walumbeex::{Digester, DigestResult, Table};
@@ -31,6 +32,7 @@ mod digest;
 #[allow(unsafe_code)]
 mod ffi;
 mod ingress;
+mod memory;
 mod notice_queue;
 mod refusal;
 mod response_slot;
@@ -38,6 +40,7 @@ mod table;
 
 pub use digest::{ConnectionError, DigestResult, Digester, InternalError, Urc, LONGEST_INPUT};
 pub use ingress::Ingress;
+pub use memory::MemoryError;
 pub use notice_queue::{NoticeQueue, LONGEST_NOTICE, MOST_NOTICES, NOTICE_RECORD};
 pub use refusal::Refusal;
 pub use response_slot::{Response, ResponseSlot};

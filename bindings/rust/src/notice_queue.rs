@@ -1,6 +1,6 @@
 use crate::digest::part;
 use crate::ffi::{self, State, COUNT, QUEUE_LOST};
-use crate::{Refusal, Urc};
+use crate::{MemoryError, Refusal, Urc};
 
 /// How many bytes of memory one notice takes in a queue.
 pub const NOTICE_RECORD: usize = 132;
@@ -14,7 +14,7 @@ pub const MOST_NOTICES: usize = 16;
 /// ```
 /// use walumbeex::{NoticeQueue, Refusal, Urc, NOTICE_RECORD};
 /// let mut memory = [0; 2 * NOTICE_RECORD];
-/// let mut queue = NoticeQueue::new(&mut memory);
+/// let mut queue = NoticeQueue::new(&mut memory).unwrap();
 /// assert_eq!(queue.capacity(), 2);
 /// queue.put(0, b"+UUSORD: 0,4").unwrap();
 /// queue.put(1, b"RING").unwrap();
@@ -30,12 +30,17 @@ pub struct NoticeQueue<'m> {
 }
 
 impl<'m> NoticeQueue<'m> {
-    /// An empty queue, over memory for [`NOTICE_RECORD`] bytes a notice.
-    #[must_use]
-    pub fn new(mem: &'m mut [u8]) -> Self {
+    /// An empty queue, over memory of [`NOTICE_RECORD`] bytes a notice.
+    ///
+    /// Memory below one record is an error: no notice could ever go in, and who takes one to make room after refusal 5 would
+    /// go round for ever.
+    pub fn new(mem: &'m mut [u8]) -> Result<Self, MemoryError> {
+        if mem.len() < NOTICE_RECORD {
+            return Err(MemoryError::Queue(mem.len()));
+        }
         let mut state = [0; 9];
         ffi::queue_new(&mut state);
-        Self { state, mem }
+        Ok(Self { state, mem })
     }
 
     /// Takes the oldest notice; `None` from an empty queue. Refused with 3 where the numbers don't fit the memory or the
@@ -60,15 +65,16 @@ impl<'m> NoticeQueue<'m> {
         ffi::queue_capacity(self.mem.len())
     }
 
-    /// How many notices are waiting.
+    /// How many notices are waiting: never more than [`capacity`](NoticeQueue::capacity), whatever numbers
+    /// [`Ingress::with_state`](crate::Ingress::with_state) was given.
     #[must_use]
-    pub const fn len(&self) -> usize {
-        self.state[COUNT] as usize
+    pub fn len(&self) -> usize {
+        usize::min(self.state[COUNT] as usize, self.capacity())
     }
 
     /// Is no notice waiting?
     #[must_use]
-    pub const fn is_empty(&self) -> bool {
+    pub fn is_empty(&self) -> bool {
         self.len() == 0
     }
 

@@ -13,7 +13,8 @@ use core::fmt;
 /// ```
 #[derive(Debug, Clone, Copy, PartialEq, Eq)]
 pub enum Refusal {
-    /// 1: the input to digest, or the ingress' buffer, is over 4,096 bytes. (A piece given to `try_write` may be longer.)
+    /// 1: the input to digest is over 4,096 bytes. (A piece given to `try_write` may be longer; a longer buffer is a
+    /// [`MemoryError`](crate::MemoryError).)
     TooLong,
     /// 2: the token table breaks a rule.
     BadTable {
@@ -53,7 +54,7 @@ impl fmt::Display for Refusal {
     fn fmt(&self, f: &mut fmt::Formatter<'_>) -> fmt::Result {
         write!(f, "refused {}: ", self.number())?;
         match self {
-            Self::TooLong => f.write_str("the input or the buffer is over 4,096 bytes"),
+            Self::TooLong => f.write_str("the input is over 4,096 bytes"),
             Self::BadTable { record: 64 } => f.write_str("the token table has over 64 records"),
             Self::BadTable { record } => write!(f, "record {record} of the token table breaks a rule"),
             Self::BadState => f.write_str("the numbers of the state don't fit the memory lent"),

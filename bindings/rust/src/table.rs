@@ -109,7 +109,19 @@ impl<'t> TableBuilder<'t> {
         Self { memory, len: 0, records: 0 }
     }
 
-    /// A notice (`UR`): a line that begins with the text.
+    /// A notice (`UR`): a line that is the text, or the text, `:` and more. The text must be all that stands before the `:`.
+    ///
+    /// ```
+    /// use walumbeex::{Digester, DigestResult, TableBuilder, Urc};
+    /// let mut memory = [0; 32];
+    /// let mut builder = TableBuilder::new(&mut memory);
+    /// let ipd = builder.urc(b"+IPD").unwrap();
+    /// let digester = Digester::new(builder.finish());
+    /// let heard = digester.digest(b"\r\n+IPD: 12,abc\r\n").unwrap();
+    /// assert_eq!(heard, (DigestResult::Urc(Urc { record: ipd, payload: b"+IPD: 12,abc" }), 16));
+    /// // What follows the text is neither `:` nor CRLF: no notice.
+    /// assert_eq!(digester.digest(b"\r\n+IPD,12:abc\r\n"), Ok((DigestResult::None, 0)));
+    /// ```
     pub fn urc(&mut self, text: &[u8]) -> Result<u8, TableError> {
         self.add(b"UR", text)
     }

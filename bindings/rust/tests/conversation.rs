@@ -63,7 +63,7 @@ fn converse() {
     builder.custom_success(b"SHUT OK").unwrap();
     // A queue for one notice, so that the burst in the last exchange meets refusal 5.
     let (mut buf, mut slot_mem, mut queue_mem) = ([0; 96], [0; 32], [0; NOTICE_RECORD]);
-    let mut ingress = Ingress::new(Digester::new(builder.finish()), &mut buf, &mut slot_mem, &mut queue_mem);
+    let mut ingress = Ingress::new(Digester::new(builder.finish()), &mut buf, &mut slot_mem, &mut queue_mem).unwrap();
 
     let mut answers = Vec::new();
     let mut notices: Vec<(u8, Vec<u8>)> = Vec::new();

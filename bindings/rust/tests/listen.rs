@@ -2,6 +2,7 @@
 
 mod pty;
 
+use std::fs::OpenOptions;
 use std::io::{BufRead, BufReader, Write};
 use std::path::PathBuf;
 use std::process::{Command, Output, Stdio};
@@ -77,16 +78,80 @@ fn bytes_that_nothing_finishes_are_dropped_and_it_goes_on() {
 }
 
 #[test]
+fn a_notice_that_no_queue_holds_is_said_to_be_lost() {
+    let said = listen(&["-", "+CREG"], format!("\r\n+CREG: {}\r\n\r\nOK\r\n", "1".repeat(130)).as_bytes());
+    assert_eq!(String::from_utf8_lossy(&said.stdout), "ok          \n");
+    assert_eq!(String::from_utf8_lossy(&said.stderr), "listen: 0 answers and 1 notices were lost\n");
+}
+
+/// A text that something other than `:` or CRLF follows is no notice.
+#[test]
+fn a_notice_is_its_text_or_its_text_and_a_colon() {
+    let said = listen(&["-", "+IPD"], b"\r\n+IPD,12:abc\r\n\r\n+IPD: 12\r\n");
+    assert_eq!(String::from_utf8_lossy(&said.stdout), "notice      +IPD: 12\n");
+}
+
+#[test]
+fn output_that_cant_be_written() {
+    let full = OpenOptions::new().write(true).open("/dev/full").unwrap();
+    let mut child = program().arg("-").stdin(Stdio::piped()).stdout(full).stderr(Stdio::piped()).spawn().unwrap();
+    child.stdin.take().unwrap().write_all(b"\r\nOK\r\n").unwrap();
+    let said = child.wait_with_output().unwrap();
+    let errors = String::from_utf8_lossy(&said.stderr);
+    assert!(errors.starts_with("listen: standard output can't be written: "), "{errors}");
+    assert_eq!(said.status.code(), Some(1));
+}
+
+#[test]
+fn how_to_use_it() {
+    let said = listen(&["--help"], b"");
+    assert!(said.stdout.starts_with(b"usage: [QUIET=MS] listen DEVICE"), "{said:?}");
+    assert_eq!((said.stderr.len(), said.status.code()), (0, Some(0)));
+}
+
+#[test]
 fn wrong_usage() {
     for (words, status, what) in [
-        (&[][..], 2, "listen: no device was named; usage: listen DEVICE"),
+        (&[][..], 2, "listen: no device was named; usage: [QUIET=MS] listen DEVICE"),
         (&["/no/such/device"], 1, "listen: /no/such/device: "),
-        (&["-", "RING", " x"], 1, "listen: notice \" x\": byte 0 of the text"),
+        (&["-", "RING", " x"], 2, "listen: notice \" x\": byte 0 of the text"),
+        (
+            &[&["-"], &["a2345678901234567890123456789012"; 65][..]].concat(),
+            2,
+            "listen: notice \"a2345678901234567890123456789012\": a table has",
+        ),
     ] {
         let said = listen(words, b"");
         let errors = String::from_utf8_lossy(&said.stderr);
         assert!(errors.starts_with(what) && errors.lines().count() == 1, "{errors}");
         assert_eq!((said.status.code(), said.stdout.len()), (Some(status), 0));
+    }
+}
+
+/// A read may end behind a `>` or `@` of a line; what comes at once belongs to that line, and the lines of one read to one answer.
+#[test]
+fn a_prompt_byte_inside_a_line_is_no_prompt() {
+    for (answer, at, line) in [
+        (
+            &b"AT+CGDCONT?\r\r\n+CGDCONT: 1,\"IP\",\"me@apn\"\r\n\r\nOK\r\n"[..],
+            35,
+            r#"ok          +CGDCONT: 1,\"IP\",\"me@apn\""#,
+        ),
+        (b"\r\n+X: <a> b\r\n\r\nOK\r\n", 9, "ok          +X: <a> b"),
+        (b"\r\n+X: <a> b\r\n\r\nOK\r\n", 10, "ok          +X: <a> b"),
+        (b"\r\n<html>\r\n</html>\r\n\r\nOK\r\n", 10, r"ok          <html>\r\n</html>"),
+        (b"\r\n<html>\r\n</html>\r\n\r\nOK\r\n", 0, r"ok          <html>\r\n</html>"),
+    ] {
+        // With patience, since a busy machine may be slow to write the rest.
+        let mut child = program().arg("-").env("QUIET", "20000").stdin(Stdio::piped()).stdout(Stdio::piped()).spawn().unwrap();
+        let mut line_in = child.stdin.take().unwrap();
+        line_in.write_all(&answer[..at]).unwrap();
+        // Long enough for two reads.
+        thread::sleep(Duration::from_millis(if at > 0 { 100 } else { 0 }));
+        line_in.write_all(&answer[at..]).unwrap();
+        drop(line_in);
+        let said = child.wait_with_output().unwrap();
+        assert_eq!(String::from_utf8_lossy(&said.stdout), format!("{line}\n"), "cut at {at}");
     }
 }
 

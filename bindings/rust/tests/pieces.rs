@@ -149,9 +149,9 @@ struct Met {
 fn run(seed: u64, met: &mut Met) {
     let mut r = Random(seed);
     let digester = Digester::new(Table::new(r.one_of(&TABLES)).unwrap());
-    let (size, slot_size, queue_size) = (r.below(300), r.below(40), r.below(4));
+    let (size, slot_size, queue_size) = (1 + r.below(300), r.below(40), 1 + r.below(3));
     let mut memory = (vec![0; size], vec![0; slot_size], vec![0; queue_size * NOTICE_RECORD + r.below(NOTICE_RECORD)]);
-    let mut ingress = Ingress::new(digester, &mut memory.0, &mut memory.1, &mut memory.2);
+    let mut ingress = Ingress::new(digester, &mut memory.0, &mut memory.1, &mut memory.2).unwrap();
     let mut hand = Hand {
         digester,
         size,
@@ -252,11 +252,17 @@ fn pieces_through_the_ingress_are_what_digesting_by_hand_makes_of_them() {
     assert!(all.iter().all(|&n| n > 100), "too few of something: {met:?}");
 }
 
-/// Answers that end in OK, notices between them and an error at the end don't hang on where the pieces are cut: the ingress
-/// hears what digesting the whole capture hears. (An error before an OK would: digested whole, the OK wins.)
+/// Is the last byte, blanks aside, a `>` or an `@`?
+fn ends_as_a_prompt(bytes: &[u8]) -> bool {
+    bytes.iter().rev().find(|b| !b" \t\r\n".contains(b)).is_some_and(|b| b">@".contains(b))
+}
+
+/// Answers that end in OK, notices between them and an error at the end are heard as digesting the whole capture hears them, if
+/// no cut lies where the last byte before it, blanks aside, is `>` or `@`. (An error before an OK would hang on the cut too:
+/// digested whole, the OK wins.)
 #[test]
-fn a_capture_is_heard_the_same_however_it_is_cut() {
-    let capture = b"AT+CSQ\r\r\n+CSQ: 17,99\r\n\r\nOK\r\n\r\n+UUSORD: 0,4\r\nAT+COPS?\r\r\n+COPS: 0\r\n\r\nOK\r\n\r\n+UUSORD\r\n\r\nOK\r\nATD1\r\r\nNO CARRIER\r\n";
+fn a_capture_is_heard_the_same_wherever_it_is_cut_but_behind_a_prompt_byte() {
+    let capture = b"AT+CSQ\r\r\n+CSQ: 17,99\r\n\r\nOK\r\n\r\n+UUSORD: 0,4\r\nAT+CGDCONT?\r\r\n+CGDCONT: 1,\"IP\",\"me@apn\"\r\n\r\nOK\r\n\r\n+UUSORD\r\n\r\n<a>\r\n <b> c\r\nOK\r\nATD1\r\r\nNO CARRIER\r\n";
     let digester = Digester::new(Table::new(TABLES[1]).unwrap());
     let mut whole = Vec::new();
     let mut rest = &capture[..];
@@ -272,26 +278,51 @@ fn a_capture_is_heard_the_same_however_it_is_cut() {
     }
     assert_eq!(whole.len(), 6, "{whole:?}");
 
-    let mut r = Random(7);
-    for round in 0..500 {
-        let (mut buf, mut slot_mem, mut queue_mem) = ([0; 128], [0; 64], [0; NOTICE_RECORD]);
-        let mut ingress = Ingress::new(digester, &mut buf, &mut slot_mem, &mut queue_mem);
-        let mut heard = Vec::new();
-        let mut rest = &capture[..];
-        while !rest.is_empty() {
-            // Short enough that no piece ends two items: the slot holds one answer.
-            let n = usize::min(rest.len(), if round == 0 { 1 } else { 1 + r.below(5) });
-            assert_eq!(ingress.try_write(&rest[..n]), Ok(n));
-            rest = &rest[n..];
-            if let Some(urc) = ingress.notices.take().unwrap() {
-                heard.push(format!("{urc:?}"));
-            }
-            if let Some(response) = ingress.res_slot.try_get().unwrap() {
-                heard.push(format!("{response:?}"));
-                ingress.res_slot.reset().unwrap();
-            }
+    let no_prompt = |mut end: usize| {
+        while ends_as_a_prompt(&capture[..usize::min(end, capture.len())]) {
+            end += 1;
         }
-        assert_eq!((ingress.res_slot.lost(), ingress.pending()), (0, &b""[..]));
+        usize::min(end, capture.len())
+    };
+    let mut r = Random(7);
+    let mut cuts = vec![false; capture.len() + 1];
+    for round in 0..500 {
+        let heard = in_pieces(digester, capture, |from| {
+            // Short enough that no piece ends two items: the slot holds one answer.
+            let end = no_prompt(from + if round == 0 { 1 } else { 1 + r.below(5) });
+            cuts[end] = true;
+            end
+        });
         assert_eq!(heard, whole, "round {round}");
     }
+    let missed = (1..=capture.len()).filter(|&at| cuts[at] == ends_as_a_prompt(&capture[..at]));
+    assert_eq!(missed.collect::<Vec<_>>(), [], "every other cut was tried");
+
+    // Behind the @ it is a prompt, and the answer's payload is gone.
+    let at = capture.iter().position(|&b| b == b'@').unwrap() + 1;
+    let heard = in_pieces(digester, capture, |from| if from < at { usize::min(from + 5, at) } else { no_prompt(from + 5) });
+    assert_eq!(heard[2..4], [format!("{:?}", Response::Prompt(b'@')), format!("{:?}", Response::Ok(b""))]);
+    assert_eq!((&heard[..2], &heard[4..]), (&whole[..2], &whole[3..]));
+}
+
+/// What an ingress hears of a capture whose pieces end where `next` says, given where they begin.
+fn in_pieces(digester: Digester<'_>, capture: &[u8], mut next: impl FnMut(usize) -> usize) -> Vec<String> {
+    let (mut buf, mut slot_mem, mut queue_mem) = ([0; 128], [0; 64], [0; NOTICE_RECORD]);
+    let mut ingress = Ingress::new(digester, &mut buf, &mut slot_mem, &mut queue_mem).unwrap();
+    let mut heard = Vec::new();
+    let mut from = 0;
+    while from < capture.len() {
+        let end = next(from);
+        assert_eq!(ingress.try_write(&capture[from..end]), Ok(end - from));
+        from = end;
+        if let Some(urc) = ingress.notices.take().unwrap() {
+            heard.push(format!("{urc:?}"));
+        }
+        if let Some(response) = ingress.res_slot.try_get().unwrap() {
+            heard.push(format!("{response:?}"));
+            ingress.res_slot.reset().unwrap();
+        }
+    }
+    assert_eq!((ingress.res_slot.lost(), ingress.pending()), (0, &b""[..]));
+    heard
 }

@@ -1,8 +1,8 @@
 //! Refusals 1 to 5: exactly when, what they carry, and what they leave.
 
 use walumbeex::{
-    DigestResult, Digester, Ingress, NoticeQueue, Refusal, Response, ResponseSlot, Table, TableBuilder, TableError, Urc,
-    LONGEST_INPUT, MOST_RECORDS, NOTICE_RECORD,
+    DigestResult, Digester, Ingress, MemoryError, NoticeQueue, Refusal, Response, ResponseSlot, Table, TableBuilder, TableError,
+    Urc, LONGEST_INPUT, MOST_RECORDS, NOTICE_RECORD,
 };
 
 fn ring() -> Digester<'static> {
@@ -13,8 +13,26 @@ fn bad() -> Digester<'static> {
     Digester::unchecked(b"UR\x04RINGUR\x00")
 }
 
+/// Else a buffer would be refused by every call, or the way on after refusal 5 or a full buffer go round for ever.
 #[test]
-fn one_an_input_or_buffer_over_4096_bytes() {
+fn memory_that_can_never_work_is_refused_where_it_is_lent() {
+    let new = |buf: usize, queue: usize| {
+        let (mut buf, mut queue_mem) = (vec![0; buf], vec![0; queue]);
+        Ingress::new(ring(), &mut buf, &mut [], &mut queue_mem).map(|_| ())
+    };
+    assert_eq!(new(LONGEST_INPUT, NOTICE_RECORD), Ok(()));
+    assert_eq!(new(1, NOTICE_RECORD), Ok(()));
+    assert_eq!(new(LONGEST_INPUT + 1, NOTICE_RECORD), Err(MemoryError::Buffer(4097)));
+    assert_eq!(new(0, NOTICE_RECORD), Err(MemoryError::Buffer(0)));
+    assert_eq!(new(1, NOTICE_RECORD - 1), Err(MemoryError::Queue(131)));
+    assert_eq!(new(0, 0), Err(MemoryError::Buffer(0)));
+    assert_eq!(NoticeQueue::new(&mut [0; 131]).unwrap_err(), MemoryError::Queue(131));
+    let kept = Ingress::with_state(ring(), [0; 9], &mut [0; 8], &mut [], &mut []).map(|_| ());
+    assert_eq!(kept, Err(MemoryError::Queue(0)));
+}
+
+#[test]
+fn one_an_input_over_4096_bytes() {
     let long = [b'a'; LONGEST_INPUT + 1];
     let digester = Digester::default();
     assert_eq!(digester.digest(&long[1..]), Ok((DigestResult::None, 0)));
@@ -22,16 +40,10 @@ fn one_an_input_or_buffer_over_4096_bytes() {
     // The lowest number is given.
     assert_eq!(bad().digest(&long), Err(Refusal::TooLong));
 
-    let mut buf = long;
-    let mut ingress = Ingress::new(digester, &mut buf, &mut [], &mut []);
-    assert_eq!(ingress.try_write(b"x"), Err(Refusal::TooLong));
-    assert_eq!(ingress.try_advance(9999), Err(Refusal::TooLong));
-    assert_eq!(ingress.state(), [0, 0, 1, 0, 0, 0, 0, 0, 0]);
-
     // A piece may be longer than a buffer.
     let piece: Vec<u8> = b"\r\n+CSQ: 17,99\r\n\r\nOK\r\n".repeat(300);
-    let (mut buf, mut slot_mem) = ([0; LONGEST_INPUT], [0; LONGEST_INPUT]);
-    let mut ingress = Ingress::new(digester, &mut buf, &mut slot_mem, &mut []);
+    let (mut buf, mut slot_mem, mut queue_mem) = ([0; LONGEST_INPUT], [0; LONGEST_INPUT], [0; NOTICE_RECORD]);
+    let mut ingress = Ingress::new(digester, &mut buf, &mut slot_mem, &mut queue_mem).unwrap();
     assert!(piece.len() > LONGEST_INPUT);
     assert_eq!(ingress.try_write(&piece), Ok(piece.len()));
     assert_eq!(ingress.res_slot.try_get(), Ok(Some(Response::Ok(b"+CSQ: 17,99"))));
@@ -57,8 +69,8 @@ fn two_a_faulty_table_with_the_record() {
     assert_eq!(refusal, Refusal::BadTable { record: 64 });
     assert_eq!(refusal.to_string(), "refused 2: the token table has over 64 records");
 
-    let mut buf = *b"\r\nOK\r\n";
-    let mut ingress = Ingress::new(bad(), &mut buf, &mut [], &mut []);
+    let (mut buf, mut queue_mem) = (*b"\r\nOK\r\n", [0; NOTICE_RECORD]);
+    let mut ingress = Ingress::new(bad(), &mut buf, &mut [], &mut queue_mem).unwrap();
     assert_eq!(ingress.try_advance(6), Err(Refusal::BadTable { record: 1 }));
     assert_eq!(ingress.try_write(b"x"), Err(Refusal::BadTable { record: 1 }));
     assert_eq!(ingress.write_buf(), b"\r\nOK\r\n");
@@ -72,7 +84,7 @@ fn three_numbers_that_dont_fit() {
         let mut state = new;
         state[place] = number;
         let (mut buf, mut slot_mem, mut queue_mem) = ([7; 8], [8; 4], [9; 2 * NOTICE_RECORD]);
-        let mut ingress = Ingress::with_state(ring(), state, &mut buf, &mut slot_mem, &mut queue_mem);
+        let mut ingress = Ingress::with_state(ring(), state, &mut buf, &mut slot_mem, &mut queue_mem).unwrap();
         assert_eq!(ingress.try_advance(0), Err(Refusal::BadState), "number {place}");
         assert_eq!(ingress.try_write(b"\r\nOK\r\n"), Err(Refusal::BadState), "number {place}");
         assert_eq!(ingress.res_slot.try_get().is_err(), place == 4);
@@ -80,6 +92,7 @@ fn three_numbers_that_dont_fit() {
         assert_eq!(ingress.res_slot.signal(&DigestResult::Prompt(b'>')).is_err(), place == 4);
         assert_eq!(ingress.notices.take().is_err(), place >= 6);
         assert_eq!(ingress.notices.put(0, b"x").is_err(), place >= 6);
+        assert!(ingress.notices.len() <= ingress.notices.capacity(), "number {place}");
         if place == 0 {
             assert_eq!((ingress.write_buf().len(), ingress.pending().len()), (0, 0));
             ingress.clear();
@@ -92,13 +105,13 @@ fn three_numbers_that_dont_fit() {
     // The record to be taken has a wrong mark, or a wrong length; another damaged record is no matter.
     for (damage, byte, refused) in [(0, b'u', true), (3, 0, true), (3, 129, true), (132, b'u', false), (3, 128, false)] {
         let mut queue_mem = [0; 2 * NOTICE_RECORD];
-        let mut queue = NoticeQueue::new(&mut queue_mem);
+        let mut queue = NoticeQueue::new(&mut queue_mem).unwrap();
         queue.put(0, b"RING").unwrap();
         queue.put(0, b"RING").unwrap();
         queue_mem[damage] = byte;
         let (mut buf, mut slot_mem) = ([0; 8], [0; 4]);
         let state = [0, 0, 1, 0, 0, 0, 0, 2, 0];
-        let mut ingress = Ingress::with_state(ring(), state, &mut buf, &mut slot_mem, &mut queue_mem);
+        let mut ingress = Ingress::with_state(ring(), state, &mut buf, &mut slot_mem, &mut queue_mem).unwrap();
         let taken = ingress.notices.take();
         assert_eq!(taken == Err(Refusal::BadState), refused, "byte {damage} made {byte}: {taken:?}");
         assert_eq!(ingress.notices.len(), if refused { 2 } else { 1 });
@@ -107,8 +120,8 @@ fn three_numbers_that_dont_fit() {
 
 #[test]
 fn four_a_commit_over_the_room() {
-    let (mut buf, mut slot_mem) = ([0; 8], [0; 8]);
-    let mut ingress = Ingress::new(ring(), &mut buf, &mut slot_mem, &mut []);
+    let (mut buf, mut slot_mem, mut queue_mem) = ([0; 8], [0; 8], [0; NOTICE_RECORD]);
+    let mut ingress = Ingress::new(ring(), &mut buf, &mut slot_mem, &mut queue_mem).unwrap();
     assert_eq!(ingress.try_write(b"abc"), Ok(3));
     for commit in [6, 7, usize::MAX] {
         assert_eq!(ingress.try_advance(commit), Err(Refusal::NoRoom));
@@ -125,7 +138,7 @@ fn four_a_commit_over_the_room() {
 #[test]
 fn five_a_notice_meets_a_full_queue() {
     let (mut buf, mut slot_mem, mut queue_mem) = ([0; 12], [0; 8], [0; NOTICE_RECORD]);
-    let mut ingress = Ingress::new(ring(), &mut buf, &mut slot_mem, &mut queue_mem);
+    let mut ingress = Ingress::new(ring(), &mut buf, &mut slot_mem, &mut queue_mem).unwrap();
     // The buffer has room for 12: the first copy brings a notice and a half, the second the rest of it and more.
     let piece = b"\r\nRING\r\n\r\nRING\r\n\r\nOK\r\n";
     let refusal = ingress.try_write(piece).unwrap_err();
@@ -158,7 +171,7 @@ fn five_a_notice_meets_a_full_queue() {
 #[test]
 fn a_notice_that_no_queue_holds_is_lost() {
     let mut queue_mem = [0; NOTICE_RECORD];
-    let mut queue = NoticeQueue::new(&mut queue_mem);
+    let mut queue = NoticeQueue::new(&mut queue_mem).unwrap();
     queue.put(0, &[b'a'; 128]).unwrap();
     // Lost also where the queue is full.
     queue.put(0, &[b'a'; 129]).unwrap();
@@ -166,8 +179,7 @@ fn a_notice_that_no_queue_holds_is_lost() {
     assert_eq!((queue.len(), queue.lost(), queue.capacity()), (1, 2, 1));
     assert_eq!(queue.take().unwrap().unwrap().payload, &[b'a'; 128]);
     assert!(queue.is_empty());
-    assert_eq!(NoticeQueue::new(&mut vec![0; 17 * NOTICE_RECORD]).capacity(), 16);
-    assert_eq!(NoticeQueue::new(&mut [0; 131]).capacity(), 0);
+    assert_eq!(NoticeQueue::new(&mut vec![0; 17 * NOTICE_RECORD]).unwrap().capacity(), 16);
 }
 
 #[test]

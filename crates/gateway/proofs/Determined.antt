@@ -48,3 +48,6 @@ wx-ingress-write-one κs a r q s t h g = whole-one _ r q _ _ _ _ _ _ _ _ _ _ h g
 
 pub wx-ingress-clear-one : Alike calls.wx_ingress_clear.Reads.Post (λ κs r q s t. s .0 .now ≡ t .0 .now)
 wx-ingress-clear-one κs a r q s t h g = h ∙ sym g
+
+pub wx-version-one : One calls.wx_version.Reads.Post
+wx-version-one κs a r q s t h g = h ∙ sym g

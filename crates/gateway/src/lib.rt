@@ -331,3 +331,12 @@ pub extern "C" fn wx_ingress_clear(state: &mut [u64; NUMBERS])
     let end = ingress::clear(old);
     state[numbers::END] = end as u64;
 }
+
+// The version of these exports, for a caller to compare with the one it was written for: one more whenever a call's parameters, a lent array's length or the
+// meaning of a number in one changes.
+#[no_mangle]
+pub extern "C" fn wx_version() -> u32
+    ensures { λ r. ⌜ r ≡ 1 ⌝ }
+{
+    1
+}
