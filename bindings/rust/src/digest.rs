@@ -202,7 +202,7 @@ impl<'t> Digester<'t> {
     /// Digests an input once: what it was, and how many of its bytes are consumed.
     ///
     /// Refused with 1 where the input is over 4,096 bytes, and with 2 where the table isn't good.
-    /// The deepest digest took 485 KiB of stack (4,096 bytes of CRLF pairs, 120 bytes for each); give a thread 640 KiB.
+    /// How much stack that takes, and so what to give a thread, is in include/walumbeex.h.
     ///
     /// ```
     /// use walumbeex::{Digester, DigestResult, InternalError, Table};
