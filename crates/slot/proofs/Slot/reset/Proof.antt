@@ -7,9 +7,7 @@ returns : tie.Need-returns
 returns c = reset-short _ _ (c .if1 .taken)
 
 returns-2 : tie.Need-returns-2
-returns-2 c =
-    let args = c .before .before .args in
-    reset-is (args .self) _ (c .if1 .left)
+returns-2 c = reset-is _ _ (c .if1 .left)
 
 pub reset-spec : {M : Type 1} → statement M
 reset-spec = tie.close (tie.spec returns returns-2)
