@@ -1,6 +1,6 @@
 // The blocking half of atat's ingress.rs by document 01: turns, one after the other, until nothing more is consumed.
 // The state is a struct by value beside lent slices; the buffer, the slot's memory and the queue's memory are the caller's.
-// It relies on the promises below it, and opens none of their definitions. No public function has a `requires`.
+// It relies on the promises and laws below it, and opens none of their definitions. No public function has a `requires`.
 ghost use mathlib.Core.Path.{_≡_};
 ghost use Prim.Native.Nat.{_≤_};
 ghost use lib.ListN.{length, take};

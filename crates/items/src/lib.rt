@@ -1,4 +1,4 @@
-// What rules 4 and 5 find in buf, each at its first place: custom lines and prompts, `>` and `@`, numeric errors.
+// What rules 3 to 5 find in buf, each at its first place: custom lines and prompts, `>` and `@`, numeric errors.
 // Of the last five only the first occurrence counts: where that is no answer, one further on may be, on a level of the retry below; hints say what need not be looked for there again.
 ghost use mathlib.Core.Path.{_≡_};
 ghost use Prim.Native.Nat.{_<_, _-_};

@@ -1,6 +1,6 @@
 // One turn of the ingress by document 01: digest what is in the buffer, deliver, move the rest to the front.
 // The state is a struct by value beside lent slices; the buffer, the slot's memory and the queue's memory are the caller's.
-// It relies on the promises of digester, slot and queue, and opens none of their definitions. No public function has a `requires`.
+// It relies on the promises and laws of digester, slot and queue, and opens none of their definitions. No public function has a `requires`.
 ghost use mathlib.Core.Path.{_≡_};
 ghost use mathlib.Core.Bool.{true};
 ghost use Prim.Native.Nat.{_<_, min};
