@@ -2,6 +2,8 @@
 // Any nine numbers are a state, and a state that is written reads back as it was. A number that reads already as it is to read stays
 // as it stood, in plain form or not: so a call changes no number but those that it gives another meaning.
 ghost use mathlib.Core.Path.{_≡_};
+ghost use Prim.Native.Nat.{_<_};
+ghost use lib.ListN.{getD};
 ghost use Rattle.outcome.specs.Outcome.{if_then_else_};
 ghost use Rattle.numbers.specs.Numbers.{kindNumber, kindOf, word, heldNumber, heldOf, answerOf, slotOf, queueOf, stateOf, kept, withSlot, withQueue, withState, laid, answerValues};
 use answers::Answer;
@@ -178,17 +180,20 @@ pub fn state_of(state: &[u64; NUMBERS]) -> State
     }
 }
 
-// What is to stand where `old` stood, so that it reads as `new`: `old` where it reads so already, since a number over `most` reads as that.
-fn kept(most: u64, old: u64, new: u64) -> u64
-    ensures { λ r. ⌜ r ≡ kept most old new ⌝ }
+// What is to stand at a place of the state, so that it reads as `new`: what stands there where it reads so already, since a number over `most`
+// reads as that. It is looked at only where `new` is `most`: another that reads as `new` is `new`.
+fn kept(state: &[u64; NUMBERS], at: usize, most: u64, new: u64) -> u64
+    requires { ⌜ at < 9 ⌝ }
+    ensures { λ r. ⌜ r ≡ kept most (getD (now (state .entry)) at 0) new ⌝ }
 {
+    if new != most {
+        return new;
+    }
+    let old = state[at];
     if old <= most {
         return new;
     }
-    if new == most {
-        return old;
-    }
-    new
+    old
 }
 
 // Another slot, the other numbers as they stood.
@@ -196,10 +201,10 @@ pub fn put_slot(state: &mut [u64; NUMBERS], x: Slot)
     ensures { λ _. ⌜ now (state .exit) ≡ withSlot (now (state .entry)) x ⌝ }
 {
     let held = x.held;
-    let signalled = kept(MOST_SIGNALLED, state[SIGNALLED], flag_number(x.signalled));
-    let content = kept(MOST_HELD, state[HELD], held_number(held));
-    let number = kept(MOST_WORD, state[NUMBER], x.number as u64);
-    let lost = kept(MOST_WORD, state[SLOT_LOST], x.lost as u64);
+    let signalled = kept(state, SIGNALLED, MOST_SIGNALLED, flag_number(x.signalled));
+    let content = kept(state, HELD, MOST_HELD, held_number(held));
+    let number = kept(state, NUMBER, MOST_WORD, x.number as u64);
+    let lost = kept(state, SLOT_LOST, MOST_WORD, x.lost as u64);
     state[SIGNALLED] = signalled;
     state[HELD] = content;
     state[NUMBER] = number;
@@ -211,7 +216,7 @@ pub fn put_slot(state: &mut [u64; NUMBERS], x: Slot)
 pub fn put_queue(state: &mut [u64; NUMBERS], x: Queue)
     ensures { λ _. ⌜ now (state .exit) ≡ withQueue (now (state .entry)) x ⌝ }
 {
-    let lost = kept(MOST_WORD, state[QUEUE_LOST], x.lost as u64);
+    let lost = kept(state, QUEUE_LOST, MOST_WORD, x.lost as u64);
     state[START] = x.start as u64;
     state[COUNT] = x.count as u64;
     state[QUEUE_LOST] = lost;

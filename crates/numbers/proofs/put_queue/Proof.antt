@@ -3,9 +3,6 @@ use borrow.Author.Needs.{needs}
 use Rattle.numbers.proofs.put_queue.Statement.{statement}
 use Rattle.numbers.proofs.put_queue.Tie as tie
 
-element-copy-out-kept : tie.Need-element-copy-out-kept
-element-copy-out-kept c = search needs
-
 cast-kept : tie.Need-cast-kept
 cast-kept c = search needs
 
@@ -28,7 +25,6 @@ pub put-queue-spec : {M : Type 1} → statement M
 put-queue-spec =
     tie.close
     (tie.spec
-    element-copy-out-kept
     cast-kept
     kept-requires
     element-write-state

@@ -3,17 +3,11 @@ use borrow.Author.Needs.{needs}
 use Rattle.numbers.proofs.put_slot.Statement.{statement}
 use Rattle.numbers.proofs.put_slot.Tie as tie
 
-element-copy-out-kept : tie.Need-element-copy-out-kept
-element-copy-out-kept c = search needs
-
 flag-number-requires : tie.Need-flag-number-requires
 flag-number-requires c κs = search needs
 
 kept-requires : tie.Need-kept-requires
 kept-requires c κs = search needs
-
-element-copy-out-kept-2 : tie.Need-element-copy-out-kept-2
-element-copy-out-kept-2 c = search needs
 
 held-number-requires : tie.Need-held-number-requires
 held-number-requires c κs = search needs
@@ -21,17 +15,11 @@ held-number-requires c κs = search needs
 kept-requires-2 : tie.Need-kept-requires-2
 kept-requires-2 c κs = search needs
 
-element-copy-out-kept-3 : tie.Need-element-copy-out-kept-3
-element-copy-out-kept-3 c = search needs
-
 cast-kept : tie.Need-cast-kept
 cast-kept c = search needs
 
 kept-requires-3 : tie.Need-kept-requires-3
 kept-requires-3 c κs = search needs
-
-element-copy-out-kept-4 : tie.Need-element-copy-out-kept-4
-element-copy-out-kept-4 c = search needs
 
 cast-kept-2 : tie.Need-cast-kept-2
 cast-kept-2 c = search needs
@@ -67,16 +55,12 @@ pub put-slot-spec : {M : Type 1} → statement M
 put-slot-spec =
     tie.close
     (tie.spec
-    element-copy-out-kept
     flag-number-requires
     kept-requires
-    element-copy-out-kept-2
     held-number-requires
     kept-requires-2
-    element-copy-out-kept-3
     cast-kept
     kept-requires-3
-    element-copy-out-kept-4
     cast-kept-2
     kept-requires-4
     element-write-state
