@@ -3,6 +3,7 @@
 // Every function is total: a place past the end holds nothing, and an empty text has a stated answer.
 ghost use mathlib.Core.Path.{_≡_};
 ghost use mathlib.Core.List.{[], _∷_};
+ghost use Prim.Native.Nat.{_+_, _*_, _≤_};
 ghost use Rattle.text.specs.Text.{stands, findIn};
 ghost use Rattle.lines.specs.Lines.{fixedText};
 ghost use Rattle.parser.specs.Parser.{lineEnding, isDigit, digitsAt, tailAt, numericAt, customPrompt, wrapped, breaksOff, noticeText};
@@ -38,28 +39,39 @@ fn wide(b: u8) -> u32
     b as u32
 }
 
+// A code with one digit more, without a multiply (R-5): ten times the code is eight times and twice it.
+fn appended(code: u32, twice: u32, digit: u32) -> u32
+    requires { ⌜ (code ≤ 65535) × ((twice ≡ code * 2) × (digit ≤ 9)) ⌝ }
+    ensures { λ r. ⌜ r ≡ code * 10 + digit ⌝ }
+{
+    (code << 3) + twice + digit
+}
+
 // A run of digits: its value and its end, or that it is over 65,535.
 pub enum Run {
     Value(u32, usize),
     TooLarge,
 }
 
-// The longest run of digits from `from` on. With no digit there its value is 0 and it ends at `from`.
+// The longest run of digits from `from` on. With no digit there its value is 0 and it ends at `from`. Twice the code is made where the code is, a digit before it
+// is used: of eight times and twice a number in one sum an optimising compiler makes a multiply again.
 fn digits_at(buf: &[u8], from: usize) -> Run
     ensures { λ r. ⌜ r ≡ digitsAt (now (buf .entry)) from ⌝ }
 {
     let mut i = from;
     let mut code: u32 = 0;
+    let mut twice: u32 = 0;
     while i < buf.len() {
         let b = buf[i];
         if !is_digit(b) {
             return Run::Value(code, i);
         }
-        let next = code * 10 + (wide(b) - 48);
+        let next = appended(code, twice, wide(b) - 48);
         if 65535 < next {
             return Run::TooLarge;
         }
         code = next;
+        twice = next << 1;
         i += 1;
     }
     Run::Value(code, i)

@@ -1,6 +1,6 @@
--- `digits_at` meets its contract: the run from `from` on is the run from i on, with the value so far. The measure is what is left of buf.
-use mathlib.Core.Path.{sym, _∙_}
-use Prim.Native.Nat.{_-_}
+-- `digits_at` meets its contract: the run from `from` on is the run from i on, with the value so far, beside which its double is kept. The measure is what is left of buf.
+use mathlib.Core.Path.{_≡_, refl, sym, _∙_}
+use Prim.Native.Nat.{_*_, _-_}
 use lib.ListN.{length}
 use borrow.Author.Tests.{not-true, not-false}
 use Rattle.parser.specs.Laws.{Sofar, sofar-none, run-end, run-stop, run-large, run-more, digit-bounds}
@@ -10,13 +10,13 @@ use Rattle.parser.proofs.digits_at.Statement.{statement}
 use Rattle.parser.proofs.digits_at.Tie as tie
 
 abbrev Inv-loop : tie.InvT-loop
-Inv-loop buf from i₀ code₀ i code = Sofar buf from i code
+Inv-loop buf from i₀ code₀ twice₀ i code twice = Sofar buf from i code × (twice ≡ code * 2)
 
 abbrev μ-loop : tie.MeasureT-loop
-μ-loop buf from i₀ code₀ i code = length buf - i
+μ-loop buf from i₀ code₀ twice₀ i code twice = length buf - i
 
 loop-holds : tie.Need-loop-holds Inv-loop μ-loop
-loop-holds c = sofar-none _ _
+loop-holds c = (sofar-none _ _, refl)
 
 shared-slice-read-b : tie.Need-shared-slice-read-b Inv-loop μ-loop
 shared-slice-read-b c = omega arith
@@ -28,34 +28,29 @@ returns : tie.Need-returns Inv-loop μ-loop
 returns c =
     let loop = c .before .before .before .before .loop in
     let loop-test = c .before .before .before .loop-test in
-    run-stop _ _ _ _ (loop .inv) (loop-test .taken) (sym (c .before .is-digit .ensures) ∙ not-true _ (c .if1 .taken))
-
-mul-next : tie.Need-mul-next Inv-loop μ-loop
-mul-next c =
-    let loop = c .before .before .before .before .loop in
-    record { fits = omega (arith, loop .inv .small) }
+    run-stop _ _ _ _ (loop .inv .0) (loop-test .taken) (sym (c .before .is-digit .ensures) ∙ not-true _ (c .if1 .taken))
 
 wide-requires : tie.Need-wide-requires Inv-loop μ-loop
 wide-requires c κs = search needs
 
-sub-next : tie.Need-sub-next Inv-loop μ-loop
-sub-next c =
+sub-appended : tie.Need-sub-appended Inv-loop μ-loop
+sub-appended c =
     let is-digit = c .before .before .is-digit in
     omega (arith, c .wide .ensures, digit-bounds _ (sym (is-digit .ensures) ∙ not-false _ (c .before .if1 .left)))
 
-add-next : tie.Need-add-next Inv-loop μ-loop
-add-next c =
+appended-requires : tie.Need-appended-requires Inv-loop μ-loop
+appended-requires c κs =
     let loop = c .before .before .before .before .before .loop in
     let is-digit = c .before .before .is-digit in
-    record { fits = omega (arith, loop .inv .small, c .wide .ensures, digit-bounds _ (sym (is-digit .ensures) ∙ not-false _ (c .before .if1 .left))) }
+    (loop .inv .0 .small, (loop .inv .1, omega (arith, c .wide .ensures, digit-bounds _ (sym (is-digit .ensures) ∙ not-false _ (c .before .if1 .left)))))
 
 returns-2 : tie.Need-returns-2 Inv-loop μ-loop
 returns-2 c =
-    let loop = c .before .before .before .before .before .before .loop in
-    let loop-test = c .before .before .before .before .before .loop-test in
-    let is-digit = c .before .before .before .is-digit in
-    let if1 = c .before .before .if1 in
-    run-large _ _ _ _ (loop .inv) (loop-test .taken) (sym (is-digit .ensures) ∙ not-false _ (if1 .left)) _ (c .before .wide .ensures) (omega arith)
+    let loop = c .before .before .before .before .before .before .before .loop in
+    let loop-test = c .before .before .before .before .before .before .loop-test in
+    let is-digit = c .before .before .before .before .is-digit in
+    let if1 = c .before .before .before .if1 in
+    run-large _ _ _ _ (loop .inv .0) (loop-test .taken) (sym (is-digit .ensures) ∙ not-false _ (if1 .left)) _ (c .before .before .wide .ensures) (omega (arith, c .before .appended .ensures))
 
 add-i : tie.Need-add-i Inv-loop μ-loop
 add-i c = omega arith
@@ -65,14 +60,14 @@ loop-less c = omega arith
 
 loop-again : tie.Need-loop-again Inv-loop μ-loop
 loop-again c =
-    let loop = c .before .before .before .before .before .before .loop in
-    let loop-test = c .before .before .before .before .before .loop-test in
-    let is-digit = c .before .before .before .is-digit in
-    let if1 = c .before .before .if1 in
-    run-more _ _ _ _ (loop .inv) (loop-test .taken) (sym (is-digit .ensures) ∙ not-false _ (if1 .left)) _ (c .before .wide .ensures) (omega arith)
+    let loop = c .before .before .before .before .before .before .before .loop in
+    let loop-test = c .before .before .before .before .before .before .loop-test in
+    let is-digit = c .before .before .before .before .is-digit in
+    let if1 = c .before .before .before .if1 in
+    (rw (c .before .appended .ensures) (run-more _ _ _ _ (loop .inv .0) (loop-test .taken) (sym (is-digit .ensures) ∙ not-false _ (if1 .left)) _ (c .before .before .wide .ensures) (omega (arith, c .before .appended .ensures))), omega arith)
 
 returns-3 : tie.Need-returns-3 Inv-loop μ-loop
-returns-3 c = run-end _ _ _ _ (c .before .loop .inv) (c .loop-test .left)
+returns-3 c = run-end _ _ _ _ (c .before .loop .inv .0) (c .loop-test .left)
 
 pub digits-at-spec : {M : Type 1} → statement M
 digits-at-spec =
@@ -84,10 +79,9 @@ digits-at-spec =
     shared-slice-read-b
     is-digit-requires
     returns
-    mul-next
     wide-requires
-    sub-next
-    add-next
+    sub-appended
+    appended-requires
     returns-2
     add-i
     loop-less
