@@ -39,7 +39,7 @@ fn wide(b: u8) -> u32
     b as u32
 }
 
-// A code with one digit more, without a multiply (R-5): ten times the code is eight times and twice it.
+// A code with one digit more, without a multiply (R-5): ten times the code is eight times and twice it. It is at most 655,359.
 fn appended(code: u32, twice: u32, digit: u32) -> u32
     requires { ⌜ (code ≤ 65535) × ((twice ≡ code * 2) × (digit ≤ 9)) ⌝ }
     ensures { λ r. ⌜ r ≡ code * 10 + digit ⌝ }
