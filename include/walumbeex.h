@@ -65,8 +65,9 @@ extern "C" {
 #endif
 
 /* The version of this header: one more whenever a function's parameters, an array's length or the meaning of a number in one changes. An archive of another version
- * may take an array for longer than it is, so compare before any other call. */
-#define WX_VERSION 1u
+ * may take an array for longer than it is, so compare before any other call.
+ * Version 2: a numeric error has its digits, at out[5] and out[6] of wx_digest and in the slot; WX_OUT, 5 before, is 7. */
+#define WX_VERSION 2u
 
 /* What a function that returns uint32_t returns (but wx_version): 0, or the number of the refusal. Of those that a call can give, the lowest is given.
  * A refusal of 1 to 4 leaves every number and byte as it stood, but for out[0] at WX_BAD_TABLE. */
@@ -99,21 +100,23 @@ enum {
     WX_SIGNALLED = 1,  /* the slot: 0 free, any other number signalled */
     WX_HELD = 2,       /* what the slot holds: 0 to 13 a kind as below, 14 CapacityError; a number over 14 reads as 14 */
     WX_NUMBER = 3,     /* the held answer's number: a CME or CMS code, a prompt byte, a custom error's table number; else 0 */
-    WX_LEN = 4,        /* how many bytes of the slot's memory, from its front on, are the held payload */
+    WX_LEN = 4,        /* how many bytes of the slot's memory, from its front on, are the held payload or digits */
     WX_SLOT_LOST = 5,  /* answers lost because the slot was signalled; it stays at 4,294,967,295 */
     WX_START = 6,      /* the queue: the place of its oldest record in the ring */
     WX_COUNT = 7,      /* how many records it holds */
     WX_QUEUE_LOST = 8  /* notices lost for a payload of 0 or over 128 bytes; it stays at 4,294,967,295 */
 };
 
-/* The kinds of an answer. A number over 13 that is handed in as a kind reads as WX_NONE. */
+/* The kinds of an answer. A number over 13 that is handed in as a kind reads as WX_NONE.
+ * WX_CME, WX_CMS and WX_UNKNOWN are the numeric errors. Their digits are those of the line as they came, leading zeros included, of which there may be any
+ * number: of `+CME ERROR: 0010` the number is 10, and the digits are 0010. Their payload is empty. */
 enum {
     WX_NONE = 0,
     WX_OK = 1,           /* OK, CONNECT or a custom success; it has a payload */
     WX_PROMPT = 2,       /* number: the prompt byte */
-    WX_CME = 3,          /* number: the code of +CME ERROR */
-    WX_CMS = 4,          /* number: the code of +CMS ERROR */
-    WX_UNKNOWN = 5,      /* MODEM ERROR */
+    WX_CME = 3,          /* number: the code of +CME ERROR; it has digits */
+    WX_CMS = 4,          /* number: the code of +CMS ERROR; it has digits */
+    WX_UNKNOWN = 5,      /* MODEM ERROR; it has digits, and no number */
     WX_NOT_ALLOWED = 6,  /* NA */
     WX_ERROR = 7,        /* ERROR or COMMAND NOT SUPPORT */
     WX_NO_CARRIER = 8,
@@ -122,12 +125,13 @@ enum {
     WX_NO_DIALTONE = 11,
     WX_CUSTOM = 12,      /* a custom error; number: its record in the table; it has a payload */
     WX_NOTICE = 13,      /* number: its record in the table; it has a payload */
-    WX_CAPACITY = 14     /* in WX_HELD and wx_slot_lookup only: the answer's payload was longer than the slot's memory */
+    WX_CAPACITY = 14     /* in WX_HELD and wx_slot_lookup only: the answer's payload was longer than the slot's memory; digits that are longer
+                            are left out, and the error is held */
 };
 
 /* What a call answers: it stands at the front of `out`, whose other numbers stay as they were.
  * A refused call answers what stands beside its number above, and no more. */
-#define WX_OUT 5
+#define WX_OUT 7
 
 /* The archive's version, to be compared with WX_VERSION. An archive that lacks it is older than version 1. */
 uint32_t wx_version(void);
@@ -140,12 +144,13 @@ uint32_t wx_table_check(const uint8_t *table, size_t table_len, uint64_t out[WX_
 
 /* Digests an input once.
  * out[0]: the kind; out[1]: its number, 0 where the kind has none; out[2], out[3]: the payload's place in the input and its
- * length; out[4]: the bytes consumed. At WX_BAD_TABLE out[0] is the first faulty record's number and the others stay.
+ * length; out[4]: the bytes consumed; out[5], out[6]: the digits' place in the input and how many there are, for WX_CME, WX_CMS and
+ * WX_UNKNOWN, else 0 and 0. At WX_BAD_TABLE out[0] is the first faulty record's number and the others stay.
  * Refusals: WX_TOO_LONG, WX_BAD_TABLE. */
 uint32_t wx_digest(const uint8_t *table, size_t table_len, const uint8_t *input, size_t input_len, uint64_t out[WX_OUT]);
 
-/* The payload of an answer as a part of the input.
- * place, len: out[2] and out[3] of wx_digest, or any two numbers.
+/* The payload of an answer, or its digits, as a part of the input.
+ * place, len: out[2] and out[3] of wx_digest for the payload, out[5] and out[6] for the digits, or any two numbers.
  * out[0], out[1]: the part's place in the input and its length: place and len where they fit, else 0 and 0. */
 void wx_payload(const uint8_t *input, size_t input_len, size_t place, size_t len, uint64_t out[WX_OUT]);
 
@@ -153,17 +158,19 @@ void wx_payload(const uint8_t *input, size_t input_len, size_t place, size_t len
 void wx_slot_new(uint64_t state[WX_NUMBERS]);
 
 /* Signals an answer to the slot.
- * answer: five numbers as wx_digest leaves them in `out` (kind, number, place, length, consumed; the last three aren't used).
- * payload, payload_len: the answer's payload, used for WX_OK and WX_CUSTOM only.
- * mem, mem_len: the slot's memory. A free slot stores the answer, with the payload at the memory's front, or holds WX_CAPACITY
- * where that is longer than the memory; on a signalled slot the answer is lost and counted; WX_NONE and WX_NOTICE change nothing.
+ * answer: seven numbers as wx_digest leaves them in `out` (kind, number, and five that aren't used).
+ * payload, payload_len: the answer's payload for WX_OK and WX_CUSTOM, its digits for WX_CME, WX_CMS and WX_UNKNOWN (any bytes: they
+ * aren't examined); not used for the others.
+ * mem, mem_len: the slot's memory. A free slot stores the answer, with these bytes at the memory's front. Where they are longer than
+ * the memory, none is stored and LEN is 0: for a payload WX_CAPACITY is held, for digits the error and its number as ever.
+ * On a signalled slot the answer is lost and counted; WX_NONE and WX_NOTICE change nothing.
  * Refusals: WX_BAD_STATE. */
 uint32_t wx_slot_signal(uint64_t state[WX_NUMBERS], const uint64_t answer[WX_OUT], const uint8_t *payload, size_t payload_len,
                         uint8_t *mem, size_t mem_len);
 
 /* Looks at the slot, which changes nothing.
- * out[0]: 1 where the slot is signalled; then out[1] is what it holds (a kind or WX_CAPACITY), out[2] its number and out[3] its
- * payload's length. Of a free slot out[0] is 0 and the others stay.
+ * out[0]: 1 where the slot is signalled; then out[1] is what it holds (a kind or WX_CAPACITY), out[2] its number and out[3] the
+ * length of its payload or digits. Of a free slot out[0] is 0 and the others stay.
  * Refusals: WX_BAD_STATE. */
 uint32_t wx_slot_lookup(const uint64_t state[WX_NUMBERS], const uint8_t *mem, size_t mem_len, uint64_t out[WX_OUT]);
 
@@ -171,7 +178,7 @@ uint32_t wx_slot_lookup(const uint64_t state[WX_NUMBERS], const uint8_t *mem, si
  * Refusals: WX_BAD_STATE. */
 uint32_t wx_slot_reset(uint64_t state[WX_NUMBERS], const uint8_t *mem, size_t mem_len);
 
-/* The payload that a signalled slot holds, as a part of the slot's memory.
+/* The payload that a signalled slot holds, or the digits, as a part of the slot's memory.
  * out[0]: its place there, which is 0; out[1]: its length, 0 of a free slot and where LEN is past the memory. */
 void wx_slot_payload(const uint64_t state[WX_NUMBERS], const uint8_t *mem, size_t mem_len, uint64_t out[WX_OUT]);
 

@@ -1,5 +1,6 @@
 #!/usr/bin/env python3
-"""An executable reading of document 01 (the scope), written from its text: it shares no line with the Rattle code or its definitions.
+"""An executable reading of document 01 (the scope) and of the change requests that landed, written from their text: it shares no line with the Rattle
+code or its definitions.
 
 It reads the lines that the program compare reads and prints what it must print:
     tests/model.py < crates/compare/stdin     the origin of crates/compare/stdout
@@ -58,11 +59,20 @@ def is_text(text):
 # ---- the rules of one digest ----
 
 class Answer:
-    """Kind, number (None where it has none), payload's place and length in the input, bytes consumed."""
+    """Kind, number (None where it has none), payload's place and length in the input, bytes consumed; of a numeric error, which "must also tell where its
+    digits stand and how many there are", their place and length (R-2), else 0 and 0."""
 
-    def __init__(self, kind, number, place, length, consumed):
+    def __init__(self, kind, number, place, length, consumed, digits_at=0, digits=0):
         self.kind, self.number, self.length, self.consumed = kind, number, length, consumed
         self.place = place if length else 0  # "A payload of length 0, or none, has place 0"
+        self.digits = digits
+        self.digits_at = digits_at if digits else 0  # reading: as for payloads
+
+    def handed_on(self, s):
+        """The bytes of s that go along: "Every caller of it hands this on"; else the payload."""
+        if self.kind in NUMERIC:
+            return s[self.digits_at:self.digits_at + self.digits]
+        return s[self.place:self.place + self.length]
 
 
 def trimmed(s, start, end):
@@ -91,7 +101,7 @@ def digest(records, s):
 
 def moved(a, d):
     """An answer about the bytes from d on, as one about the whole."""
-    return Answer(a.kind, a.number, a.place + d, a.length, a.consumed + d)
+    return Answer(a.kind, a.number, a.place + d, a.length, a.consumed + d, a.digits_at + d, a.digits)
 
 
 def notices(records, buf):
@@ -156,6 +166,7 @@ def prompts(records, buf):
     return None
 
 
+NUMERIC = ("cme", "cms", "unknown")
 FIXED = ((b"ERROR", "error"), (b"COMMAND NOT SUPPORT", "error"), (b"NO CARRIER", "nocarrier"), (b"BUSY", "busy"),
          (b"NO ANSWER", "noanswer"), (b"NO DIALTONE", "nodialtone"))
 
@@ -181,7 +192,7 @@ def errors(records, buf):
 
 
 def numeric(buf, head, kind):
-    """A numeric error of rule 5: CRLF and the head at its first occurrence, run blanks, digits, LF or CRLF."""
+    """A numeric error of rule 5: CRLF and the head at its first occurrence, run blanks, digits ("leading zeros included", R-2), LF or CRLF."""
     at = buf.find(CRLF + head)
     if at < 0:
         return None
@@ -195,9 +206,9 @@ def numeric(buf, head, kind):
         return None
     number = None if kind == "unknown" else int(buf[start:at])
     if buf[at:at + 1] == b"\n":
-        return Answer(kind, number, 0, 0, at + 1)
+        return Answer(kind, number, 0, 0, at + 1, start, at - start)
     if buf[at:at + 2] == CRLF:
-        return Answer(kind, number, 0, 0, at + 2)
+        return Answer(kind, number, 0, 0, at + 2, start, at - start)
     return None
 
 
@@ -228,7 +239,7 @@ class World:
             raise Refused(3)
 
     def signal(self, kind, number, payload):
-        """A signal: stored on a free slot, counted as lost on a signalled one."""
+        """A signal, with its payload or, of a numeric error, its digits: stored on a free slot, counted as lost on a signalled one."""
         self.slot_fits()
         if kind in ("none", "notice"):
             return
@@ -237,9 +248,11 @@ class World:
             return
         self.signalled = True
         self.kind, self.number, self.length = kind, number, 0
-        if kind not in ("ok", "custom"):
+        if kind not in ("ok", "custom") + NUMERIC:
             return
         if len(payload) > len(self.slot_mem):
+            if kind in NUMERIC:
+                return  # R-2: "Digits longer than the slot's memory are left out and their length is 0"
             self.kind, self.number = "capacity", None  # reading: a custom error that becomes CapacityError stores no number
             return
         self.slot_mem[:len(payload)] = payload
@@ -315,11 +328,10 @@ class World:
         while self.end > 0:
             held = bytes(self.buf[:self.end])
             a = digest(records, held)
-            payload = held[a.place:a.place + a.length]
             if a.kind == "notice":
-                self.put(a.number, payload)
+                self.put(a.number, a.handed_on(held))
             else:
-                self.signal(a.kind, a.number, payload)
+                self.signal(a.kind, a.number, a.handed_on(held))
             rest = held[a.consumed:]
             self.buf[:len(rest)] = rest
             self.end = len(rest)
@@ -399,7 +411,11 @@ def op_of(text):
     letter, rest = text[:1], text[1:]
     if letter in ("W", "A", "O"):
         return letter, data_of(rest)
-    limits = {"M": MOST, "P": 255, "E": 65535}
+    if letter == "E":
+        code, comma, digits = rest.partition(",")
+        n = number_of(code, 65535)
+        return letter, (n, data_of(digits) if comma else b"%d" % n)
+    limits = {"M": MOST, "P": 255}
     if letter in limits:
         return letter, number_of(rest, limits[letter])
     if letter in ("C", "R", "T", "L", "B"):
@@ -429,8 +445,10 @@ def perform(w, letter, x):
         w.end = 0  # "Clear takes the end alone, makes it 0 and has no refusal"
     elif letter == "R":
         w.reset()
+    elif letter == "E":
+        w.signal("cme", *x)
     else:
-        w.signal({"O": "ok", "P": "prompt", "E": "cme", "B": "busy"}[letter], x if letter in "PE" else None, x if letter == "O" else b"")
+        w.signal({"O": "ok", "P": "prompt", "B": "busy"}[letter], x if letter == "P" else None, x if letter == "O" else b"")
     return "done"
 
 
@@ -481,7 +499,8 @@ def digest_case(table, data):
     if isinstance(records, int):
         return "refused 2 %d" % records
     a = digest(records, data)
-    return "%s %s %d %d %d" % (a.kind, dashed(a.number), a.place, a.length, a.consumed)
+    said = "%s %s %d %d %d" % (a.kind, dashed(a.number), a.place, a.length, a.consumed)
+    return said + (" digits %d %d" % (a.digits_at, a.digits) if a.digits else "")
 
 
 def started(w, text):

@@ -6,10 +6,10 @@ use crate::{BUFFER, QUEUE, SLOT};
 use std::hint::black_box;
 
 extern "C" {
-    fn wx_digest(table: *const u8, table_len: usize, input: *const u8, input_len: usize, out: *mut [u64; 5]) -> u32;
+    fn wx_digest(table: *const u8, table_len: usize, input: *const u8, input_len: usize, out: *mut [u64; 7]) -> u32;
     fn wx_slot_new(state: *mut [u64; 9]);
-    fn wx_slot_signal(state: *mut [u64; 9], answer: *const [u64; 5], payload: *const u8, payload_len: usize, mem: *mut u8, mem_len: usize) -> u32;
-    fn wx_slot_lookup(state: *const [u64; 9], mem: *const u8, mem_len: usize, out: *mut [u64; 5]) -> u32;
+    fn wx_slot_signal(state: *mut [u64; 9], answer: *const [u64; 7], payload: *const u8, payload_len: usize, mem: *mut u8, mem_len: usize) -> u32;
+    fn wx_slot_lookup(state: *const [u64; 9], mem: *const u8, mem_len: usize, out: *mut [u64; 7]) -> u32;
     fn wx_slot_reset(state: *mut [u64; 9], mem: *const u8, mem_len: usize) -> u32;
     fn wx_queue_new(state: *mut [u64; 9]);
     fn wx_ingress_clear(state: *mut [u64; 9]);
@@ -25,21 +25,21 @@ extern "C" {
         slot_mem_len: usize,
         queue_mem: *mut u8,
         queue_mem_len: usize,
-        out: *mut [u64; 5],
+        out: *mut [u64; 7],
     ) -> u32;
 }
 
 /// The refusal's number, 0 for none; the answer stands in `out`.
 #[inline]
-pub fn digest(table: &[u8], input: &[u8], out: &mut [u64; 5]) -> u32 {
-    // SAFETY: each pointer and length is a slice's own, and `out` is a lent array of five.
+pub fn digest(table: &[u8], input: &[u8], out: &mut [u64; 7]) -> u32 {
+    // SAFETY: each pointer and length is a slice's own, and `out` is a lent array of seven.
     unsafe { wx_digest(table.as_ptr(), table.len(), input.as_ptr(), input.len(), out) }
 }
 
 /// A digest, ready to be called.
 pub fn digesting(table: Vec<u8>, input: &'static [u8]) -> Box<dyn FnMut()> {
     Box::new(move || {
-        let mut out = [0; 5];
+        let mut out = [0; 7];
         black_box(digest(&table, black_box(input), &mut out));
         black_box(out);
     })
@@ -47,10 +47,11 @@ pub fn digesting(table: Vec<u8>, input: &'static [u8]) -> Box<dyn FnMut()> {
 
 /// What is heard in the input, in the crate's types.
 pub fn heard(table: &[u8], input: &[u8]) -> Heard {
-    let mut out = [0; 5];
+    let mut out = [0; 7];
     let refusal = digest(table, input, &mut out);
     assert_eq!(refusal, 0, "our digest refused a workload");
-    let [kind, number, place, len, consumed] = out;
+    // The crate tells no digits.
+    let [kind, number, place, len, consumed, ..] = out;
     let (kind, number) = in_its_type(kind, number);
     Heard { kind, number, place: place as usize, len: len as usize, consumed: consumed as usize }
 }
@@ -105,7 +106,7 @@ impl Ears for Ingress {
 
     #[inline]
     fn write(&mut self, piece: &[u8]) -> usize {
-        let mut out = [0; 5];
+        let mut out = [0; 7];
         // SAFETY: each pointer and length is a slice's own; the lent memories are four different vectors.
         let refusal = unsafe {
             wx_ingress_write(
@@ -129,7 +130,7 @@ impl Ears for Ingress {
 
     #[inline]
     fn signal(&mut self, payload: &[u8]) {
-        let answer = [1, 0, 0, payload.len() as u64, 0];
+        let answer = [1, 0, 0, payload.len() as u64, 0, 0, 0];
         // SAFETY: as above.
         let refusal = unsafe { wx_slot_signal(&mut self.state, &answer, payload.as_ptr(), payload.len(), self.slot_mem.as_mut_ptr(), self.slot_mem.len()) };
         assert_eq!(refusal, 0, "our slot refused a signal");
@@ -143,7 +144,7 @@ impl Ears for Ingress {
     }
 
     fn held(&mut self) -> Held {
-        let mut out = [0; 5];
+        let mut out = [0; 7];
         // SAFETY: as above.
         let refusal = unsafe { wx_slot_lookup(&self.state, self.slot_mem.as_ptr(), self.slot_mem.len(), &mut out) };
         assert_eq!(refusal, 0, "our slot refused a look");
@@ -151,7 +152,9 @@ impl Ears for Ingress {
             return Held::nothing();
         }
         let (kind, number) = in_its_type(out[1], out[2]);
-        Held { kind, number, payload: self.slot_mem[..out[3] as usize].to_vec() }
+        // What is held of a numeric error are its digits, of which the crate tells none.
+        let len = if matches!(out[1], 3..=5) { 0 } else { out[3] as usize };
+        Held { kind, number, payload: self.slot_mem[..len].to_vec() }
     }
 
     fn waiting(&mut self) -> Vec<u8> {

@@ -12,7 +12,7 @@
 #define TABLE "UR\7+UUSORD"
 
 /* A caller's arrays are of this length: where one of these changes, so does the version. */
-#if WX_VERSION != 1u || WX_NUMBERS != 9 || WX_OUT != 5
+#if WX_VERSION != 2u || WX_NUMBERS != 9 || WX_OUT != 7
 #error "an array has changed: raise WX_VERSION and wx_version, and write the new lengths here"
 #endif
 
@@ -56,17 +56,24 @@ static const struct example {
     size_t input_len;
     uint64_t kind, number;
     const char *payload;
-    uint64_t consumed;
+    uint64_t consumed, digits_place;
+    const char *digits;
 } examples[] = {
 #define EXAMPLE(table, input, kind, number, payload, consumed) \
-    {table, sizeof table - 1, input, sizeof input - 1, kind, number, payload, consumed}
+    {table, sizeof table - 1, input, sizeof input - 1, kind, number, payload, consumed, 0, ""}
+#define NUMERIC(input, kind, number, consumed, digits_place, digits) \
+    {"", 0, input, sizeof input - 1, kind, number, "", consumed, digits_place, digits}
     EXAMPLE("", "", WX_NONE, 0, "", 0),
     EXAMPLE("", "   ", WX_NONE, 0, "", 3),
     EXAMPLE("", "\r\nOK\r\n", WX_OK, 0, "", 6),
     EXAMPLE("", "\r\nERROR\r\n\r\nOK\r\n", WX_OK, 0, "ERROR", 15),
-    EXAMPLE("", "\r\n+CME ERROR: 65535\r\n", WX_CME, 65535, "", 21),
+    NUMERIC("\r\n+CME ERROR: 65535\r\n", WX_CME, 65535, 21, 14, "65535"),
     EXAMPLE("", "\r\n+CME ERROR: 65536\r\n", WX_NONE, 0, "", 0),
-    EXAMPLE("", "\r\n+CMS ERROR:\t7\n", WX_CMS, 7, "", 16),
+    NUMERIC("\r\n+CMS ERROR:\t7\n", WX_CMS, 7, 16, 14, "7"),
+    NUMERIC("\r\n+CME ERROR: 0010\r\n", WX_CME, 10, 20, 14, "0010"),
+    NUMERIC("x\r\n+CME ERROR: 99999\r\n\r\n+CME ERROR: 0010\r\n", WX_CME, 10, 42, 36, "0010"),
+    NUMERIC("\r\nMODEM ERROR:007\n", WX_UNKNOWN, 0, 18, 14, "007"),
+    NUMERIC("\r\n+CMS ERROR:\r\n \t 00\r\n", WX_CMS, 0, 22, 18, "00"),
     EXAMPLE("", ">\r\n", WX_NONE, 0, "", 1),
     EXAMPLE("", "\r\na>b\r\n>", WX_PROMPT, '>', "", 8),
     EXAMPLE("", "x\r\n\r\nNA\r\n", WX_NOT_ALLOWED, 0, "", 9),
@@ -77,23 +84,35 @@ static const struct example {
     EXAMPLE(TABLE, "\r\n+UUSORD: >", WX_PROMPT, '>', "", 12),
 };
 
+/* wx_payload gives what a digest has named. */
+static void part_of(const struct example *e, uint64_t place, uint64_t len, const char *expected)
+{
+    const uint8_t *input = (const uint8_t *)e->input;
+    uint64_t part[WX_OUT];
+    reset_to_was(part, WX_OUT);
+    wx_payload(input, e->input_len, place, len, part);
+    same("payload, place", part[0], place);
+    same("payload, length", part[1], len);
+    for (size_t i = 2; i < WX_OUT; i++)
+        same("payload, the rest", part[i], WAS);
+    same_bytes("payload", input + part[0], expected, part[1]);
+}
+
 static void digest(void)
 {
-    uint64_t out[WX_OUT], part[WX_OUT];
+    uint64_t out[WX_OUT];
     for (size_t i = 0; i < sizeof examples / sizeof examples[0]; i++) {
         const struct example *e = &examples[i];
-        const uint8_t *input = (const uint8_t *)e->input;
-        same("digest", wx_digest((const uint8_t *)e->table, e->table_len, input, e->input_len, out), WX_DONE);
+        reset_to_was(out, WX_OUT);
+        same("digest", wx_digest((const uint8_t *)e->table, e->table_len, (const uint8_t *)e->input, e->input_len, out), WX_DONE);
         same("digest, kind", out[0], e->kind);
         same("digest, number", out[1], e->number);
         same("digest, payload's length", out[3], strlen(e->payload));
         same("digest, consumed", out[4], e->consumed);
-        reset_to_was(part, WX_OUT);
-        wx_payload(input, e->input_len, out[2], out[3], part);
-        same("payload, place", part[0], out[2]);
-        same("payload, length", part[1], out[3]);
-        same("payload, the rest", part[2], WAS);
-        same_bytes("payload", input + part[0], e->payload, part[1]);
+        same("digest, digits' place", out[5], e->digits_place);
+        same("digest, digits' length", out[6], strlen(e->digits));
+        part_of(e, out[2], out[3], e->payload);
+        part_of(e, out[5], out[6], e->digits);
     }
 }
 
@@ -104,18 +123,18 @@ static void digest_refusals(void)
     uint64_t out[WX_OUT];
     reset_to_was(out, WX_OUT);
     same("4,097 bytes", wx_digest(faulty, sizeof faulty - 1, longest, sizeof longest, out), WX_TOO_LONG);
-    OUT("4,097 bytes", WAS, WAS, WAS, WAS, WAS);
+    OUT("4,097 bytes", WAS, WAS, WAS, WAS, WAS, WAS, WAS);
     same("a faulty table", wx_digest(faulty, sizeof faulty - 1, input, sizeof input - 1, out), WX_BAD_TABLE);
-    OUT("a faulty table", 1, WAS, WAS, WAS, WAS);
+    OUT("a faulty table", 1, WAS, WAS, WAS, WAS, WAS, WAS);
     same("4,096 bytes", wx_digest(faulty, 0, longest, WX_LONGEST, out), WX_DONE);
-    OUT("4,096 bytes", WX_NONE, 0, 0, 0, 0);
+    OUT("4,096 bytes", WX_NONE, 0, 0, 0, 0, 0, 0);
     reset_to_was(out, WX_OUT);
     wx_payload(input, 6, 2, 5, out);
-    OUT("a part that doesn't fit", 0, 0, WAS, WAS, WAS);
+    OUT("a part that doesn't fit", 0, 0, WAS, WAS, WAS, WAS, WAS);
     wx_payload(input, 6, SIZE_MAX, SIZE_MAX, out);
-    OUT("a part past all memory", 0, 0, WAS, WAS, WAS);
+    OUT("a part past all memory", 0, 0, WAS, WAS, WAS, WAS, WAS);
     wx_payload(input, 6, 2, 4, out);
-    OUT("a part that just fits", 2, 4, WAS, WAS, WAS);
+    OUT("a part that just fits", 2, 4, WAS, WAS, WAS, WAS, WAS);
 }
 
 /* The deepest retry; the test gives it the stack that the header says. */
@@ -126,7 +145,7 @@ static void deepest(void)
     for (size_t i = 0; i < WX_LONGEST; i++)
         crlfs[i] = i % 2 == 0 ? '\r' : '\n';
     same("2,048 CRLFs", wx_digest(crlfs, 0, crlfs, WX_LONGEST, out), WX_DONE);
-    OUT("2,048 CRLFs", WX_NONE, 0, 0, 0, 0);
+    OUT("2,048 CRLFs", WX_NONE, 0, 0, 0, 0, 0, 0);
 }
 
 static void table_check(void)
@@ -135,13 +154,13 @@ static void table_check(void)
     uint64_t out[WX_OUT];
     reset_to_was(out, WX_OUT);
     same("the empty table", wx_table_check(good, 0, out), WX_DONE);
-    OUT("the empty table", 0, WAS, WAS, WAS, WAS);
+    OUT("the empty table", 0, WAS, WAS, WAS, WAS, WAS, WAS);
     same("a table of two", wx_table_check(good, sizeof good - 1, out), WX_DONE);
-    OUT("a table of two", 2, WAS, WAS, WAS, WAS);
+    OUT("a table of two", 2, WAS, WAS, WAS, WAS, WAS, WAS);
     same("the header's example", wx_table_check((const uint8_t *)"UR\7+UUSORD" "CS\7SHUT OK" "CP$\5SEND:", 29, out), WX_DONE);
-    OUT("the header's example", 3, WAS, WAS, WAS, WAS);
+    OUT("the header's example", 3, WAS, WAS, WAS, WAS, WAS, WAS);
     same("an empty text", wx_table_check(faulty, sizeof faulty - 1, out), WX_BAD_TABLE);
-    OUT("an empty text", 1, WAS, WAS, WAS, WAS);
+    OUT("an empty text", 1, WAS, WAS, WAS, WAS, WAS, WAS);
 }
 
 static void slot(void)
@@ -153,7 +172,7 @@ static void slot(void)
     wx_slot_new(state);
     STATE("a new slot", WAS, 0, WX_OK, 0, 0, 0, WAS, WAS, WAS);
     same("a look at a free slot", wx_slot_lookup(state, mem, sizeof mem, out), WX_DONE);
-    OUT("a look at a free slot", 0, WAS, WAS, WAS, WAS);
+    OUT("a look at a free slot", 0, WAS, WAS, WAS, WAS, WAS, WAS);
 
     static const uint64_t ok[WX_OUT] = {WX_OK, 0, 2, 3, 9}, cme[WX_OUT] = {WX_CME, 10, 0, 0, 9}, none[WX_OUT] = {WX_NONE};
     same("a signal", wx_slot_signal(state, ok, (const uint8_t *)"xyz", 3, mem, sizeof mem), WX_DONE);
@@ -163,14 +182,14 @@ static void slot(void)
     same("a signal of None", wx_slot_signal(state, none, (const uint8_t *)"", 0, mem, sizeof mem), WX_DONE);
     STATE("a signal that is lost", WAS, 1, WX_OK, 0, 3, 1, WAS, WAS, WAS);
     same("a look", wx_slot_lookup(state, mem, sizeof mem, out), WX_DONE);
-    OUT("a look", 1, WX_OK, 0, 3, WAS);
+    OUT("a look", 1, WX_OK, 0, 3, WAS, WAS, WAS);
     reset_to_was(out, WX_OUT);
     wx_slot_payload(state, mem, sizeof mem, out);
-    OUT("the stored payload", 0, 3, WAS, WAS, WAS);
+    OUT("the stored payload", 0, 3, WAS, WAS, WAS, WAS, WAS);
     same("a reset", wx_slot_reset(state, mem, sizeof mem), WX_DONE);
     STATE("a reset", WAS, 0, WX_OK, 0, 3, 1, WAS, WAS, WAS);
     wx_slot_payload(state, mem, sizeof mem, out);
-    OUT("a free slot's payload", 0, 0, WAS, WAS, WAS);
+    OUT("a free slot's payload", 0, 0, WAS, WAS, WAS, WAS, WAS);
     same("a long Ok", wx_slot_signal(state, ok, (const uint8_t *)"12345", 5, mem, sizeof mem), WX_DONE);
     STATE("a long Ok", WAS, 1, WX_CAPACITY, 0, 0, 1, WAS, WAS, WAS);
     same_bytes("a long Ok, memory", mem, "xyzd", 4);
@@ -178,12 +197,12 @@ static void slot(void)
     state[WX_LEN] = 5;
     reset_to_was(out, WX_OUT);
     same("a length past the memory, look", wx_slot_lookup(state, mem, sizeof mem, out), WX_BAD_STATE);
-    OUT("a length past the memory, look", WAS, WAS, WAS, WAS, WAS);
+    OUT("a length past the memory, look", WAS, WAS, WAS, WAS, WAS, WAS, WAS);
     same("a length past the memory, reset", wx_slot_reset(state, mem, sizeof mem), WX_BAD_STATE);
     same("a length past the memory, signal", wx_slot_signal(state, ok, (const uint8_t *)"x", 1, mem, sizeof mem), WX_BAD_STATE);
     STATE("a length past the memory", WAS, 1, WX_CAPACITY, 0, 5, 1, WAS, WAS, WAS);
     wx_slot_payload(state, mem, sizeof mem, out);
-    OUT("a length past the memory, payload", 0, 0, WAS, WAS, WAS);
+    OUT("a length past the memory, payload", 0, 0, WAS, WAS, WAS, WAS, WAS);
 
     /* numbers out of plain form: what a call doesn't change stays as it stood */
     state[WX_SIGNALLED] = 7, state[WX_HELD] = 99, state[WX_NUMBER] = UINT64_MAX, state[WX_LEN] = 3, state[WX_SLOT_LOST] = UINT64_MAX;
@@ -192,6 +211,56 @@ static void slot(void)
     STATE("out of plain form, signals", WAS, 7, 99, UINT64_MAX, 3, UINT64_MAX, WAS, WAS, WAS);
     same("out of plain form, reset", wx_slot_reset(state, mem, sizeof mem), WX_DONE);
     STATE("out of plain form, reset", WAS, 0, 99, UINT64_MAX, 3, UINT64_MAX, WAS, WAS, WAS);
+}
+
+/* The digits of a numeric error in memories that are too short for them, just long enough, and longer. */
+static void slot_digits(void)
+{
+    static const struct {
+        size_t mem_len;
+        uint64_t len;
+        const char *mem;
+    } cases[] = {{3, 0, "abcdef"}, {4, 4, "0010ef"}, {6, 4, "0010ef"}};
+    /* what stands behind the number isn't used */
+    static const uint64_t cme[WX_OUT] = {WX_CME, 10, WAS, WAS, WAS, WAS, WAS}, cms[WX_OUT] = {WX_CMS, 7};
+    for (size_t i = 0; i < sizeof cases / sizeof cases[0]; i++) {
+        const size_t mem_len = cases[i].mem_len;
+        uint64_t state[WX_NUMBERS], out[WX_OUT];
+        uint8_t mem[] = {'a', 'b', 'c', 'd', 'e', 'f'};
+        reset_to_was(state, WX_NUMBERS);
+        reset_to_was(out, WX_OUT);
+        wx_slot_new(state);
+        same("digits", wx_slot_signal(state, cme, (const uint8_t *)"0010", 4, mem, mem_len), WX_DONE);
+        STATE("digits", WAS, 1, WX_CME, 10, cases[i].len, 0, WAS, WAS, WAS);
+        same_bytes("digits, memory", mem, cases[i].mem, sizeof mem);
+        same("digits, look", wx_slot_lookup(state, mem, mem_len, out), WX_DONE);
+        OUT("digits, look", 1, WX_CME, 10, cases[i].len, WAS, WAS, WAS);
+        reset_to_was(out, WX_OUT);
+        wx_slot_payload(state, mem, mem_len, out);
+        OUT("digits, payload", 0, cases[i].len, WAS, WAS, WAS, WAS, WAS);
+        same("digits that are lost", wx_slot_signal(state, cms, (const uint8_t *)"07", 2, mem, mem_len), WX_DONE);
+        STATE("digits that are lost", WAS, 1, WX_CME, 10, cases[i].len, 1, WAS, WAS, WAS);
+        same_bytes("digits that are lost, memory", mem, cases[i].mem, sizeof mem);
+    }
+}
+
+/* A signal's bytes aren't examined, and of a kind without payload or digits none is stored. */
+static void slot_bytes(void)
+{
+    static const struct {
+        uint64_t kind, number, len;
+        const char *mem;
+    } cases[] = {{WX_CMS, 7, 2, "x?cd"}, {WX_UNKNOWN, 0, 2, "x?cd"}, {WX_NOT_ALLOWED, 0, 0, "abcd"}, {WX_ERROR, 0, 0, "abcd"}};
+    for (size_t i = 0; i < sizeof cases / sizeof cases[0]; i++) {
+        const uint64_t answer[WX_OUT] = {cases[i].kind, 7};
+        uint64_t state[WX_NUMBERS];
+        uint8_t mem[] = {'a', 'b', 'c', 'd'};
+        reset_to_was(state, WX_NUMBERS);
+        wx_slot_new(state);
+        same("any bytes", wx_slot_signal(state, answer, (const uint8_t *)"x?", 2, mem, sizeof mem), WX_DONE);
+        STATE("any bytes", WAS, 1, cases[i].kind, cases[i].number, cases[i].len, 0, WAS, WAS, WAS);
+        same_bytes("any bytes, memory", mem, cases[i].mem, sizeof mem);
+    }
 }
 
 static void queue(void)
@@ -212,10 +281,10 @@ static void queue(void)
     same("a long notice", wx_queue_put(state, mem, sizeof mem, 6, longer, sizeof longer), WX_DONE);
     STATE("a long notice", WAS, WAS, WAS, WAS, WAS, WAS, 0, 1, 1);
     same("a take", wx_queue_take(state, mem, sizeof mem, out), WX_DONE);
-    OUT("a take", 1, 5, 4, 4, WAS);
+    OUT("a take", 1, 5, 4, 4, WAS, WAS, WAS);
     reset_to_was(out, WX_OUT);
     same("an empty queue", wx_queue_take(state, mem, sizeof mem, out), WX_DONE);
-    OUT("an empty queue", 0, WAS, WAS, WAS, WAS);
+    OUT("an empty queue", 0, WAS, WAS, WAS, WAS, WAS, WAS);
     STATE("an empty queue", WAS, WAS, WAS, WAS, WAS, WAS, 0, 0, 1);
     state[WX_START] = 1;
     same("a start past the ring, take", wx_queue_take(state, mem, sizeof mem, out), WX_BAD_STATE);
@@ -239,17 +308,17 @@ static void ingress(void)
     STATE("a first state", 0, 0, WX_OK, 0, 0, 0, 0, 0, 0);
     reset_to_was(out, WX_OUT);
     same("a write", wx_ingress_write(state, answer, sizeof answer - 1, WITH_TABLE, MEMORIES), WX_DONE);
-    OUT("a write", sizeof answer - 1, WAS, WAS, WAS, WAS);
+    OUT("a write", sizeof answer - 1, WAS, WAS, WAS, WAS, WAS, WAS);
     STATE("a write", 0, 1, WX_OK, 0, 11, 0, 0, 0, 0);
     same_bytes("a write, the slot's memory", slot_mem, "+CSQ: 17,99", 11);
 
     same("a full queue", wx_ingress_write(state, notices, sizeof notices - 1, WITH_TABLE, MEMORIES), WX_FULL);
-    OUT("a full queue", sizeof notices - 1, WAS, WAS, WAS, WAS);
+    OUT("a full queue", sizeof notices - 1, WAS, WAS, WAS, WAS, WAS, WAS);
     STATE("a full queue", 14, 1, WX_OK, 0, 11, 0, 0, 1, 0);
     same_bytes("a full queue, the buffer", buf, "\r\n+UUSORD: 2\r\n", 14);
     same("still full", wx_ingress_advance(state, 0, WITH_TABLE, MEMORIES), WX_FULL);
     same("the first notice", wx_queue_take(state, queue_mem, sizeof queue_mem, out), WX_DONE);
-    OUT("the first notice", 1, 0, 4, 10, WAS);
+    OUT("the first notice", 1, 0, 4, 10, WAS, WAS, WAS);
     same_bytes("the first notice", queue_mem + 4, "+UUSORD: 1", 10);
     same("going on", wx_ingress_advance(state, 0, WITH_TABLE, MEMORIES), WX_DONE);
     STATE("going on", 0, 1, WX_OK, 0, 11, 0, 0, 1, 0);
@@ -263,14 +332,42 @@ static void ingress(void)
     same("a buffer of 4,097 bytes",
          wx_ingress_write(state, answer, 1, WITH_TABLE, too_long, sizeof too_long, slot_mem, sizeof slot_mem, queue_mem, sizeof queue_mem, out),
          WX_TOO_LONG);
-    OUT("refused", WAS, WAS, WAS, WAS, WAS);
+    OUT("refused", WAS, WAS, WAS, WAS, WAS, WAS, WAS);
     same("a faulty table", wx_ingress_write(state, answer, 1, faulty, 2, MEMORIES), WX_BAD_TABLE);
-    OUT("a faulty table", 0, WAS, WAS, WAS, WAS);
+    OUT("a faulty table", 0, WAS, WAS, WAS, WAS, WAS, WAS);
     STATE("refused", 4, 1, WX_OK, 0, 11, 0, 0, 1, 0);
     state[WX_END] = 65;
     same("an end past the buffer", wx_ingress_advance(state, 0, WITH_TABLE, MEMORIES), WX_BAD_STATE);
     wx_ingress_clear(state);
     STATE("a clear", 0, 1, WX_OK, 0, 11, 0, 0, 1, 0);
+}
+
+/* The ingress hands the digits on to the slot. */
+static void ingress_digits(void)
+{
+    static const struct {
+        const char *piece;
+        uint64_t kind, number, len;
+        const char *mem;
+    } cases[] = {
+        {"\r\n+CME ERROR: 0010\r\n", WX_CME, 10, 4, "0010ef"},
+        {"\r\n+CMS ERROR: 0000500\r\n", WX_CMS, 500, 0, "abcdef"},
+        {"\r\nMODEM ERROR:007\n", WX_UNKNOWN, 0, 3, "007def"},
+        {"\r\nMODEM ERROR: 0000007\n", WX_UNKNOWN, 0, 0, "abcdef"},
+    };
+    for (size_t i = 0; i < sizeof cases / sizeof cases[0]; i++) {
+        const uint8_t *piece = (const uint8_t *)cases[i].piece;
+        uint64_t state[WX_NUMBERS], out[WX_OUT];
+        uint8_t buf[64], slot_mem[] = {'a', 'b', 'c', 'd', 'e', 'f'}, queue_mem[WX_RECORD];
+        wx_slot_new(state);
+        wx_queue_new(state);
+        wx_ingress_clear(state);
+        reset_to_was(out, WX_OUT);
+        same("digits handed on", wx_ingress_write(state, piece, strlen(cases[i].piece), piece, 0, MEMORIES), WX_DONE);
+        OUT("digits handed on", strlen(cases[i].piece), WAS, WAS, WAS, WAS, WAS, WAS);
+        STATE("digits handed on", 0, 1, cases[i].kind, cases[i].number, cases[i].len, 0, 0, 0, 0);
+        same_bytes("digits handed on, the slot's memory", slot_mem, cases[i].mem, sizeof slot_mem);
+    }
 }
 
 /* What the header says of a cut: the same bytes, whole and cut behind the @. */
@@ -303,8 +400,11 @@ int main(void)
     digest_refusals();
     deepest();
     slot();
+    slot_digits();
+    slot_bytes();
     queue();
     ingress();
+    ingress_digits();
     cut();
     if (differences == 0)
         puts("exports: every function of walumbeex.h answered as document 01 says");

@@ -4,7 +4,7 @@
  *
  * The device is read as it is set; `stty -F DEVICE raw 115200` sets it. A NOTICE is a line that is that text, or the text, `:` and more: +CREG hears
  * "+CREG: 1"; +IPD doesn't hear "+IPD,12:abc". A > or @ is a prompt where for MS milliseconds nothing follows it: 200, which is more than lies between two bytes
- * of a line, also where an adapter gathers them.
+ * of a line, also where an adapter gathers them. An error's digits are printed as they came.
  * Status 0: the input came to its end; 1: it could not be read, or the output not be written, or a call was refused; 2: wrong usage. */
 #include "walumbeex.h"
 
@@ -55,17 +55,17 @@ static void escaped(FILE *to, const uint8_t *bytes, size_t n)
     }
 }
 
-/* A line for what was heard: its name, its number where the kind has one, its payload. */
-static void print(uint64_t kind, uint64_t number, const uint8_t *payload, size_t len)
+/* A line for what was heard: its name, a prompt's byte, its payload, an error's digits as they came, or its code where the memory was too short for them. */
+static void print(uint64_t kind, uint64_t number, const uint8_t *bytes, size_t len)
 {
     printf("%s", names[kind]);
-    if (kind == WX_CME || kind == WX_CMS)
+    if ((kind == WX_CME || kind == WX_CMS) && len == 0)
         printf(" %llu", (unsigned long long)number);
     if (kind == WX_PROMPT)
         printf(" %c", (int)number);
     if (len > 0)
         putchar(' ');
-    escaped(stdout, payload, len);
+    escaped(stdout, bytes, len);
     putchar('\n');
     if (fflush(stdout) != 0)
         stop("standard output can't be written");

@@ -89,7 +89,7 @@ fn judge(case: &Case, ours: &str, theirs: &str) -> Verdict {
         }
     }
     Verdict::Other(match case {
-        Case::Digest { .. } => in_words(&ours, theirs, &["kind", "number", "place", "length", "consumed"]),
+        Case::Digest { .. } => in_words(&ours, theirs, &["kind", "number", "place", "length", "consumed", "digits", "digits' place", "digits' length"]),
         Case::Ingress { ops, .. } => in_calls(&ours, theirs, ops),
     })
 }

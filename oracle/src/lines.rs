@@ -36,6 +36,18 @@ fn error(e: InternalError<'_>) -> Said<'_> {
     }
 }
 
+/// The digits with which a numeric error ends that the crate consumed: what stands in front of its line ending. The crate doesn't tell them, so this is the
+/// harness's reading. NA, which is a CME code in the crate's types, has none.
+pub fn digits_of<'a>(answer: &DigestResult<'_>, consumed: &'a [u8]) -> &'a [u8] {
+    if !matches!(answer, DigestResult::Response(Err(InternalError::CmeError(_) | InternalError::CmsError(_)))) {
+        return &[];
+    }
+    let line = consumed.strip_suffix(b"\n").unwrap_or(consumed);
+    let line = line.strip_suffix(b"\r").unwrap_or(line);
+    let others = line.iter().rposition(|b| !b.is_ascii_digit()).map_or(0, |at| at + 1);
+    &line[others..]
+}
+
 /// What a digest answered.
 pub fn of_digest(answer: DigestResult<'_>) -> Said<'_> {
     match answer {

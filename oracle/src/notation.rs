@@ -21,7 +21,8 @@ pub enum Op {
     Take,
     Okay(Vec<u8>),
     Prompt(u8),
-    Cme(u16),
+    /// A CME code, and its digits where they aren't its own in decimal.
+    Cme(u16, Option<Vec<u8>>),
     Busy,
 }
 
@@ -60,12 +61,22 @@ fn read_op(op: &[u8]) -> Option<Op> {
         b'O' => Some(Op::Okay(bytes(rest)?)),
         b'M' => Some(Op::Over(number(rest, u32::MAX)?)),
         b'P' => Some(Op::Prompt(number(rest, 255)? as u8)),
-        b'E' => Some(Op::Cme(number(rest, 65_535)? as u16)),
+        b'E' => read_code(rest),
         b'C' if rest.is_empty() => Some(Op::Clear),
         b'R' if rest.is_empty() => Some(Op::Reset),
         b'T' if rest.is_empty() => Some(Op::Take),
         b'B' if rest.is_empty() => Some(Op::Busy),
         _ => None,
+    }
+}
+
+/// A CME code, and behind a comma its digits.
+fn read_code(field: &[u8]) -> Option<Op> {
+    let mut parts = field.splitn(2, |&b| b == b',');
+    let code = number(parts.next()?, 65_535)? as u16;
+    match parts.next() {
+        None => Some(Op::Cme(code, None)),
+        Some(digits) => Some(Op::Cme(code, Some(bytes(digits)?))),
     }
 }
 
@@ -130,7 +141,8 @@ impl fmt::Display for Op {
             Op::Take => f.write_str("T"),
             Op::Okay(b) => write!(f, "O{}", Hex(b)),
             Op::Prompt(n) => write!(f, "P{n}"),
-            Op::Cme(n) => write!(f, "E{n}"),
+            Op::Cme(n, None) => write!(f, "E{n}"),
+            Op::Cme(n, Some(digits)) => write!(f, "E{n},{}", Hex(digits)),
             Op::Busy => f.write_str("B"),
         }
     }

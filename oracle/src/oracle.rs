@@ -32,7 +32,11 @@ fn digest(table: &[u8], input: &[u8]) -> (String, Origin) {
         Ok(said) => said,
         Err(place) => return (format!("panic {place}"), Origin::Panic),
     };
+    let digits = lines::digits_of(&answer, &input[..consumed]);
     let said = lines::of_digest(answer);
-    let line = format!("{} {} {} {} {consumed}", said.kind, said.number(), said.place(input), said.payload.len());
+    let mut line = format!("{} {} {} {} {consumed}", said.kind, said.number(), said.place(input), said.payload.len());
+    if !digits.is_empty() {
+        line += &format!(" digits {} {}", digits.as_ptr() as usize - input.as_ptr() as usize, digits.len());
+    }
     (line, if tokens::asked_us() { Origin::Ours } else { Origin::Crate })
 }

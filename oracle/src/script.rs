@@ -1,6 +1,7 @@
 //! An ingress case: the crate's Ingress, ResponseSlot and try_write under a script, and what the harness keeps beside them.
 //!
-//! The harness's part: refusals 1 and 2; the queue's ring in its memory; the slot's memory; the lost counts (the crate's log lines
+//! The harness's part: refusals 1 and 2; the queue's ring in its memory; the slot's memory; the digits of a numeric error, there and by their length, since
+//! the crate doesn't tell them; the lost counts (the crate's log lines
 //! of losses, counted); the bytes taken at refusal 5 (the commits that the crate's try_write made, added up); and at refusal 4,
 //! where the crate panics by its `assert!`, that the end is put back where it was.
 
@@ -52,6 +53,7 @@ fn run_in<const N: usize>(table: &[u8], buffer: &[u8], slot: &[u8], queue: &[u8]
         let mut ingress = Ingress::new(Tokens::new(), &mut buffer, &response, &channel);
         for op in ops {
             atat::fmt::losses();
+            tokens::first_digits();
             let end_before = room - ingress.write_buf().len();
             let part = match op {
                 Op::Put(bytes) if bytes.len() <= room - end_before => {
@@ -71,7 +73,7 @@ fn run_in<const N: usize>(table: &[u8], buffer: &[u8], slot: &[u8], queue: &[u8]
                     Ok("done".to_owned())
                 }
                 Op::Okay(bytes) => Ok(beside.signal(reach::signal_response(&response, Ok(bytes)).is_err())),
-                Op::Cme(n) => Ok(beside.signal(reach::signal_response(&response, Err(InternalError::CmeError(CmeError::from(*n)))).is_err())),
+                Op::Cme(n, _) => Ok(beside.signal(reach::signal_response(&response, Err(InternalError::CmeError(CmeError::from(*n)))).is_err())),
                 Op::Busy => Ok(beside.signal(reach::signal_response(&response, Err(InternalError::ConnectionError(ConnectionError::Busy))).is_err())),
                 Op::Prompt(n) => Ok(beside.signal(reach::signal_prompt(&response, *n).is_err())),
             };
@@ -85,7 +87,7 @@ fn run_in<const N: usize>(table: &[u8], buffer: &[u8], slot: &[u8], queue: &[u8]
                 }
                 Err(place) => return (format!("{said}panic {place}"), Origin::Panic),
             }
-            beside.look(&response, &channel);
+            beside.look(&response, &channel, &digits_of(op));
         }
         end = room - ingress.write_buf().len();
     }
@@ -95,10 +97,21 @@ fn run_in<const N: usize>(table: &[u8], buffer: &[u8], slot: &[u8], queue: &[u8]
     (format!("{said} end {end} buffer {} {}", Hex(&buffer), beside.state()), origin)
 }
 
+/// The digits that go with what a call signals first.
+fn digits_of(op: &Op) -> Vec<u8> {
+    match op {
+        Op::Cme(_, Some(digits)) => digits.clone(),
+        Op::Cme(n, None) => n.to_string().into_bytes(),
+        _ => tokens::first_digits(),
+    }
+}
+
 /// What the harness keeps beside the crate.
 struct Beside {
     slot_memory: Vec<u8>,
     is_signalled: bool,
+    /// The digits stored with what is held; none where they are longer than the memory.
+    digits: Vec<u8>,
     held: String,
     answers_lost: u32,
     queue_memory: Vec<u8>,
@@ -112,7 +125,8 @@ impl Beside {
         Self {
             slot_memory: slot.to_vec(),
             is_signalled: false,
-            held: held(&Response::<0>::default()),
+            digits: Vec::new(),
+            held: held(&Response::<0>::default(), &[]),
             answers_lost: 0,
             queue_memory: queue.to_vec(),
             start: 0,
@@ -137,17 +151,22 @@ impl Beside {
         }
     }
 
-    /// After a call: reads the slot where it is signalled, as what a free one holds can't be read, and writes down the notices that have come.
-    fn look<const N: usize>(&mut self, response: &ResponseSlot<N>, channel: &Channel) {
+    /// After a call that signalled an answer with these digits, if any: reads the slot where it is signalled, as what a free one holds can't be read, and
+    /// writes down the notices that have come.
+    fn look<const N: usize>(&mut self, response: &ResponseSlot<N>, channel: &Channel, digits: &[u8]) {
         let (answers, notices) = atat::fmt::losses();
         self.answers_lost += answers;
         self.notices_lost += notices;
         let now = response.try_get();
+        if !self.is_signalled {
+            self.digits = if digits.len() > self.slot_memory.len() { Vec::new() } else { digits.to_vec() };
+        }
         self.is_signalled = now.is_some();
         if let Some(now) = now {
-            self.held = held(&now);
+            self.held = held(&now, &self.digits);
             let payload = lines::of_response(&now).payload;
             self.slot_memory[..payload.len()].copy_from_slice(payload);
+            self.slot_memory[..self.digits.len()].copy_from_slice(&self.digits);
         }
         for notice in channel.behind(self.count) {
             let capacity = (self.queue_memory.len() / RECORD).min(MOST_RECORDS);
@@ -173,10 +192,10 @@ impl Beside {
     }
 }
 
-/// Kind, number and length of what a slot holds.
-fn held<const N: usize>(response: &Response<N>) -> String {
+/// Kind, number and length of what a slot holds: its payload's, or its digits'.
+fn held<const N: usize>(response: &Response<N>, digits: &[u8]) -> String {
     let said = lines::of_response(response);
-    format!("{} {} {}", said.kind, said.number(), said.payload.len())
+    format!("{} {} {}", said.kind, said.number(), said.payload.len() + digits.len())
 }
 
 type Running<'a, const N: usize> = Ingress<'a, Tokens, Notice, N, 0, 1>;

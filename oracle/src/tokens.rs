@@ -4,6 +4,7 @@
 //! Notices go through the crate's own `try_urc` and `urc_helper`, in table order. Custom successes, errors and prompts are
 //! functions that a user of the crate writes: those here are ours, written by document 01, and no evidence about the crate.
 
+use crate::lines;
 use crate::table::{Mark, Record};
 use atat::digest::parser::{try_urc, urc_helper};
 use atat::digest::ParseError;
@@ -16,6 +17,12 @@ thread_local! {
     static MATCHED: Cell<usize> = const { Cell::new(0) };
     static ASKED_US: Cell<bool> = const { Cell::new(false) };
     static IS_QUIET: Cell<bool> = const { Cell::new(false) };
+    static FIRST_DIGITS: RefCell<Option<Vec<u8>>> = const { RefCell::new(None) };
+}
+
+/// The digits of the first answer for the slot since the last call of this: those that a free slot is to store.
+pub fn first_digits() -> Vec<u8> {
+    FIRST_DIGITS.take().unwrap_or_default()
 }
 
 /// Lays the table of the next case open.
@@ -132,7 +139,13 @@ impl Digester for Tokens {
         if IS_QUIET.get() {
             return (DigestResult::None, 0);
         }
-        self.0.digest(buf)
+        let (answer, consumed) = self.0.digest(buf);
+        if !matches!(answer, DigestResult::None | DigestResult::Urc(_)) {
+            FIRST_DIGITS.with_borrow_mut(|first| {
+                first.get_or_insert_with(|| lines::digits_of(&answer, &buf[..consumed]).to_vec());
+            });
+        }
+        (answer, consumed)
     }
 }
 

@@ -5,7 +5,8 @@
 //!
 //! The device is read as it is set; `stty -F DEVICE raw 115200` sets it. A NOTICE is a line that is that text, or the text, `:` and
 //! more: +CREG hears `+CREG: 1`; +IPD doesn't hear `+IPD,12:abc`. A `>` or `@` is a prompt where for MS milliseconds nothing
-//! follows it: 200, which is more than lies between two bytes of a line, also where an adapter gathers them.
+//! follows it: 200, which is more than lies between two bytes of a line, also where an adapter gathers them. An error's digits are
+//! printed as they came.
 //!
 //! Status 0: the input came to its end; 1: it could not be read, or the output not be written, or a call was refused; 2: wrong
 //! usage.
@@ -37,6 +38,14 @@ fn print(line: &str) -> Result<(), Box<dyn Error>> {
     writeln!(io::stdout(), "{line}").map_err(|e| format!("standard output can't be written: {e}").into())
 }
 
+/// The digits of a code as they came; the code where the slot's memory was too short for them.
+fn number(code: u16, digits: &[u8]) -> String {
+    if digits.is_empty() {
+        return code.to_string();
+    }
+    digits.escape_ascii().to_string()
+}
+
 /// Prints the answer that is held, behind the notices that came before it, and frees the slot.
 fn answer(ingress: &mut Ingress<'_>) -> Result<(), Box<dyn Error>> {
     if !ingress.res_slot.signalled() {
@@ -49,9 +58,9 @@ fn answer(ingress: &mut Ingress<'_>) -> Result<(), Box<dyn Error>> {
         Some(Response::Prompt(byte)) => print(&format!("prompt      {}", byte.escape_ascii()))?,
         Some(Response::CapacityError) => print("too long    an answer that the memory for it does not hold")?,
         Some(Response::OtherError) => print("error")?,
-        Some(Response::CmeError(code)) => print(&format!("cme error   {code}"))?,
-        Some(Response::CmsError(code)) => print(&format!("cms error   {code}"))?,
-        Some(Response::UnknownError) => print("modem error")?,
+        Some(Response::CmeError { code, digits }) => print(&format!("cme error   {}", number(code, digits)))?,
+        Some(Response::CmsError { code, digits }) => print(&format!("cms error   {}", number(code, digits)))?,
+        Some(Response::UnknownError { digits }) => print(&format!("modem error {}", digits.escape_ascii()))?,
         Some(Response::NotAllowedError) => print("not allowed")?,
         Some(Response::ConnectionError(e)) => print(&format!("connection  {e}"))?,
         Some(Response::CustomError { text, .. }) => print(&format!("error       {}", text.escape_ascii()))?,

@@ -5,7 +5,7 @@ use crate::{ffi, Refusal, Table};
 /// The most bytes that one digest takes, and the longest buffer of an ingress.
 pub const LONGEST_INPUT: usize = 4096;
 
-/// What the bytes from a modem were; the cases are atat's, and a payload is a part of the caller's own input.
+/// What the bytes from a modem were; the cases are atat's, and a payload or an error's digits are a part of the caller's own input.
 #[derive(Debug, Clone, Copy, PartialEq, Eq)]
 pub enum DigestResult<'a> {
     /// A notice of the token table.
@@ -28,16 +28,40 @@ pub struct Urc<'a> {
 }
 
 /// An error that a modem answered. The names are atat's; codes stay the numbers that were read.
+///
+/// A numeric error has its digits too, as they came: a maker's sheet may have `0010` where the code is 10. Its words have the
+/// digits, or the code where there are none.
+///
+/// ```
+/// use walumbeex::InternalError;
+/// let error = InternalError::CmeError { code: 10, digits: b"0010" };
+/// assert_eq!(error.to_string(), "GSM Equipment related error 0010");
+/// let error = InternalError::CmeError { code: 10, digits: b"" };
+/// assert_eq!(error.to_string(), "GSM Equipment related error 10");
+/// ```
 #[derive(Debug, Clone, Copy, PartialEq, Eq)]
 pub enum InternalError<'a> {
     /// `ERROR` or `COMMAND NOT SUPPORT`.
     Error,
     /// `+CME ERROR: n`.
-    CmeError(u16),
+    CmeError {
+        /// The number that was read.
+        code: u16,
+        /// Its digits as they came, leading zeros included.
+        digits: &'a [u8],
+    },
     /// `+CMS ERROR: n`.
-    CmsError(u16),
+    CmsError {
+        /// The number that was read.
+        code: u16,
+        /// Its digits as they came, leading zeros included.
+        digits: &'a [u8],
+    },
     /// `MODEM ERROR: n` (atat folds it into a CME error).
-    Unknown,
+    Unknown {
+        /// The digits of `n` as they came, leading zeros included.
+        digits: &'a [u8],
+    },
     /// `NA` (atat folds it into a CME error).
     NotAllowed,
     /// `NO CARRIER`, `BUSY`, `NO ANSWER` or `NO DIALTONE`.
@@ -79,9 +103,12 @@ impl fmt::Display for InternalError<'_> {
     fn fmt(&self, f: &mut fmt::Formatter<'_>) -> fmt::Result {
         match self {
             Self::Error => f.write_str("Generic error response"),
-            Self::CmeError(code) => write!(f, "GSM Equipment related error {code}"),
-            Self::CmsError(code) => write!(f, "GSM Network related error {code}"),
-            Self::Unknown => f.write_str("Modem error"),
+            Self::CmeError { code, digits: [] } => write!(f, "GSM Equipment related error {code}"),
+            Self::CmeError { digits, .. } => write!(f, "GSM Equipment related error {}", digits.escape_ascii()),
+            Self::CmsError { code, digits: [] } => write!(f, "GSM Network related error {code}"),
+            Self::CmsError { digits, .. } => write!(f, "GSM Network related error {}", digits.escape_ascii()),
+            Self::Unknown { digits: [] } => f.write_str("Modem error"),
+            Self::Unknown { digits } => write!(f, "Modem error {}", digits.escape_ascii()),
             Self::NotAllowed => f.write_str("Not allowed"),
             Self::ConnectionError(e) => write!(f, "Connection Error: {e}"),
             Self::Custom { record, text } => write!(f, "Custom error match: record {record}, {}", text.escape_ascii()),
@@ -111,14 +138,14 @@ pub(crate) mod kind {
     pub(crate) const CAPACITY: u64 = 14;
 }
 
-/// The answer of a kind, its number and its payload. Codes are at most 65,535, records at most 63, prompts bytes.
-pub(crate) fn answer(kind: u64, number: u64, payload: &[u8]) -> DigestResult<'_> {
+/// The answer of a kind, its number, its payload and its digits. Codes are at most 65,535, records at most 63, prompts bytes.
+pub(crate) fn answer<'a>(kind: u64, number: u64, payload: &'a [u8], digits: &'a [u8]) -> DigestResult<'a> {
     let error = match kind {
         kind::OK => return DigestResult::Response(Ok(payload)),
         kind::PROMPT => return DigestResult::Prompt(number as u8),
-        kind::CME => InternalError::CmeError(number as u16),
-        kind::CMS => InternalError::CmsError(number as u16),
-        kind::UNKNOWN => InternalError::Unknown,
+        kind::CME => InternalError::CmeError { code: number as u16, digits },
+        kind::CMS => InternalError::CmsError { code: number as u16, digits },
+        kind::UNKNOWN => InternalError::Unknown { digits },
         kind::NOT_ALLOWED => InternalError::NotAllowed,
         kind::ERROR => InternalError::Error,
         kind::NO_CARRIER => InternalError::ConnectionError(ConnectionError::NoCarrier),
@@ -132,7 +159,7 @@ pub(crate) fn answer(kind: u64, number: u64, payload: &[u8]) -> DigestResult<'_>
     DigestResult::Response(Err(error))
 }
 
-/// The kind, number and payload of an answer: `answer` the other way.
+/// The kind and number of an answer, and its payload or digits: `answer` the other way.
 pub(crate) fn parts<'a>(result: &DigestResult<'a>) -> (u64, u64, &'a [u8]) {
     match *result {
         DigestResult::None => (kind::NONE, 0, &[]),
@@ -141,9 +168,9 @@ pub(crate) fn parts<'a>(result: &DigestResult<'a>) -> (u64, u64, &'a [u8]) {
         DigestResult::Response(Ok(payload)) => (kind::OK, 0, payload),
         DigestResult::Response(Err(error)) => match error {
             InternalError::Error => (kind::ERROR, 0, &[]),
-            InternalError::CmeError(code) => (kind::CME, code.into(), &[]),
-            InternalError::CmsError(code) => (kind::CMS, code.into(), &[]),
-            InternalError::Unknown => (kind::UNKNOWN, 0, &[]),
+            InternalError::CmeError { code, digits } => (kind::CME, code.into(), digits),
+            InternalError::CmsError { code, digits } => (kind::CMS, code.into(), digits),
+            InternalError::Unknown { digits } => (kind::UNKNOWN, 0, digits),
             InternalError::NotAllowed => (kind::NOT_ALLOWED, 0, &[]),
             InternalError::ConnectionError(ConnectionError::NoCarrier) => (kind::NO_CARRIER, 0, &[]),
             InternalError::ConnectionError(ConnectionError::Busy) => (kind::BUSY, 0, &[]),
@@ -208,15 +235,16 @@ impl<'t> Digester<'t> {
     /// use walumbeex::{Digester, DigestResult, InternalError, Table};
     /// let digester = Digester::new(Table::empty());
     /// assert_eq!(
-    ///     digester.digest(b"\r\n+CME ERROR: 10\r\n"),
-    ///     Ok((DigestResult::Response(Err(InternalError::CmeError(10))), 18))
+    ///     digester.digest(b"\r\n+CME ERROR: 0010\r\n"),
+    ///     Ok((DigestResult::Response(Err(InternalError::CmeError { code: 10, digits: b"0010" })), 20))
     /// );
     /// assert_eq!(digester.digest(b"\r\nO"), Ok((DigestResult::None, 0)));
     /// assert_eq!(digester.digest(&[0; 4097]).unwrap_err().number(), 1);
     /// ```
     pub fn digest<'a>(&self, input: &'a [u8]) -> Result<(DigestResult<'a>, usize), Refusal> {
-        let [kind, number, place, len, consumed] = ffi::digest(self.table, input)?;
-        Ok((answer(kind, number, part(input, place, len)), consumed as usize))
+        let [kind, number, place, len, consumed, digits_place, digits_len] = ffi::digest(self.table, input)?;
+        let (payload, digits) = (part(input, place, len), part(input, digits_place, digits_len));
+        Ok((answer(kind, number, payload, digits), consumed as usize))
     }
 }
 

@@ -11,7 +11,7 @@
 use crate::Refusal;
 
 /// The version of the calls and arrays below: `WX_VERSION` of `include/walumbeex.h`.
-const VERSION: u32 = 1;
+const VERSION: u32 = 2;
 
 /// The places of a state's nine numbers.
 pub(crate) const END: usize = 0;
@@ -24,8 +24,9 @@ pub(crate) const QUEUE_LOST: usize = 8;
 /// A state's nine numbers.
 pub(crate) type State = [u64; 9];
 
-/// The five numbers that a call may answer.
-pub(crate) type Out = [u64; 5];
+/// The seven numbers that a call may answer.
+const OUT: usize = 7;
+pub(crate) type Out = [u64; OUT];
 
 extern "C" {
     fn wx_table_check(table: *const u8, table_len: usize, out: *mut u64) -> u32;
@@ -105,17 +106,17 @@ fn refused(number: u32, out: &Out, taken: usize) -> Result<(), Refusal> {
 /// How many records a good table has.
 pub(crate) fn table_check(table: &[u8]) -> Result<usize, Refusal> {
     same_version();
-    let mut out: Out = [0; 5];
+    let mut out: Out = [0; OUT];
     // SAFETY: see the head of this file.
     let number = unsafe { wx_table_check(table.as_ptr(), table.len(), out.as_mut_ptr()) };
     refused(number, &out, 0)?;
     Ok(out[0] as usize)
 }
 
-/// Kind, number, payload's place and length, bytes consumed.
+/// Kind, number, payload's place and length, bytes consumed, digits' place and length.
 pub(crate) fn digest(table: &[u8], input: &[u8]) -> Result<Out, Refusal> {
     same_version();
-    let mut out: Out = [0; 5];
+    let mut out: Out = [0; OUT];
     // SAFETY: see the head of this file.
     let number = unsafe { wx_digest(table.as_ptr(), table.len(), input.as_ptr(), input.len(), out.as_mut_ptr()) };
     refused(number, &out, 0)?;
@@ -129,18 +130,17 @@ pub(crate) fn slot_new(state: &mut State) {
     unsafe { wx_slot_new(state.as_mut_ptr()) }
 }
 
-/// An answer and its payload's bytes, signalled.
-pub(crate) fn slot_signal(state: &mut State, answer: &Out, payload: &[u8], mem: &mut [u8]) -> Result<(), Refusal> {
+/// An answer and its bytes, the payload or the digits, signalled.
+pub(crate) fn slot_signal(state: &mut State, answer: &Out, bytes: &[u8], mem: &mut [u8]) -> Result<(), Refusal> {
     // SAFETY: see the head of this file.
-    let number = unsafe {
-        wx_slot_signal(state.as_mut_ptr(), answer.as_ptr(), payload.as_ptr(), payload.len(), mem.as_mut_ptr(), mem.len())
-    };
+    let number =
+        unsafe { wx_slot_signal(state.as_mut_ptr(), answer.as_ptr(), bytes.as_ptr(), bytes.len(), mem.as_mut_ptr(), mem.len()) };
     refused(number, answer, 0)
 }
 
-/// 1, what is held, its number and its payload's length; 0 of a free slot.
+/// 1, what is held, its number and the length of its payload or digits; 0 of a free slot.
 pub(crate) fn slot_lookup(state: &State, mem: &[u8]) -> Result<Out, Refusal> {
-    let mut out: Out = [0; 5];
+    let mut out: Out = [0; OUT];
     // SAFETY: see the head of this file.
     let number = unsafe { wx_slot_lookup(state.as_ptr(), mem.as_ptr(), mem.len(), out.as_mut_ptr()) };
     refused(number, &out, 0)?;
@@ -151,7 +151,7 @@ pub(crate) fn slot_lookup(state: &State, mem: &[u8]) -> Result<Out, Refusal> {
 pub(crate) fn slot_reset(state: &mut State, mem: &[u8]) -> Result<(), Refusal> {
     // SAFETY: see the head of this file.
     let number = unsafe { wx_slot_reset(state.as_mut_ptr(), mem.as_ptr(), mem.len()) };
-    refused(number, &[0; 5], 0)
+    refused(number, &[0; OUT], 0)
 }
 
 /// An empty queue in the state.
@@ -172,12 +172,12 @@ pub(crate) fn queue_put(state: &mut State, mem: &mut [u8], record: u8, payload: 
     // SAFETY: see the head of this file.
     let number =
         unsafe { wx_queue_put(state.as_mut_ptr(), mem.as_mut_ptr(), mem.len(), record, payload.as_ptr(), payload.len()) };
-    refused(number, &[0; 5], 0)
+    refused(number, &[0; OUT], 0)
 }
 
 /// 1, the oldest notice's table number, its payload's place and length; 0 from an empty queue.
 pub(crate) fn queue_take(state: &mut State, mem: &[u8]) -> Result<Out, Refusal> {
-    let mut out: Out = [0; 5];
+    let mut out: Out = [0; OUT];
     // SAFETY: see the head of this file.
     let number = unsafe { wx_queue_take(state.as_mut_ptr(), mem.as_ptr(), mem.len(), out.as_mut_ptr()) };
     refused(number, &out, 0)?;
@@ -193,7 +193,7 @@ pub(crate) fn ingress_advance(
     slot_mem: &mut [u8],
     queue_mem: &mut [u8],
 ) -> Result<(), Refusal> {
-    let mut out: Out = [0; 5];
+    let mut out: Out = [0; OUT];
     // SAFETY: see the head of this file.
     let number = unsafe {
         wx_ingress_advance(
@@ -222,7 +222,7 @@ pub(crate) fn ingress_write(
     slot_mem: &mut [u8],
     queue_mem: &mut [u8],
 ) -> Result<usize, Refusal> {
-    let mut out: Out = [0; 5];
+    let mut out: Out = [0; OUT];
     // SAFETY: see the head of this file.
     let number = unsafe {
         wx_ingress_write(

@@ -129,7 +129,7 @@ impl<'a> Ingress<'a> {
     }
 
     /// The nine numbers of the state: where the bytes in the buffer end; whether the slot is signalled, what it holds, the
-    /// answer's number, the payload's length, the answers lost; the queue's start, its count, the notices lost.
+    /// answer's number, the length of its payload or digits, the answers lost; the queue's start, its count, the notices lost.
     #[must_use]
     pub fn state(&self) -> [u64; 9] {
         let mut state: State = self.res_slot.state;

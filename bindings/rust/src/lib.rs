@@ -9,7 +9,7 @@
 //! | atat | here |
 //! |---|---|
 //! | `AtDigester`, `with_custom_success`, .. | [`Digester`], [`TableBuilder`] |
-//! | `DigestResult`, `InternalError` | [`DigestResult`], [`InternalError`] |
+//! | `DigestResult`, `InternalError` | [`DigestResult`], [`InternalError`], with an error's digits beside its code |
 //! | `Ingress`, `write_buf`, `try_advance`, `try_write`, `clear` | [`Ingress`], with the same calls |
 //! | `ResponseSlot`, `try_get`, `reset`, `Response` | [`ResponseSlot`] at [`Ingress::res_slot`], [`Response`] |
 //! | `UrcChannel` | [`NoticeQueue`] at [`Ingress::notices`], [`Urc`] |

@@ -46,7 +46,7 @@ impl<'m> NoticeQueue<'m> {
     /// Takes the oldest notice; `None` from an empty queue. Refused with 3 where the numbers don't fit the memory or the
     /// record is damaged.
     pub fn take(&mut self) -> Result<Option<Urc<'_>>, Refusal> {
-        let [taken, record, place, len, _] = ffi::queue_take(&mut self.state, self.mem)?;
+        let [taken, record, place, len, ..] = ffi::queue_take(&mut self.state, self.mem)?;
         if taken == 0 {
             return Ok(None);
         }

@@ -2,7 +2,9 @@ use crate::digest::{answer, kind, part, parts};
 use crate::ffi::{self, State, SIGNALLED, SLOT_LOST};
 use crate::{ConnectionError, DigestResult, InternalError, Refusal};
 
-/// What a response slot holds; the cases are atat's, and a payload is a part of the slot's memory.
+/// What a response slot holds; the cases are atat's, and a payload or an error's digits are a part of the slot's memory.
+///
+/// Digits that were longer than the slot's memory are left out: they are empty, and the error and its code are there.
 #[derive(Debug, Clone, Copy, PartialEq, Eq)]
 pub enum Response<'a> {
     /// A success and the bytes before it.
@@ -14,11 +16,24 @@ pub enum Response<'a> {
     /// `ERROR` or `COMMAND NOT SUPPORT`.
     OtherError,
     /// `+CME ERROR: n`.
-    CmeError(u16),
+    CmeError {
+        /// The number that was read.
+        code: u16,
+        /// Its digits as they came, leading zeros included; empty where they were left out.
+        digits: &'a [u8],
+    },
     /// `+CMS ERROR: n`.
-    CmsError(u16),
+    CmsError {
+        /// The number that was read.
+        code: u16,
+        /// Its digits as they came, leading zeros included; empty where they were left out.
+        digits: &'a [u8],
+    },
     /// `MODEM ERROR: n`.
-    UnknownError,
+    UnknownError {
+        /// The digits of `n` as they came, leading zeros included; empty where they were left out.
+        digits: &'a [u8],
+    },
     /// `NA`.
     NotAllowedError,
     /// A connection failed.
@@ -56,7 +71,7 @@ pub struct ResponseSlot<'m> {
 }
 
 impl<'m> ResponseSlot<'m> {
-    /// A free slot, over memory for the payload.
+    /// A free slot, over memory for the payload or the digits.
     #[must_use]
     pub fn new(mem: &'m mut [u8]) -> Self {
         let mut state = [0; 9];
@@ -66,21 +81,23 @@ impl<'m> ResponseSlot<'m> {
 
     /// The answer of a signalled slot; `None` of a free one. Refused with 3 where the numbers don't fit the memory.
     pub fn try_get(&self) -> Result<Option<Response<'_>>, Refusal> {
-        let [signalled, held, number, len, _] = ffi::slot_lookup(&self.state, self.mem)?;
+        let [signalled, held, number, len, ..] = ffi::slot_lookup(&self.state, self.mem)?;
         if signalled == 0 {
             return Ok(None);
         }
         if held == kind::CAPACITY {
             return Ok(Some(Response::CapacityError));
         }
-        Ok(match answer(held, number, part(self.mem, 0, len)) {
+        // A slot holds the one or the other, at its memory's front.
+        let bytes = part(self.mem, 0, len);
+        Ok(match answer(held, number, bytes, bytes) {
             DigestResult::Response(Ok(payload)) => Some(Response::Ok(payload)),
             DigestResult::Prompt(byte) => Some(Response::Prompt(byte)),
             DigestResult::Response(Err(error)) => Some(match error {
                 InternalError::Error => Response::OtherError,
-                InternalError::CmeError(code) => Response::CmeError(code),
-                InternalError::CmsError(code) => Response::CmsError(code),
-                InternalError::Unknown => Response::UnknownError,
+                InternalError::CmeError { code, digits } => Response::CmeError { code, digits },
+                InternalError::CmsError { code, digits } => Response::CmsError { code, digits },
+                InternalError::Unknown { digits } => Response::UnknownError { digits },
                 InternalError::NotAllowed => Response::NotAllowedError,
                 InternalError::ConnectionError(e) => Response::ConnectionError(e),
                 InternalError::Custom { record, text } => Response::CustomError { record, text },
@@ -97,9 +114,25 @@ impl<'m> ResponseSlot<'m> {
 
     /// Signals an answer. [`DigestResult::None`] and notices change nothing; on a signalled slot an answer is lost, and
     /// counted. Refused with 3 where the numbers don't fit the memory.
+    ///
+    /// A payload longer than the memory makes it a [`CapacityError`](Response::CapacityError); digits that are longer are left out.
+    ///
+    /// ```
+    /// use walumbeex::{DigestResult, InternalError, Response, ResponseSlot};
+    /// let error = DigestResult::Response(Err(InternalError::CmeError { code: 10, digits: b"0010" }));
+    /// let mut memory = [0; 4];
+    /// let mut slot = ResponseSlot::new(&mut memory);
+    /// slot.signal(&error).unwrap();
+    /// assert_eq!(slot.try_get(), Ok(Some(Response::CmeError { code: 10, digits: b"0010" })));
+    ///
+    /// let mut slot = ResponseSlot::new(&mut memory[..3]);
+    /// slot.signal(&error).unwrap();
+    /// assert_eq!(slot.try_get(), Ok(Some(Response::CmeError { code: 10, digits: b"" })));
+    /// ```
     pub fn signal(&mut self, result: &DigestResult<'_>) -> Result<(), Refusal> {
-        let (kind, number, payload) = parts(result);
-        ffi::slot_signal(&mut self.state, &[kind, number, 0, payload.len() as u64, 0], payload, self.mem)
+        let (kind, number, bytes) = parts(result);
+        // A signal uses no other number of an answer: the bytes come along.
+        ffi::slot_signal(&mut self.state, &[kind, number, 0, 0, 0, 0, 0], bytes, self.mem)
     }
 
     /// Is an answer held?

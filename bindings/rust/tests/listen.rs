@@ -49,6 +49,13 @@ fn a_capture_from_standard_input() {
 }
 
 #[test]
+fn the_digits_of_an_error_as_they_came() {
+    let said = listen(&["-"], b"\r\n+CME ERROR: 0010\r\n\r\n+CMS ERROR:\t7\n\r\nMODEM ERROR:007\n");
+    assert_eq!(String::from_utf8_lossy(&said.stdout), "cme error   0010\ncms error   7\nmodem error 007\n");
+    assert_eq!((said.stderr.len(), said.status.code()), (0, Some(0)));
+}
+
+#[test]
 fn each_notice_once_whatever_the_queue_holds() {
     let mut input = Vec::new();
     let mut expected = String::new();
@@ -170,7 +177,7 @@ fn a_device_as_it_speaks() {
         (&b"\r\nRING\r\n"[..], "notice      RING"),
         (b"ATD1\r\r\nNO CARRIER\r\n", "connection  No carrier"),
         (b"AT+CMGS=1\r\r\n> ", "prompt      >"),
-        (b"\r\n+CMS ERROR: 500\r\n", "cms error   500"),
+        (b"\r\n+CMS ERROR: 0500\r\n", "cms error   0500"),
     ] {
         for piece in bytes.chunks(3) {
             modem.write_all(piece).unwrap();

@@ -28,14 +28,16 @@ impl Random {
 const TABLES: [&[u8]; 4] =
     [b"", b"UR\x07+UUSORD", b"UR\x04RINGUR\x07+UUSORDCS\x05READYCE\x05FAULTCP$\x05SEND:", b"CE\x02+CUR\x02+CUR\x05+CREG"];
 
-const ITEMS: [&[u8]; 30] = [
+const ITEMS: [&[u8]; 32] = [
     b"\r\nOK\r\n",
     b"\r\nERROR\r\n",
     b"\r\n+CSQ: 17,99\r\n",
     b"\r\n+CME ERROR: 10\r\n",
     b"\r\n+CMS ERROR:\t65535\n",
     b"\r\n+CME ERROR: 65536\r\n",
+    b"\r\n+CMS ERROR: 0000000000000000000500\r\n",
     b"\r\nMODEM ERROR: 1\r\n",
+    b"\r\nMODEM ERROR:0000000000000007\n",
     b"\r\nNO CARRIER\r\n",
     b"\r\nBUSY\r\n",
     b"\r\nNO ANSWER\r\n",
@@ -74,6 +76,14 @@ struct Hand<'t> {
     queue_lost: u64,
 }
 
+/// What a slot of so many bytes holds of an error's digits: all or none.
+fn held(digits: &[u8], slot_size: usize) -> &[u8] {
+    if digits.len() > slot_size {
+        return b"";
+    }
+    digits
+}
+
 /// How a slot of so many bytes reads after an answer.
 fn reading(result: DigestResult<'_>, slot_size: usize) -> String {
     let response = match result {
@@ -82,9 +92,9 @@ fn reading(result: DigestResult<'_>, slot_size: usize) -> String {
         DigestResult::Prompt(b) => Response::Prompt(b),
         DigestResult::Response(Err(e)) => match e {
             InternalError::Error => Response::OtherError,
-            InternalError::CmeError(n) => Response::CmeError(n),
-            InternalError::CmsError(n) => Response::CmsError(n),
-            InternalError::Unknown => Response::UnknownError,
+            InternalError::CmeError { code, digits } => Response::CmeError { code, digits: held(digits, slot_size) },
+            InternalError::CmsError { code, digits } => Response::CmsError { code, digits: held(digits, slot_size) },
+            InternalError::Unknown { digits } => Response::UnknownError { digits: held(digits, slot_size) },
             InternalError::NotAllowed => Response::NotAllowedError,
             InternalError::ConnectionError(e) => Response::ConnectionError(e),
             InternalError::Custom { text, .. } if text.len() > slot_size => Response::CapacityError,
@@ -138,12 +148,29 @@ impl Hand<'_> {
 struct Met {
     calls: u64,
     answers: u64,
+    digits: u64,
+    digits_left_out: u64,
     answers_lost: u64,
     notices: u64,
     notices_lost: u64,
     full: u64,
     no_room: u64,
     cleared: u64,
+}
+
+impl Met {
+    fn read(&mut self, response: Response<'_>) {
+        self.answers += 1;
+        match response {
+            Response::CmeError { digits: [], .. }
+            | Response::CmsError { digits: [], .. }
+            | Response::UnknownError { digits: [] } => {
+                self.digits_left_out += 1;
+            }
+            Response::CmeError { .. } | Response::CmsError { .. } | Response::UnknownError { .. } => self.digits += 1,
+            _ => {}
+        }
+    }
 }
 
 fn run(seed: u64, met: &mut Met) {
@@ -222,7 +249,9 @@ fn run(seed: u64, met: &mut Met) {
                 hand.buf.clear();
             }
             _ => {
-                met.answers += u64::from(hand.slot.is_some());
+                if let Some(response) = ingress.res_slot.try_get().unwrap() {
+                    met.read(response);
+                }
                 ingress.res_slot.reset().unwrap();
                 hand.slot = None;
             }
@@ -248,7 +277,8 @@ fn pieces_through_the_ingress_are_what_digesting_by_hand_makes_of_them() {
         run(fresh.wrapping_add(n), &mut met);
     }
     println!("fresh seeds from {fresh}: {met:?}");
-    let all = [met.answers, met.answers_lost, met.notices, met.notices_lost, met.full, met.no_room, met.cleared];
+    let answers = [met.answers, met.digits, met.digits_left_out, met.answers_lost];
+    let all = [&answers[..], &[met.notices, met.notices_lost, met.full, met.no_room, met.cleared]].concat();
     assert!(all.iter().all(|&n| n > 100), "too few of something: {met:?}");
 }
 

@@ -196,6 +196,48 @@ fn a_slot_too_small_reads_capacity_error() {
     assert_eq!(slot.try_get(), Ok(Some(Response::Ok(b"1234"))));
 }
 
+/// Digits that are longer than the memory make no CapacityError: the error and its code are held without them.
+#[test]
+fn a_slot_too_small_leaves_the_digits_out() {
+    use walumbeex::InternalError as E;
+    let error = |e| DigestResult::Response(Err(e));
+    for (size, held, memory) in [(3, &b""[..], *b"abcdef"), (4, b"0010", *b"0010ef"), (6, b"0010", *b"0010ef")] {
+        let mut slot_mem = *b"abcdef";
+        let mut slot = ResponseSlot::new(&mut slot_mem[..size]);
+        slot.signal(&error(E::CmeError { code: 10, digits: b"0010" })).unwrap();
+        // Lost: nothing but the count moves.
+        slot.signal(&error(E::CmsError { code: 7, digits: b"07" })).unwrap();
+        assert_eq!(slot.try_get(), Ok(Some(Response::CmeError { code: 10, digits: held })), "{size} bytes");
+        assert_eq!(slot.lost(), 1);
+        assert_eq!(slot_mem, memory, "{size} bytes");
+    }
+    for (answer, held) in [
+        (E::CmsError { code: 500, digits: b"0500" }, Response::CmsError { code: 500, digits: b"" }),
+        (E::Unknown { digits: b"0007" }, Response::UnknownError { digits: b"" }),
+    ] {
+        let mut slot_mem = [b'z'; 3];
+        let mut slot = ResponseSlot::new(&mut slot_mem);
+        slot.signal(&error(answer)).unwrap();
+        assert_eq!(slot.try_get(), Ok(Some(held)));
+    }
+}
+
+#[test]
+fn an_ingress_hands_the_digits_on() {
+    for (piece, response, memory) in [
+        (&b"\r\n+CME ERROR: 0010\r\n"[..], Response::CmeError { code: 10, digits: b"0010" }, *b"0010ef"),
+        (b"\r\n+CMS ERROR: 0000500\r\n", Response::CmsError { code: 500, digits: b"" }, *b"abcdef"),
+        (b"\r\nMODEM ERROR:007\n", Response::UnknownError { digits: b"007" }, *b"007def"),
+        (b"\r\nMODEM ERROR: 0000007\n", Response::UnknownError { digits: b"" }, *b"abcdef"),
+    ] {
+        let (mut buf, mut slot_mem, mut queue_mem) = ([0; 64], *b"abcdef", [0; NOTICE_RECORD]);
+        let mut ingress = Ingress::new(ring(), &mut buf, &mut slot_mem, &mut queue_mem).unwrap();
+        assert_eq!(ingress.try_write(piece), Ok(piece.len()));
+        assert_eq!(ingress.res_slot.try_get(), Ok(Some(response)));
+        assert_eq!(slot_mem, memory, "{}", piece.escape_ascii());
+    }
+}
+
 #[test]
 fn a_slot_reads_each_answer_as_it_was_signalled() {
     use walumbeex::{ConnectionError as C, InternalError as E};
@@ -204,9 +246,9 @@ fn a_slot_reads_each_answer_as_it_was_signalled() {
         (DigestResult::Response(Ok(b"12")), Response::Ok(b"12")),
         (DigestResult::Prompt(b'$'), Response::Prompt(b'$')),
         (error(E::Error), Response::OtherError),
-        (error(E::CmeError(65535)), Response::CmeError(65535)),
-        (error(E::CmsError(7)), Response::CmsError(7)),
-        (error(E::Unknown), Response::UnknownError),
+        (error(E::CmeError { code: 65535, digits: b"65535" }), Response::CmeError { code: 65535, digits: b"65535" }),
+        (error(E::CmsError { code: 7, digits: b"007" }), Response::CmsError { code: 7, digits: b"007" }),
+        (error(E::Unknown { digits: b"00" }), Response::UnknownError { digits: b"00" }),
         (error(E::NotAllowed), Response::NotAllowedError),
         (error(E::ConnectionError(C::NoCarrier)), Response::ConnectionError(C::NoCarrier)),
         (error(E::ConnectionError(C::NoDialtone)), Response::ConnectionError(C::NoDialtone)),

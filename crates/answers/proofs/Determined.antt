@@ -15,6 +15,9 @@ is-found-one κs a x y s t = determined
 pub is-notice-one : One calls.is_notice.Reads.Post
 is-notice-one κs a x y s t = determined
 
+pub is-numeric-one : One calls.is_numeric.Reads.Post
+is-numeric-one κs a x y s t = determined
+
 pub bare-one : One calls.bare.Reads.Post
 bare-one κs a x y s t = determined
 
@@ -24,8 +27,14 @@ nothing-one κs a x y s t = determined
 pub with-number-one : One calls.with_number.Reads.Post
 with-number-one κs a x y s t = determined
 
+pub with-digits-one : One calls.with_digits.Reads.Post
+with-digits-one κs a x y s t = determined
+
 pub with-payload-one : One calls.with_payload.Reads.Post
 with-payload-one κs a x y s t = determined
+
+pub carried-one : One calls.carried.Reads.Post
+carried-one κs a x y s t = determined
 
 pub shifted-one : One calls.shifted.Reads.Post
 shifted-one κs a x y s t = determined

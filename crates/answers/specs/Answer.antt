@@ -78,42 +78,74 @@ isNotice NoDialtone = false
 isNotice Custom = false
 isNotice Notice = true
 
--- A payload of length 0, or none, has place 0.
-unfoldable pub placed : ℕ → ℕ → ℕ
+-- The numeric errors, CME, CMS and MODEM ERROR, have digits (R-2); no other kind has.
+abbrev pub isNumeric : Kind → Bool
+isNumeric None = false
+isNumeric Ok = false
+isNumeric Prompt = false
+isNumeric Cme = true
+isNumeric Cms = true
+isNumeric Unknown = true
+isNumeric NotAllowed = false
+isNumeric Error = false
+isNumeric NoCarrier = false
+isNumeric Busy = false
+isNumeric NoAnswer = false
+isNumeric NoDialtone = false
+isNumeric Custom = false
+isNumeric Notice = false
+
+-- A payload of length 0, or none, has place 0; so have digits (R-2).
+abbrev pub placed : ℕ → ℕ → ℕ
 placed zero p = 0
 placed (suc n) p = p
 
--- How answers are made. Bare: a kind, and what is consumed;
+-- How answers are made: a kind, with the number n where the kind has one, the payload p, and, where it is a numeric error, the digits q as they came (R-2).
+abbrev pub made : Kind → ℕ → Span → Span → ℕ → Answer
+made k n p q c = record { kind = k; number = stored (numbered k n); place = placed (p .len) (p .start); len = p .len; «digits_place» = placed (q .len) (q .start); «digits_len» = q .len; consumed = c }
+
+abbrev nowhere : Span
+nowhere = record { start = 0; len = 0 }
+
+-- Bare: a kind, and what is consumed;
 abbrev pub bare : Kind → ℕ → Answer
-bare k c = record { kind = k; number = 0; place = 0; len = 0; consumed = c }
+bare k c = record { kind = k; number = 0; place = 0; len = 0; «digits_place» = 0; «digits_len» = 0; consumed = c }
 
 -- None;
 abbrev pub nothing : ℕ → Answer
-nothing c = record { kind = None; number = 0; place = 0; len = 0; consumed = c }
+nothing c = bare None c
 
--- with the number n, where the kind has one;
+-- with its number;
 abbrev pub withNumber : Kind → ℕ → ℕ → Answer
-withNumber k n c = record { kind = k; number = stored (numbered k n); place = 0; len = 0; consumed = c }
+withNumber k n c = made k n nowhere nowhere c
 
--- with a payload too.
+-- with its digits too (R-2);
+abbrev pub withDigits : Kind → ℕ → Span → ℕ → Answer
+withDigits k n q c = made k n nowhere q c
+
+-- with its payload too.
 abbrev pub withPayload : Kind → ℕ → Span → ℕ → Answer
-withPayload k n p c = record { kind = k; number = stored (numbered k n); place = placed (p .len) (p .start); len = p .len; consumed = c }
+withPayload k n p c = made k n p nowhere c
+
+-- the part of the input that goes along with the answer: a numeric error's digits (R-2), else the payload
+abbrev pub carried : Answer → Span
+carried a = if isNumeric (a .kind) then record { start = a .«digits_place»; len = a .«digits_len» } else record { start = a .place; len = a .len }
 
 -- the same answer seen from d bytes further to the front
 unfoldable pub shift : ℕ → Answer → Answer
-unfolding placed
-shift d a = record { kind = a .kind; number = a .number; place = placed (a .len) (a .place + d); len = a .len; consumed = a .consumed + d }
+shift d a = record { kind = a .kind; number = a .number; place = placed (a .len) (a .place + d); len = a .len; «digits_place» = placed (a .«digits_len») (a .«digits_place» + d); «digits_len» = a .«digits_len»; consumed = a .consumed + d }
 
 -- the bytes that an input may have, and so a place or a count
 abbrev pub longest : ℕ
 longest = 4096
 
--- `shift` where place, count and d are those of an input; else the answer as it is
+-- `shift` where places, count and d are those of an input; else the answer as it is
 unfoldable pub shiftWithin : ℕ → Answer → Answer
 unfolding shift
-shiftWithin d a = if leb (a .place) longest && (leb (a .consumed) longest && leb d longest) then shift d a else a
+shiftWithin d a = if leb (a .place) longest && (leb (a .«digits_place») longest && (leb (a .consumed) longest && leb d longest)) then shift d a else a
 
--- The payload lies within what is consumed, and that within the n bytes of the input.
+-- Payload and digits lie within what is consumed, and that within the n bytes of the input.
 pub record Within (n : ℕ) (a : Answer) : Type 0 where
   pub payload : a .place + a .len ≤ a .consumed
+  pub digits : a .«digits_place» + a .«digits_len» ≤ a .consumed
   pub all : a .consumed ≤ n

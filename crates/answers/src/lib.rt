@@ -1,7 +1,7 @@
-// What was heard, as the digester says it and the slot keeps it: a kind, a number, a payload's place, the bytes consumed.
-// An answer is made here, by one of four makers, and moved here; nobody else writes down what it consists of.
+// What was heard, as the digester says it and the slot keeps it: a kind, a number, where its payload and its digits stand, the bytes consumed.
+// An answer is made here, by one of five makers, and moved here; nobody else writes down what it consists of.
 ghost use mathlib.Core.Path.{_≡_};
-ghost use Rattle.answers.specs.Answer.{hasNumber, numbered, stored, isFound, isNotice, placed, bare, nothing, withNumber, withPayload, shiftWithin};
+ghost use Rattle.answers.specs.Answer.{hasNumber, numbered, stored, isFound, isNotice, isNumeric, placed, bare, nothing, made, withNumber, withDigits, withPayload, carried, shiftWithin};
 use text::Span;
 
 // What was heard. Custom is a custom error; a custom success is an Ok.
@@ -22,12 +22,15 @@ pub enum Kind {
     Notice,
 }
 
-// An answer: its kind, its number (0 where the kind has none), its payload's place and length in the caller's input, the bytes consumed.
+// An answer: its kind, its number (0 where the kind has none), the place and length of its payload and, of a numeric error, of its digits as they came (R-2),
+// both in the caller's input, the bytes consumed.
 pub struct Answer {
     pub kind: Kind,
     pub number: u32,
     pub place: usize,
     pub len: usize,
+    pub digits_place: usize,
+    pub digits_len: usize,
     pub consumed: usize,
 }
 
@@ -108,7 +111,29 @@ pub fn is_notice(kind: Kind) -> bool
     }
 }
 
-// A payload of length 0 has place 0.
+// Is it a numeric error? Those have digits (R-2), and no other kind has.
+pub fn is_numeric(kind: Kind) -> bool
+    ensures { λ r. ⌜ r ≡ isNumeric kind ⌝ }
+{
+    match kind {
+        Kind::None => false,
+        Kind::Ok => false,
+        Kind::Prompt => false,
+        Kind::Cme => true,
+        Kind::Cms => true,
+        Kind::Unknown => true,
+        Kind::NotAllowed => false,
+        Kind::Error => false,
+        Kind::NoCarrier => false,
+        Kind::Busy => false,
+        Kind::NoAnswer => false,
+        Kind::NoDialtone => false,
+        Kind::Custom => false,
+        Kind::Notice => false,
+    }
+}
+
+// A payload of length 0 has place 0, and so have digits.
 fn placed_at(len: usize, place: usize) -> usize
     ensures { λ r. ⌜ r ≡ placed len place ⌝ }
 {
@@ -127,6 +152,8 @@ pub fn bare(kind: Kind, consumed: usize) -> Answer
         number: 0,
         place: 0,
         len: 0,
+        digits_place: 0,
+        digits_len: 0,
         consumed: consumed,
     }
 }
@@ -138,29 +165,59 @@ pub fn nothing(consumed: usize) -> Answer
     bare(Kind::None, consumed)
 }
 
-// A kind with its number, where it has one.
-pub fn with_number(kind: Kind, n: u32, consumed: usize) -> Answer
-    ensures { λ r. ⌜ r ≡ withNumber kind n consumed ⌝ }
-{
-    Answer {
-        kind: kind,
-        number: number_of(kind, n),
-        place: 0,
-        len: 0,
-        consumed: consumed,
-    }
-}
+// What has neither payload nor digits.
+const NOWHERE: Span = Span { start: 0, len: 0 };
 
-// The same with a payload.
-pub fn with_payload(kind: Kind, n: u32, payload: Span, consumed: usize) -> Answer
-    ensures { λ r. ⌜ r ≡ withPayload kind n payload consumed ⌝ }
+// A kind with its number, where it has one, its payload and its digits.
+fn made(kind: Kind, n: u32, payload: Span, digits: Span, consumed: usize) -> Answer
+    ensures { λ r. ⌜ r ≡ made kind n payload digits consumed ⌝ }
 {
     Answer {
         kind: kind,
         number: number_of(kind, n),
         place: placed_at(payload.len, payload.start),
         len: payload.len,
+        digits_place: placed_at(digits.len, digits.start),
+        digits_len: digits.len,
         consumed: consumed,
+    }
+}
+
+// A kind with its number, where it has one.
+pub fn with_number(kind: Kind, n: u32, consumed: usize) -> Answer
+    ensures { λ r. ⌜ r ≡ withNumber kind n consumed ⌝ }
+{
+    made(kind, n, NOWHERE, NOWHERE, consumed)
+}
+
+// The same with the digits of a numeric error (R-2).
+pub fn with_digits(kind: Kind, n: u32, digits: Span, consumed: usize) -> Answer
+    ensures { λ r. ⌜ r ≡ withDigits kind n digits consumed ⌝ }
+{
+    made(kind, n, NOWHERE, digits, consumed)
+}
+
+// The same with a payload.
+pub fn with_payload(kind: Kind, n: u32, payload: Span, consumed: usize) -> Answer
+    ensures { λ r. ⌜ r ≡ withPayload kind n payload consumed ⌝ }
+{
+    made(kind, n, payload, NOWHERE, consumed)
+}
+
+// The part of the input that goes along with the answer: a numeric error's digits (R-2), else the payload.
+pub fn carried(a: Answer) -> Span
+    ensures { λ r. ⌜ r ≡ carried a ⌝ }
+{
+    let kind = a.kind;
+    if is_numeric(kind) {
+        return Span {
+            start: a.digits_place,
+            len: a.digits_len,
+        };
+    }
+    Span {
+        start: a.place,
+        len: a.len,
     }
 }
 
@@ -171,7 +228,8 @@ pub const LONGEST: usize = 4096;
 pub fn shifted(a: Answer, d: usize) -> Answer
     ensures { λ r. ⌜ r ≡ shiftWithin d a ⌝ }
 {
-    let inside = (a.place <= LONGEST) & ((a.consumed <= LONGEST) & (d <= LONGEST));
+    let inside = (a.place <= LONGEST)
+        & ((a.digits_place <= LONGEST) & ((a.consumed <= LONGEST) & (d <= LONGEST)));
     if !inside {
         return a;
     }
@@ -181,6 +239,8 @@ pub fn shifted(a: Answer, d: usize) -> Answer
         number: a.number,
         place: placed_at(a.len, a.place + d),
         len: a.len,
+        digits_place: placed_at(a.digits_len, a.digits_place + d),
+        digits_len: a.digits_len,
         consumed: a.consumed + d,
     }
 }

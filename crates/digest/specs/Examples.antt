@@ -12,7 +12,7 @@ use Rattle.parser.specs.Parser.{numericError, promptFrom, customPrompt, noticeA
 use Rattle.answers.specs.declared.Kind.{Kind}
 use Rattle.answers.specs.declared.Kind.the-variants.{None, Ok, Prompt, Cme, Cms, NotAllowed, Notice}
 use Rattle.answers.specs.declared.Answer.{Answer}
-use Rattle.answers.specs.Answer.{Number, none, number, numberOf, placed}
+use Rattle.answers.specs.Answer.{Number, none, number, numberOf}
 use Rattle.items.specs.Rules.{trimmedPart}
 use Rattle.digest.specs.Digest.{digest}
 
@@ -69,5 +69,5 @@ examples =
     ∷ []
 
 pub all-known : map given examples ≡ map expected examples
-unfolding digest placed trimmedPart isBlank past keep trimmed stands findIn partOf ruling tokens ofMark numericError promptFrom customPrompt noticeAt
+unfolding digest trimmedPart isBlank past keep trimmed stands findIn partOf ruling tokens ofMark numericError promptFrom customPrompt noticeAt
 all-known = refl

@@ -2,22 +2,39 @@
 use mathlib.Core.Path.{_≡_}
 use mathlib.Core.Bool.{true, false}
 use mathlib.Core.List.{List}
-use Prim.Native.Nat.{ℕ, _+_, _≤_}
-use lib.ListN.{length}
+use Prim.Native.Nat.{ℕ, _+_, _-_, _≤_, _<_}
+use lib.ListN.{length, getD, take, drop}
+use lib.Dec.{ltb}
 use Rattle.outcome.specs.Outcome.{Outcome, answered, refused}
 use Rattle.table.specs.Table.{Token, tokens}
 use Rattle.answers.specs.declared.Answer.{Answer}
-use Rattle.answers.specs.Answer.{isFound}
+use Rattle.answers.specs.Answer.{hasNumber, isFound, isNumeric}
+use Rattle.parser.specs.Parser.{lineEnding, isDigit, value}
 use Rattle.items.specs.Rules.{skipped}
-use Rattle.digest.specs.Finished.{Holds, NothingFinished}
+use Rattle.digest.specs.Finished.{All, Holds, NothingFinished}
 
--- The item that was found: it stands at the line start p and ends exactly at the consumed count, and the payload lies before its end.
+-- R-2: at p stand n digits, with no digit before them, and LF or CRLF behind them up to c.
+pub record DigitRun (s : List ℕ) (p n c : ℕ) : Type 0 where
+  pub before : (0 < p) × (isDigit (getD s (p - 1) 0) ≡ false)
+  pub digits : All isDigit s p (p + n)
+  pub ended : (0 < lineEnding s (p + n)) × (c ≡ p + n + lineEnding s (p + n))
+
+-- R-2: the kind is CME, CMS or unknown exactly when there are digits. They are then the longest run that ends in front of the item's line ending,
+-- and the number, where the kind has one, is their value.
+pub record DigitsOf (s : List ℕ) (a : Answer) : Type 0 where
+  pub some : isNumeric (a .kind) ≡ ltb 0 (a .«digits_len»)
+  pub run : isNumeric (a .kind) ≡ true → DigitRun s (a .«digits_place») (a .«digits_len») (a .consumed)
+  pub code : isNumeric (a .kind) ≡ true → hasNumber (a .kind) ≡ true → a .number ≡ value 0 (take (a .«digits_len») (drop (a .«digits_place») s))
+
+-- The item that was found: it stands at the line start p and ends exactly at the consumed count; payload and digits lie before its end.
 pub record Where (ts : List Token) (s : List ℕ) (a : Answer) : Type 0 where
   pub p : ℕ
   pub n : ℕ
   pub holds : Holds ts s p n
   pub ends : p + n ≡ a .consumed
   pub payload : a .place + a .len ≤ a .consumed
+  pub within : a .«digits_place» + a .«digits_len» ≤ a .consumed
+  pub digits : DigitsOf s a
 
 -- None exactly when no line start of the input holds a finished item (none, only). Where it is None, consumed is e (rule 1).
 -- Else the item is there, and at least one byte and at most the input is consumed.

@@ -173,7 +173,7 @@ ending-byte u b h = go (stands (bytes "\n") u b) refl (stands crlf u b) refl h
     go false e true f l = unfold isDigit in rw (stands-byte 13 (10 ∷ []) u b f .1 .0)
     go false e false f l = absurd (omega arith)
 
-digit-blank : (b : ℕ) → isDigit b ≡ true → isBlank blanks.Run b ≡ false
+pub digit-blank : (b : ℕ) → isDigit b ≡ true → isBlank blanks.Run b ≡ false
 unfolding isBlank among blanks
 digit-blank b e =
     let w = digit-bounds b e in
@@ -191,8 +191,15 @@ module _ (h u : List ℕ) where
       rw (w .head, g, p, q, le-leb (value 0 (drop (w .a) u)) 65535 v, lt-ltb (w .a) (w .b) (w .digits .0), lt-ltb 0 (lineEnding u (w .b)) (w .ended .0))
       (ap numeric.Is (λ i. record { code = value 0 (drop (w .a) u); start = w .a; stop = w .b; end = sym (w .ended .1) i }))
 
+  -- a numeric error that was read, and its digits
+  pub record NumericRead (d : Digits) : Type 0 where
+    pub numeric : NumericEnded h u (d .end)
+    pub start : numeric .a ≡ d .start
+    pub stop : numeric .b ≡ d .stop
+    pub code : d .code ≡ value 0 (take (d .stop - d .start) (drop (d .start) u))
+
   abbrev ToldNumeric : Numeric → Type 0
-  ToldNumeric (numeric.Is d) = NumericEnded h u (d .end)
+  ToldNumeric (numeric.Is d) = NumericRead d
   ToldNumeric numeric.Nothing = Unit {0}
 
   told-run : (a : ℕ) → stands h u 0 ≡ true → a ≡ past (isBlank blanks.Run) u (0 + length h) → (c : Bool) → leb (value 0 (drop a u)) 65535 ≡ c → ToldNumeric (endedRun u a (if c then Value (value 0 (drop a u)) (past isDigit u a) else TooLarge))
@@ -202,13 +209,18 @@ module _ (h u : List ℕ) where
       go : (x : Bool) → ltb a (past isDigit u a) ≡ x → (y : Bool) → ltb 0 (lineEnding u (past isDigit u a)) ≡ y → ToldNumeric (if x && y then numeric.Is (record { code = value 0 (drop a u); start = a; stop = past isDigit u a; end = past isDigit u a + lineEnding u (past isDigit u a) }) else numeric.Nothing)
       go true k true l =
           record {
-            a = a;
-            b = past isDigit u a;
-            head = e;
-            spaces = (omega (arith, past-bounds (isBlank blanks.Run) u (0 + length h)), λ j p q. past-passes (isBlank blanks.Run) u (0 + length h) j (omega arith) (omega arith));
-            digits = (ltb-true a (past isDigit u a) k, λ j p q. past-passes isDigit u a j p q);
-            small = rw (sym (value-part u a (past isDigit u a) refl)) (leb-true (value 0 (drop a u)) 65535 g);
-            ended = (ltb-true 0 (lineEnding u (past isDigit u a)) l, refl);
+            numeric = record {
+              a = a;
+              b = past isDigit u a;
+              head = e;
+              spaces = (omega (arith, past-bounds (isBlank blanks.Run) u (0 + length h)), λ j p q. past-passes (isBlank blanks.Run) u (0 + length h) j (omega arith) (omega arith));
+              digits = (ltb-true a (past isDigit u a) k, λ j p q. past-passes isDigit u a j p q);
+              small = rw (sym (value-part u a (past isDigit u a) refl)) (leb-true (value 0 (drop a u)) 65535 g);
+              ended = (ltb-true 0 (lineEnding u (past isDigit u a)) l, refl);
+            };
+            start = refl;
+            stop = refl;
+            code = value-part u a (past isDigit u a) refl;
           }
       go true k false l = tt
       go false k y l = tt
@@ -219,6 +231,6 @@ module _ (h u : List ℕ) where
   told-head true e = let a = past (isBlank blanks.Run) u (0 + length h) in told-run a e refl (leb (value 0 (drop a u)) 65535) refl
   told-head false e = tt
 
-  pub numeric-told : (d : Digits) → numericAt h u 0 ≡ numeric.Is d → NumericEnded h u (d .end)
+  pub numeric-told : (d : Digits) → numericAt h u 0 ≡ numeric.Is d → NumericRead d
   unfolding numericAt
   numeric-told d e = rw e at (told-head (stands h u 0) refl)

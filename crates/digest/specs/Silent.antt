@@ -3,7 +3,7 @@ use mathlib.Core.Path.{_≡_, refl, ap, _∙_}
 use mathlib.Core.Logic.{inl, inr, ⊎-elim}
 use mathlib.Core.Bool.{Bool, true}
 use mathlib.Core.List.{List, [], _∷_, _++_}
-use Prim.Native.Nat.{ℕ, _+_, _≤_}
+use Prim.Native.Nat.{ℕ, _+_, _-_, _≤_}
 use native.Mathlib.Omega.{arith}
 use lib.ListN.{length, drop}
 use Rattle.text.specs.Logic.{false-true}
@@ -26,7 +26,8 @@ use Rattle.answers.specs.declared.Kind.the-variants as kind
 use Rattle.items.specs.declared.Occurs.the-variants as occurs
 use Rattle.items.specs.declared.Tried.{Tried}
 use Rattle.items.specs.declared.Tried.the-variants as tries
-use Rattle.answers.specs.Answer.{bare, withNumber}
+use Rattle.answers.specs.declared.Answer.{Answer}
+use Rattle.answers.specs.Answer.{bare, withDigits}
 use Rattle.items.specs.Rules.{firstOf, heard, notices, firstCustom, kindOf, success, customSuccess, lineSuccess, successLines, successes, promptTried, customPrompts, prompts, customError, heads, numericTried, numericErrors, errorLines, lineTried, lineErrors, notAllowed, errors, tried}
 use Rattle.items.specs.Laws.{next-both, done-next}
 use Rattle.level.specs.Levels.{occurs-none, success-nowhere, error-nowhere, line-success-nowhere, line-nowhere, prompt-nowhere}
@@ -73,8 +74,9 @@ module _ (ts : List Token) (good : Texts ts) (s : List ℕ) (e : ℕ) where
       let q : findIn (fixedText h) s e ≡ At e = find-here (fixedText h) s e (stands-here (fixedText h) s e ∙ w .head) in
       let d : Digits = record { code = value 0 (drop (w .a) (drop e s)); start = e + w .a; stop = e + w .b; end = e + n } in
       let r : numericAt (fixedText h) s e ≡ numeric.Is d = numeric-moved (fixedText h) s e ∙ ap (shiftNumeric e) (numeric-is (fixedText h) (drop e s) n w) ∙ (unfold shiftNumeric in refl) in
-      let i : numericTried h (atFound (fixedText h) s (findIn (fixedText h) s e)) ≡ tries.Done (withNumber (kindOf h) (d .code) (d .end)) = ap (λ (f : Found). numericTried h (atFound (fixedText h) s f)) q ∙ (unfold atFound in ap (numericTried h) r) ∙ (unfold numericTried in refl) in
-      done-next (withNumber (kindOf h) (d .code) (d .end)) i g
+      let a : Answer = withDigits (kindOf h) (d .code) (record { start = d .start; len = d .stop - d .start }) (d .end) in
+      let i : numericTried h (atFound (fixedText h) s (findIn (fixedText h) s e)) ≡ tries.Done a = ap (λ (f : Found). numericTried h (atFound (fixedText h) s f)) q ∙ (unfold atFound in ap (numericTried h) r) ∙ (unfold numericTried in refl) in
+      done-next a i g
 
   no-prompt : (b : Bool) (c : ℕ) → promptTried b c s ≡ tries.Next → b ≡ true → ⊥
   no-prompt b c h g = false-true g (prompt-nowhere b c s h)

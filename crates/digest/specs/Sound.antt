@@ -1,11 +1,15 @@
--- Each rule answers an item: it stands where buf begins or at a CRLF, and ends at the consumed count (`tried-sound`).
+-- Each rule answers an item: it stands where buf begins or at a CRLF, and ends at the consumed count; a numeric error's digits are told (`tried-sound`).
 use mathlib.Core.Path.{_≡_, refl, sym, ap, _∙_}
 use mathlib.Core.Logic.{_⊎_, inl, inr, ⊎-elim}
 use mathlib.Core.Bool.{Bool, true, false}
 use mathlib.Core.List.{List, [], _∷_, _++_}
-use Prim.Native.Nat.{ℕ, _+_, _-_, _≤_}
+use Prim.Native.Nat.{ℕ, _+_, _-_, _≤_, _<_}
 use native.Mathlib.Omega.{arith}
-use lib.ListN.{length, getD, drop, length-drop}
+use lib.ListN.{length, getD, take, drop, length-drop}
+use lib.Seq.{drop-drop, getD-drop}
+use lib.Dec.{ltb}
+use borrow.Author.Tests.{lt-ltb, ltb-true}
+use Rattle.text.specs.Logic.{false-true, not-true-false, order}
 use Rattle.text.specs.Text.{stands, findIn}
 use Rattle.text.specs.Laws.{found-at, stands-front, stands-fits, stands-getD}
 use Rattle.text.specs.declared.Found.{Found}
@@ -15,10 +19,11 @@ use Rattle.table.specs.Table.{Token, Entry, ofMark}
 use Rattle.table.specs.Laws.{Texts, mark-texts}
 use Rattle.table.specs.declared.Mark.the-variants as mark
 use Rattle.lines.specs.Lines.{crlf, fixedText}
-use Rattle.parser.specs.Parser.{lineEnding, atFound, numericAt, numericError, promptFrom, customPrompt, wrapped, noticeAt}
+use Rattle.parser.specs.Parser.{isDigit, value, lineEnding, atFound, numericAt, numericError, promptFrom, customPrompt, wrapped, noticeAt}
 use Rattle.parser.specs.Laws.{ending-fits}
 use Rattle.lines.specs.declared.Fixed.{Fixed}
 use Rattle.lines.specs.declared.Fixed.the-variants as fixed
+use Rattle.parser.specs.declared.Digits.{Digits}
 use Rattle.parser.specs.declared.Numeric.{Numeric}
 use Rattle.parser.specs.declared.Numeric.the-variants as numeric
 use Rattle.parser.specs.declared.Notice.{Notice}
@@ -30,14 +35,58 @@ use Rattle.items.specs.declared.Occurs.the-variants as occurs
 use Rattle.items.specs.declared.Tried.{Tried}
 use Rattle.items.specs.declared.Tried.the-variants as tries
 use Rattle.outcome.specs.Outcome.{if_then_else_}
-use Rattle.answers.specs.Answer.{kindFound, isFound, bare, nothing, withNumber, withPayload}
+use Rattle.answers.specs.Answer.{hasNumber, numbered, stored, kindFound, isFound, isNumeric, placed, bare, nothing, withNumber, withDigits, withPayload}
+use Rattle.answers.specs.Laws.{numbered-some, placed-some}
 use Rattle.items.specs.Rules.{orElse, firstOf, trimmedPart, heard, notices, occursOr, firstCustom, kindOf, success, customSuccess, lineSuccess, successLines, successes, promptTried, customPrompts, prompts, customError, heads, numericTried, numericErrors, errorLines, lineTried, lineErrors, notAllowed, errors, tried}
 use Rattle.items.specs.Laws.{next-both, done-next, wrapped-length}
-use Rattle.parser.specs.Moved.{shiftNotice, notice-moved, prompt-moved, custom-moved, shiftNumeric, numeric-moved}
+use Rattle.parser.specs.Moved.{ending-moved, shiftNotice, notice-moved, prompt-moved, custom-moved, shiftNumeric, numeric-moved}
 use Rattle.digest.specs.Finished.{Some, NoticeEnded, Unfinished, NumericEnded, FirstAlone, EndsIn, nine, Line, Item}
 use Rattle.digest.specs.Finished as items
-use Rattle.digest.specs.Position.{ended-is, unfinished-is, ended-told, unfinished-told, alone-told, ends-told, numeric-told}
+use Rattle.digest.specs.Position.{ended-is, unfinished-is, ended-told, unfinished-told, alone-told, ends-told, digit-blank, NumericRead, numeric-told}
+use Rattle.digest.specs.Heard.{DigitRun, DigitsOf}
 use Rattle.digest.specs.Items.{some-map, some-any, some-either, some-left, some-right, done-one, lf-finished, ending-lf, Opens, opens, Last, wrapped-opens, wrapped-last, notice-lf, stands-here}
+
+-- The digits, seen from d bytes further to the front (R-2).
+module _ (s : List ℕ) (d : ℕ) where
+  run-on : (p n c : ℕ) → DigitRun (drop d s) p n c → DigitRun s (d + p) n (d + c)
+  run-on p n c w =
+      let i : d + (p - 1) ≡ d + p - 1 = omega (arith, w .before .0) in
+      let o : d + (p + n) ≡ d + p + n = omega arith in
+      let l : lineEnding (drop d s) (p + n) ≡ lineEnding s (d + p + n) = ending-moved s d (p + n) ∙ ap (lineEnding s) o in
+      record {
+        before = (omega (arith, w .before .0), ap (λ (j : ℕ). isDigit (getD s j 0)) (sym i) ∙ ap isDigit (sym (getD-drop d s (p - 1) 0)) ∙ w .before .1);
+        digits =
+            λ j g h.
+            let k : d + (j - d) ≡ j = omega arith in
+            ap (λ (m : ℕ). isDigit (getD s m 0)) (sym k) ∙ ap isDigit (sym (getD-drop d s (j - d) 0)) ∙ w .digits (j - d) (omega arith) (omega arith);
+        ended = (omega (arith, l, w .ended .0), omega (arith, l, w .ended .1));
+      }
+
+  pub digits-on : (r a : Answer) → DigitsOf (drop d s) r → a .kind ≡ r .kind → a .number ≡ r .number → a .«digits_len» ≡ r .«digits_len» → (0 < r .«digits_len» → a .«digits_place» ≡ d + r .«digits_place») → a .consumed ≡ d + r .consumed → DigitsOf s a
+  digits-on r a w k n l p c =
+      record {
+        some = rw (k, l) (w .some);
+        run = λ h. let q = p (digits-some r w (ap isNumeric (sym k) ∙ h)) in rw (q, l, c) (run-on (r .«digits_place») (r .«digits_len») (r .consumed) (w .run (ap isNumeric (sym k) ∙ h)));
+        code =
+            λ h g.
+            let q = p (digits-some r w (ap isNumeric (sym k) ∙ h)) in
+            rw (n, q, l) (w .code (ap isNumeric (sym k) ∙ h) (ap hasNumber (sym k) ∙ g) ∙ ap (λ (x : List ℕ). value 0 (take (r .«digits_len») x)) (drop-drop (r .«digits_place») d s));
+      }
+    where
+      digits-some : (x : Answer) → DigitsOf (drop d s) x → isNumeric (x .kind) ≡ true → 0 < x .«digits_len»
+      digits-some x v h = ltb-true 0 (x .«digits_len») (sym (v .some) ∙ h)
+
+-- a kind that is found and has no digits, and an answer with none
+abbrev Plain : Answer → Type 0
+Plain a = (isFound a ≡ true) × ((isNumeric (a .kind) ≡ false) × (a .«digits_len» ≡ 0))
+
+plain-digits : (s : List ℕ) (a : Answer) → Plain a → DigitsOf s a
+plain-digits s a w =
+    record {
+      some = rw (w .1 .0, w .1 .1);
+      run = λ h. absurd (false-true h (w .1 .0));
+      code = λ h g. absurd (false-true h (w .1 .0));
+    }
 
 -- What a rule's answer tells: an item was found at p, either where buf begins or at a CRLF; or a notice is unfinished where buf begins.
 pub record Hit (ts : List Token) (s : List ℕ) (e : ℕ) (a : Answer) : Type 0 where
@@ -47,6 +96,7 @@ pub record Hit (ts : List Token) (s : List ℕ) (e : ℕ) (a : Answer) : Type 0 
   pub item : Item ts (drop p s) n
   pub ends : p + n ≡ a .consumed
   pub found : isFound a ≡ true
+  pub digits : DigitsOf s a
   pub finished : Some (λ x. Unfinished (x .text) (drop p s)) (ofMark mark.Notice 0 ts) → ⊥
 
 abbrev pub Broken : List Token → List ℕ → ℕ → Type 0
@@ -81,11 +131,11 @@ record LineAt (s : List ℕ) (a : Answer) (l : Fixed) : Type 0 where
   k : ℕ
   here : stands (fixedText l) s k ≡ true
   ends : a .consumed ≡ k + length (fixedText l)
-  found : isFound a ≡ true
+  plain : isNumeric (kindOf l) ≡ false → Plain a
 
 module _ (ts : List Token) (good : Texts ts) (s : List ℕ) (e : ℕ) where
   -- a line at k
-  line-hit : (t : List ℕ) → Opens t → Last t → (k : ℕ) → stands t s k ≡ true → (n : ℕ) → n ≡ length t → Item ts (drop k s) n → (a : Answer) → a .consumed ≡ k + n → isFound a ≡ true → Hit ts s e a
+  line-hit : (t : List ℕ) → Opens t → Last t → (k : ℕ) → stands t s k ≡ true → (n : ℕ) → n ≡ length t → Item ts (drop k s) n → (a : Answer) → a .consumed ≡ k + n → Plain a → Hit ts s e a
   line-hit t w z k h n f i a c g =
       let u = drop k s in
       let v : stands t u 0 ≡ true = sym (stands-here t s k) ∙ h in
@@ -98,34 +148,35 @@ module _ (ts : List Token) (good : Texts ts) (s : List ℕ) (e : ℕ) where
         at = inr (stands-front crlf (w .rest) s k (rw (w .front) at h));
         item = i;
         ends = sym c;
-        found = g;
+        found = g .0;
+        digits = plain-digits s a g;
         finished = lf-finished u (0 + (length t - 1)) (omega arith) (omega arith) b (ofMark mark.Notice 0 ts) (mark-texts mark.Notice 0 ts good);
       }
 
-  -- the fixed lines of a list, each of which ends in LF and is one of the nine
+  -- the fixed lines of a list, each of which ends in LF, has no digits and is one of the nine
   abbrev Lasts : List Fixed → Type 0
   Lasts [] = Unit {0}
-  Lasts (l ∷ ls) = Last (fixedText l) × Lasts ls
+  Lasts (l ∷ ls) = (Last (fixedText l) × (isNumeric (kindOf l) ≡ false)) × Lasts ls
 
   lines-hit : (ls : List Fixed) → Lasts ls → ((u : List ℕ) (n : ℕ) → Some (λ l. Line (fixedText l) u n) ls → Some (λ l. Line (fixedText l) u n) nine) → (a : Answer) → Some (LineAt s a) ls → Hit ts s e a
   lines-hit [] z i a h = absurd h
   lines-hit (l ∷ ls) z i a (inl h) =
       let t = fixedText l in
-      line-hit t (opens l) (z .0) (h .k) (h .here) (length t) refl (items.line (i (drop (h .k) s) (length t) (inl (sym (stands-here t s (h .k)) ∙ h .here, refl)))) a (h .ends) (h .found)
+      line-hit t (opens l) (z .0 .0) (h .k) (h .here) (length t) refl (items.line (i (drop (h .k) s) (length t) (inl (sym (stands-here t s (h .k)) ∙ h .here, refl)))) a (h .ends) (h .plain (z .0 .1))
   lines-hit (l ∷ ls) z i a (inr h) = lines-hit ls (z .1) (λ u n v. i u n (inr v)) a h
 
   success-at : (a : Answer) (l : Fixed) (r : Found) → findIn (fixedText l) s e ≡ r → lineSuccess s e l r ≡ tries.Done a → LineAt s a l
   unfolding lineSuccess success
   success-at a l (At k) q h =
       let z : withPayload kind.Ok 0 (trimmedPart s e k) (k + length (fixedText l)) ≡ a = cc in
-      record { k = k; here = found-at (fixedText l) s e k q .here; ends = ap (λ (x : Answer). x .consumed) (sym z); found = ap isFound (sym z) }
+      record { k = k; here = found-at (fixedText l) s e k q .here; ends = ap (λ (x : Answer). x .consumed) (sym z); plain = λ n. rw (sym z) (refl, (refl, refl)) }
   success-at a l Nothing q h = absurd (done-next a h refl)
 
   line-at : (a : Answer) (l : Fixed) (r : Found) → findIn (fixedText l) s e ≡ r → lineTried l r ≡ tries.Done a → LineAt s a l
   unfolding lineTried
   line-at a l (At k) q h =
       let z : bare (kindOf l) (k + length (fixedText l)) ≡ a = cc in
-      record { k = k; here = found-at (fixedText l) s e k q .here; ends = ap (λ (x : Answer). x .consumed) (sym z); found = ap isFound (sym z) ∙ kind-found l }
+      record { k = k; here = found-at (fixedText l) s e k q .here; ends = ap (λ (x : Answer). x .consumed) (sym z); plain = λ n. rw (sym z) (kind-found l, (n, refl)) }
   line-at a l Nothing q h = absurd (done-next a h refl)
 
   na-at : (a : Answer) → notAllowed s e ≡ tries.Done a → LineAt s a fixed.Na
@@ -133,7 +184,7 @@ module _ (ts : List Token) (good : Texts ts) (s : List ℕ) (e : ℕ) where
   na-at a h = go (stands (fixedText fixed.Na) s e) refl h
     where
       go : (b : Bool) → stands (fixedText fixed.Na) s e ≡ b → (if b then tries.Done (bare kind.NotAllowed (e + 6)) else tries.Next) ≡ tries.Done a → LineAt s a fixed.Na
-      go true q g = let z : bare kind.NotAllowed (e + 6) ≡ a = cc in record { k = e; here = q; ends = ap (λ (x : Answer). x .consumed) (sym z); found = ap isFound (sym z) }
+      go true q g = let z : bare kind.NotAllowed (e + 6) ≡ a = cc in record { k = e; here = q; ends = ap (λ (x : Answer). x .consumed) (sym z); plain = λ n. rw (sym z) (refl, (refl, refl)) }
       go false q g = absurd (done-next a g refl)
 
   -- where a custom line occurs
@@ -153,7 +204,7 @@ module _ (ts : List Token) (good : Texts ts) (s : List ℕ) (e : ℕ) where
   custom-some [] n len k h = let z : _≡_ {A = ℕ} 0 1 = cc in absurd (omega arith)
   custom-some (x ∷ l) n len k h = custom-at x l (findIn (wrapped (x .text)) s e) refl (firstCustom l s e) (λ m b j g. custom-some l m b j g) n len k h
 
-  custom-hit : (l : List Entry) (len k : ℕ) → Some (CustomAt len k) l → (Some (λ x. Line (wrapped (x .text)) (drop k s) (len + 4)) l → Item ts (drop k s) (len + 4)) → (a : Answer) → a .consumed ≡ k + (len + 4) → isFound a ≡ true → Hit ts s e a
+  custom-hit : (l : List Entry) (len k : ℕ) → Some (CustomAt len k) l → (Some (λ x. Line (wrapped (x .text)) (drop k s) (len + 4)) l → Item ts (drop k s) (len + 4)) → (a : Answer) → a .consumed ≡ k + (len + 4) → Plain a → Hit ts s e a
   custom-hit l len k h mk a c g =
       let i = mk (some-map (CustomAt len k) (λ x. Line (wrapped (x .text)) (drop k s) (len + 4)) (λ x v. (sym (stands-here (wrapped (x .text)) s k) ∙ v .0, omega (arith, v .1, wrapped-length (x .text)))) l h) in
       some-any (CustomAt len k) (Hit ts s e a) (λ x v. line-hit (wrapped (x .text)) (wrapped-opens (x .text)) (wrapped-last (x .text)) k (v .0) (len + 4) (omega (arith, v .1, wrapped-length (x .text))) i a c g) l h
@@ -162,45 +213,91 @@ module _ (ts : List Token) (good : Texts ts) (s : List ℕ) (e : ℕ) where
   unfolding customSuccess success
   custom-success-sound (occurs.At n len k) q a h =
       let z : withPayload kind.Ok 0 (trimmedPart s e k) (k + (len + 4)) ≡ a = cc in
-      custom-hit (ofMark mark.Success 0 ts) len k (custom-some (ofMark mark.Success 0 ts) n len k q) items.customSuccess a (ap (λ (x : Answer). x .consumed) (sym z)) (ap isFound (sym z))
+      custom-hit (ofMark mark.Success 0 ts) len k (custom-some (ofMark mark.Success 0 ts) n len k q) items.customSuccess a (ap (λ (x : Answer). x .consumed) (sym z)) (rw (sym z) (refl, (refl, refl)))
   custom-success-sound occurs.Nothing q a h = absurd (done-next a h refl)
 
   custom-error-sound : (r : Occurs) → firstCustom (ofMark mark.Error 0 ts) s e ≡ r → (a : Answer) → customError r ≡ tries.Done a → Hit ts s e a
   unfolding customError
   custom-error-sound (occurs.At n len k) q a h =
       let z : withPayload kind.Custom n (record { start = k + 2; len = len }) (k + (len + 4)) ≡ a = cc in
-      custom-hit (ofMark mark.Error 0 ts) len k (custom-some (ofMark mark.Error 0 ts) n len k q) items.customError a (ap (λ (x : Answer). x .consumed) (sym z)) (ap isFound (sym z))
+      custom-hit (ofMark mark.Error 0 ts) len k (custom-some (ofMark mark.Error 0 ts) n len k q) items.customError a (ap (λ (x : Answer). x .consumed) (sym z)) (rw (sym z) (refl, (refl, refl)))
   custom-error-sound occurs.Nothing q a h = absurd (done-next a h refl)
 
-  -- numeric errors
-  numeric-hit : (ls : List Fixed) → ((u : List ℕ) (n : ℕ) → Some (λ x. NumericEnded (fixedText x) u n) ls → Some (λ x. NumericEnded (fixedText x) u n) heads) → (k n : ℕ) → Some (λ x. NumericEnded (fixedText x) (drop k s) n) ls → (a : Answer) → a .consumed ≡ k + n → isFound a ≡ true → Hit ts s e a
-  numeric-hit ls i k n h a d g =
+  -- numeric errors, with their digits
+  numeric-digits : (h : Fixed) → isNumeric (kindOf h) ≡ true → getD (fixedText h) (length (fixedText h) - 1) 0 ≡ 58 → (u : List ℕ) (d : Digits) → NumericRead (fixedText h) u d → DigitsOf u (withDigits (kindOf h) (d .code) (record { start = d .start; len = d .stop - d .start }) (d .end))
+  numeric-digits h n z u d t =
+      let w = t .numeric in
+      let p = t .start in
+      let q = t .stop in
+      let l : 0 < d .stop - d .start = omega (arith, w .digits .0) in
+      let f : d .start ≡ placed (d .stop - d .start) (d .start) = placed-some (d .stop - d .start) (d .start) (λ o. omega arith) in
+      let b : d .start + (d .stop - d .start) ≡ w .b = omega (arith, w .digits .0) in
+      record {
+        some = n ∙ sym (lt-ltb 0 (d .stop - d .start) l);
+        run =
+            λ o.
+            rw (sym f)
+            (record {
+              before = (omega (arith, w .spaces .0, opens h .long), ap (λ (j : ℕ). isDigit (getD u (j - 1) 0)) (sym p) ∙ front w);
+              digits = λ j g k. w .digits .1 j (omega (arith, p)) (omega (arith, b));
+              ended = rw b (w .ended);
+            });
+        code = λ o g. sym (ap stored (numbered-some (kindOf h) (d .code) g)) ∙ t .code ∙ ap (λ (j : ℕ). value 0 (take (d .stop - d .start) (drop j u))) f;
+      }
+    where
+      -- before the digits stands a run blank, or the head's colon
+      front : (w : NumericEnded (fixedText h) u (d .end)) → isDigit (getD u (w .a - 1) 0) ≡ false
+      front w =
+          ⊎-elim
+          (λ (g : length (fixedText h) < w .a).
+          not-true-false (isDigit (getD u (w .a - 1) 0)) (λ o. false-true (w .spaces .1 (w .a - 1) (omega arith) (omega arith)) (digit-blank (getD u (w .a - 1) 0) o)))
+          (λ (g : w .a ≤ length (fixedText h)).
+          let i : w .a - 1 ≡ 0 + (length (fixedText h) - 1) = omega (arith, w .spaces .0) in
+          ap (λ (j : ℕ). isDigit (getD u j 0)) i ∙ ap isDigit (stands-getD (fixedText h) u 0 (length (fixedText h) - 1) (w .head) (omega (arith, opens h .long)) ∙ z) ∙ (unfold isDigit in refl))
+          (order (length (fixedText h)) (w .a))
+
+  -- the heads of a list, each of which is a numeric error's and ends in a colon
+  abbrev Heads : List Fixed → Type 0
+  Heads [] = Unit {0}
+  Heads (h ∷ hs) = ((isNumeric (kindOf h) ≡ true) × (getD (fixedText h) (length (fixedText h) - 1) 0 ≡ 58)) × Heads hs
+
+  numeric-hit : (h : Fixed) → isNumeric (kindOf h) ≡ true → getD (fixedText h) (length (fixedText h) - 1) 0 ≡ 58 → (k : ℕ) (d : Digits) → NumericRead (fixedText h) (drop k s) d → Some (λ x. NumericEnded (fixedText x) (drop k s) (d .end)) heads → (a : Answer) → a ≡ withDigits (kindOf h) (d .code) (record { start = k + d .start; len = k + d .stop - (k + d .start) }) (k + d .end) → Hit ts s e a
+  numeric-hit h v z k d t i a g =
       let u = drop k s in
-      some-any (λ x. NumericEnded (fixedText x) u n) (Hit ts s e a) (λ x w.
+      let w = t .numeric in
       let m = ending-fits u (w .b) (w .ended .0) in
-      let o = opens x in
+      let o = opens h in
       let l = o .long in
+      let f : k + d .stop - (k + d .start) ≡ d .stop - d .start = omega arith in
+      let r : Answer = withDigits (kindOf h) (d .code) (record { start = d .start; len = d .stop - d .start }) (d .end) in
       record {
         p = k;
-        n = n;
-        at = inr (stands-front crlf (o .rest) s k (rw (o .front) at (stands-here (fixedText x) s k ∙ w .head)));
-        item = items.numeric (i u n h);
-        ends = sym d;
-        found = g;
+        n = d .end;
+        at = inr (stands-front crlf (o .rest) s k (rw (o .front) at (stands-here (fixedText h) s k ∙ w .head)));
+        item = items.numeric i;
+        ends = ap (λ (x : Answer). x .consumed) (sym g);
+        found = ap isFound g ∙ kind-found h;
+        digits =
+            digits-on s k r a (numeric-digits h v z u d t) (ap (λ (x : Answer). x .kind) g) (ap (λ (x : Answer). x .number) g) (ap (λ (x : Answer). x .«digits_len») g ∙ f)
+            (λ q.
+            let y : k + d .start ≡ placed (k + d .stop - (k + d .start)) (k + d .start) = placed-some (k + d .stop - (k + d .start)) (k + d .start) (λ n. omega arith) in
+            let x : d .start ≡ placed (d .stop - d .start) (d .start) = placed-some (d .stop - d .start) (d .start) (λ n. omega arith) in
+            ap (λ (c : Answer). c .«digits_place») g ∙ sym y ∙ ap (λ (j : ℕ). k + j) x)
+            (ap (λ (x : Answer). x .consumed) g);
         finished =
             lf-finished u (w .b + lineEnding u (w .b) - 1) (omega (arith, w .spaces .0, w .digits .0, w .ended .0)) (omega (arith, w .ended .0)) (ending-lf u (w .b) (w .ended .0)) (ofMark mark.Notice 0 ts)
             (mark-texts mark.Notice 0 ts good);
-      }) ls h
+      }
 
-  numeric-sound : (h : Fixed) → ((u : List ℕ) (n : ℕ) → NumericEnded (fixedText h) u n → Some (λ x. NumericEnded (fixedText x) u n) heads) → (a : Answer) → numericTried h (numericError (fixedText h) s e) ≡ tries.Done a → Hit ts s e a
+  numeric-sound : (h : Fixed) → isNumeric (kindOf h) ≡ true → getD (fixedText h) (length (fixedText h) - 1) 0 ≡ 58 → ((u : List ℕ) (n : ℕ) → NumericEnded (fixedText h) u n → Some (λ x. NumericEnded (fixedText x) u n) heads) → (a : Answer) → numericTried h (numericError (fixedText h) s e) ≡ tries.Done a → Hit ts s e a
   unfolding numericError
-  numeric-sound h i a g = at-place (findIn (fixedText h) s e) g
+  numeric-sound h v z i a g = at-place (findIn (fixedText h) s e) g
     where
       at-end : (k : ℕ) (q : Numeric) → numericAt (fixedText h) (drop k s) 0 ≡ q → numericTried h (shiftNumeric k q) ≡ tries.Done a → Hit ts s e a
       at-end k (numeric.Is d) p j =
           unfold shiftNumeric numericTried in
-          let z : withNumber (kindOf h) (d .code) (k + d .end) ≡ a = cc in
-          numeric-hit heads (λ u n v. v) k (d .end) (i (drop k s) (d .end) (numeric-told (fixedText h) (drop k s) d p)) a (ap (λ (x : Answer). x .consumed) (sym z)) (ap isFound (sym z) ∙ kind-found h)
+          let t = numeric-told (fixedText h) (drop k s) d p in
+          numeric-hit h v z k d t (i (drop k s) (d .end) (t .numeric)) a cc
       at-end k numeric.Nothing p j = absurd (done-next a j (unfold shiftNumeric numericTried in refl))
 
       at-place : (q : Found) → numericTried h (atFound (fixedText h) s q) ≡ tries.Done a → Hit ts s e a
@@ -209,10 +306,10 @@ module _ (ts : List Token) (good : Texts ts) (s : List ℕ) (e : ℕ) where
           at-end k (numericAt (fixedText h) (drop k s) 0) refl (rw (numeric-moved (fixedText h) s k) at y)
       at-place Nothing j = absurd (done-next a j (unfold atFound numericTried in refl))
 
-  numerics-of : (ls : List Fixed) → ((u : List ℕ) (n : ℕ) → Some (λ x. NumericEnded (fixedText x) u n) ls → Some (λ x. NumericEnded (fixedText x) u n) heads) → (a : Answer) → Some (λ h. numericTried h (numericError (fixedText h) s e) ≡ tries.Done a) ls → Hit ts s e a
-  numerics-of [] i a h = absurd h
-  numerics-of (x ∷ ls) i a (inl h) = numeric-sound x (λ u n v. i u n (inl v)) a h
-  numerics-of (x ∷ ls) i a (inr h) = numerics-of ls (λ u n v. i u n (inr v)) a h
+  numerics-of : (ls : List Fixed) → Heads ls → ((u : List ℕ) (n : ℕ) → Some (λ x. NumericEnded (fixedText x) u n) ls → Some (λ x. NumericEnded (fixedText x) u n) heads) → (a : Answer) → Some (λ h. numericTried h (numericError (fixedText h) s e) ≡ tries.Done a) ls → Hit ts s e a
+  numerics-of [] z i a h = absurd h
+  numerics-of (x ∷ ls) z i a (inl h) = numeric-sound x (z .0 .0) (z .0 .1) (λ u n v. i u n (inl v)) a h
+  numerics-of (x ∷ ls) z i a (inr h) = numerics-of ls (z .1) (λ u n v. i u n (inr v)) a h
 
   -- notices: each record's outcome, by position
   pub notice-front : (x : List ℕ) (n : ℕ) → NoticeEnded x (drop e s) n → noticeAt x s e ≡ notice.Ended (e + n)
@@ -224,7 +321,7 @@ module _ (ts : List Token) (good : Texts ts) (s : List ℕ) (e : ℕ) where
   broken-front x w = notice-moved x s e ∙ ap (shiftNotice e) (unfinished-is x (drop e s) w)
 
   abbrev EndedBy : Answer → Entry → Type 0
-  EndedBy a x = NoticeEnded (x .text) (drop e s) (a .consumed - e) × ((e ≤ a .consumed) × (isFound a ≡ true))
+  EndedBy a x = NoticeEnded (x .text) (drop e s) (a .consumed - e) × ((e ≤ a .consumed) × Plain a)
 
   abbrev BrokenBy : Answer → Entry → Type 0
   BrokenBy a x = Unfinished (x .text) (drop e s) × (a ≡ nothing e)
@@ -235,7 +332,7 @@ module _ (ts : List Token) (good : Texts ts) (s : List ℕ) (e : ℕ) where
       let z : withPayload kind.Notice (x .number) (trimmedPart s e (e + n)) (e + n) ≡ a = cc in
       let c : a .consumed ≡ e + n = ap (λ (y : Answer). y .consumed) (sym z) in
       let i : a .consumed - e ≡ n = omega arith in
-      inl (rw i (ended-told (x .text) (drop e s) n p), (omega arith, ap isFound (sym z)))
+      inl (rw i (ended-told (x .text) (drop e s) n p), (omega arith, rw (sym z) (refl, (refl, refl))))
   one-heard x a notice.Unfinished p h =
       let z : nothing e ≡ a = cc in
       inr (unfinished-told (x .text) (drop e s) p, sym z)
@@ -265,7 +362,8 @@ module _ (ts : List Token) (good : Texts ts) (s : List ℕ) (e : ℕ) where
         at = inl refl;
         item = items.notice i;
         ends = omega (arith, v .1 .0);
-        found = v .1 .1;
+        found = v .1 .1 .0;
+        digits = plain-digits s a (v .1 .1);
         finished = lf-finished (drop e s) (a .consumed - e - 1) (omega (arith, b .1 .0)) (omega (arith, b .0, b .1 .0)) (b .1 .1) l good-l;
       }) l q))
       (λ (q : Some (BrokenBy a) l).
@@ -282,7 +380,7 @@ module _ (ts : List Token) (good : Texts ts) (s : List ℕ) (e : ℕ) where
 
   -- prompts, which take all there is
   module _ (inside : e ≤ length s) (quiet : notices (ofMark mark.Notice 0 ts) s e ≡ tries.Next) where
-    all-hit : Item ts (drop e s) (length (drop e s)) → (a : Answer) → a .consumed ≡ length s → isFound a ≡ true → Hit ts s e a
+    all-hit : Item ts (drop e s) (length (drop e s)) → (a : Answer) → a .consumed ≡ length s → Plain a → Hit ts s e a
     all-hit i a c g =
         record {
           p = e;
@@ -290,13 +388,14 @@ module _ (ts : List Token) (good : Texts ts) (s : List ℕ) (e : ℕ) where
           at = inl refl;
           item = i;
           ends = omega (arith, c, length-drop e s);
-          found = g;
+          found = g .0;
+          digits = plain-digits s a g;
           finished = notices-quiet (ofMark mark.Notice 0 ts) quiet;
         }
 
-    prompt-done : (b : Bool) (c : ℕ) (a : Answer) → promptTried b c s ≡ tries.Done a → (b ≡ true) × ((a .consumed ≡ length s) × (isFound a ≡ true))
+    prompt-done : (b : Bool) (c : ℕ) (a : Answer) → promptTried b c s ≡ tries.Done a → (b ≡ true) × ((a .consumed ≡ length s) × Plain a)
     unfolding promptTried
-    prompt-done true c a h = let z : withNumber kind.Prompt c (length s) ≡ a = cc in (refl, (ap (λ (x : Answer). x .consumed) (sym z), ap isFound (sym z)))
+    prompt-done true c a h = let z : withNumber kind.Prompt c (length s) ≡ a = cc in (refl, (ap (λ (x : Answer). x .consumed) (sym z), rw (sym z) (refl, (refl, refl))))
     prompt-done false c a h = absurd (done-next a h refl)
 
     prompt-sound : (c : ℕ) → (FirstAlone c (drop e s) → FirstAlone 62 (drop e s) ⊎ FirstAlone 64 (drop e s)) → (a : Answer) → promptTried (promptFrom c s e) c s ≡ tries.Done a → Hit ts s e a
@@ -304,7 +403,7 @@ module _ (ts : List Token) (good : Texts ts) (s : List ℕ) (e : ℕ) where
         let w = prompt-done (promptFrom c s e) c a h in
         all-hit (items.prompt (mk (alone-told c (drop e s) (sym (prompt-moved c s e inside) ∙ w .0))) refl) a (w .1 .0) (w .1 .1)
 
-    customs-some : (l : List Entry) (a : Answer) → customPrompts l s e ≡ tries.Done a → Some (λ x. EndsIn (x .text) (drop e s)) l × ((a .consumed ≡ length s) × (isFound a ≡ true))
+    customs-some : (l : List Entry) (a : Answer) → customPrompts l s e ≡ tries.Done a → Some (λ x. EndsIn (x .text) (drop e s)) l × ((a .consumed ≡ length s) × Plain a)
     unfolding customPrompts
     customs-some [] a h = absurd (done-next a h refl)
     customs-some (x ∷ l) a h =
@@ -338,7 +437,7 @@ module _ (ts : List Token) (good : Texts ts) (s : List ℕ) (e : ℕ) where
   unfolding successes
   successes-sound a =
       either (customSuccess (firstCustom (ofMark mark.Success 0 ts) s e) s e) _ a (custom-success-sound (firstCustom (ofMark mark.Success 0 ts) s e) refl a)
-      (λ h. lines-hit successLines (refl, (refl, tt)) (λ u n. some-left (λ l. Line (fixedText l) u n) successLines (errorLines ++ (fixed.Na ∷ []))) a (found h))
+      (λ h. lines-hit successLines ((refl, refl), ((refl, refl), tt)) (λ u n. some-left (λ l. Line (fixedText l) u n) successLines (errorLines ++ (fixed.Na ∷ []))) a (found h))
     where
       line : Fixed → Tried
       line l = lineSuccess s e l (findIn (fixedText l) s e)
@@ -349,7 +448,7 @@ module _ (ts : List Token) (good : Texts ts) (s : List ℕ) (e : ℕ) where
   lines-sound : (a : Answer) → lineErrors s e ≡ tries.Done a → Hit ts s e a
   unfolding lineErrors
   lines-sound a h =
-      lines-hit errorLines (refl, (refl, (refl, (refl, (refl, (refl, tt))))))
+      lines-hit errorLines ((refl, refl), ((refl, refl), ((refl, refl), ((refl, refl), ((refl, refl), ((refl, refl), tt))))))
       (λ u n v. some-right (λ l. Line (fixedText l) u n) successLines (errorLines ++ (fixed.Na ∷ [])) (some-left (λ l. Line (fixedText l) u n) errorLines (fixed.Na ∷ []) v)) a
       (some-map (λ l. line l ≡ tries.Done a) (LineAt s a) (λ l v. line-at a l (findIn (fixedText l) s e) refl v) errorLines (first-some line errorLines a h))
     where
@@ -360,9 +459,9 @@ module _ (ts : List Token) (good : Texts ts) (s : List ℕ) (e : ℕ) where
   unfolding errors numericErrors
   errors-sound a =
       either (customError (firstCustom (ofMark mark.Error 0 ts) s e)) _ a (custom-error-sound (firstCustom (ofMark mark.Error 0 ts) s e) refl a)
-      (either (numericErrors s e) _ a (λ h. numerics-of heads (λ u n v. v) a (first-some (λ x. numericTried x (numericError (fixedText x) s e)) heads a h))
+      (either (numericErrors s e) _ a (λ h. numerics-of heads ((refl, refl), ((refl, refl), ((refl, refl), tt))) (λ u n v. v) a (first-some (λ x. numericTried x (numericError (fixedText x) s e)) heads a h))
       (either (lineErrors s e) _ a (lines-sound a)
-      (λ h. lines-hit (fixed.Na ∷ []) (refl, tt) (λ u n v. some-right (λ l. Line (fixedText l) u n) successLines (errorLines ++ (fixed.Na ∷ [])) (some-right (λ l. Line (fixedText l) u n) errorLines (fixed.Na ∷ []) v)) a (inl (na-at a h)))))
+      (λ h. lines-hit (fixed.Na ∷ []) ((refl, refl), tt) (λ u n v. some-right (λ l. Line (fixedText l) u n) successLines (errorLines ++ (fixed.Na ∷ [])) (some-right (λ l. Line (fixedText l) u n) errorLines (fixed.Na ∷ []) v)) a (inl (na-at a h)))))
 
   pub tried-sound : e ≤ length s → (a : Answer) → tried ts s e ≡ tries.Done a → Sound ts s e a
   unfolding tried

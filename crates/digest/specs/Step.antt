@@ -30,8 +30,8 @@ use Rattle.parser.specs.declared.Notice.the-variants as notice
 use Rattle.answers.specs.declared.Kind.{Kind}
 use Rattle.answers.specs.declared.Kind.the-variants as kind
 use Rattle.answers.specs.declared.Answer.{Answer}
-use Rattle.answers.specs.Answer.{isFound, nothing, withPayload, longest, shiftWithin, Within}
-use Rattle.answers.specs.Laws.{bare-within, nothing-within, number-within, payload-within, shift-within, shift-is}
+use Rattle.answers.specs.Answer.{isFound, nothing, withPayload, shift, longest, shiftWithin, Within}
+use Rattle.answers.specs.Laws.{longer-within, bare-within, nothing-within, number-within, digits-within, payload-within, shift-within, shift-is}
 use Rattle.items.specs.declared.Occurs.{Occurs}
 use Rattle.items.specs.declared.Occurs.the-variants as occurs
 use Rattle.items.specs.declared.Tried.{Tried}
@@ -160,7 +160,9 @@ module _ (s : List ℕ) (e : ℕ) where
 
   numeric-within : (h : Fixed) (r : Numeric) → numericError (fixedText h) s e ≡ r → TriedHas (Within (length s)) (numericTried h r)
   unfolding numericTried
-  numeric-within h (numeric.Is d) p = number-within (kindOf h) (d .code) (d .end) (length s) (error-bounds (fixedText h) s e d p)
+  numeric-within h (numeric.Is d) p =
+      let w = error-bounds (fixedText h) s e d p in
+      digits-within (kindOf h) (d .code) (record { start = d .start; len = d .stop - d .start }) (d .end) (length s) (omega (arith, w .0, w .1 .0)) (w .1 .1)
   numeric-within h numeric.Nothing p = tt
 
   prompt-within : (b : Bool) (c : ℕ) → TriedHas (Within (length s)) (promptTried b c s)
@@ -206,7 +208,7 @@ again-within : (s : List ℕ) (e : ℕ) (r : Answer) → e ≤ length s → e + 
 unfolding again
 again-within s e r h g w =
     ways (Within (length s)) (isFound r)
-    (λ q. let v = shift-within (e + 2) (length s - (e + 2)) r w in record { payload = v .payload; all = omega (arith, v .all, g) })
+    (λ q. longer-within (length s - (e + 2) + (e + 2)) (length s) (shift (e + 2) r) (shift-within (e + 2) (length s - (e + 2)) r w) (omega (arith, g)))
     (λ q. nothing-within e (length s) h)
 
 after-within : (s : List ℕ) (f : List ℕ → Answer) (e : ℕ) (t : Tried) → e ≤ length s → TriedHas (Within (length s)) t → (retries s e ≡ true → Within (length (drop (e + 2) s)) (f (drop (e + 2) s))) → Within (length s) (after s f e t)
@@ -267,4 +269,4 @@ module _ (ts : List Token) (s : List ℕ) (r : Level) (w : Says s (skipped s) (t
           pub retry-within : length s ≤ 4096 → (e + 2 ≤ 4096) × Within 4096 a
           retry-within l =
               let x : Within (length (drop (e + 2) s)) a = rw of-rest (digest-within ts (drop (e + 2) s)) in
-              (omega (arith, retry-room), record { payload = x .payload; all = omega (arith, x .all, length-drop (e + 2) s) })
+              (omega (arith, retry-room), longer-within (length (drop (e + 2) s)) 4096 a x (omega (arith, length-drop (e + 2) s)))

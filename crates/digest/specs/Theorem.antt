@@ -24,7 +24,7 @@ use Rattle.items.specs.declared.Tried.{Tried}
 use Rattle.items.specs.declared.Tried.the-variants as tries
 use Rattle.outcome.specs.Outcome.{if_then_else_}
 use Rattle.answers.specs.Answer.{isFound, nothing, shift, Within}
-use Rattle.answers.specs.Laws.{shift-within}
+use Rattle.answers.specs.Laws.{placed-some, shift-within}
 use Rattle.items.specs.Rules.{skipped, tried}
 use Rattle.level.specs.Laws.{skipped-le}
 use Rattle.digest.specs.Digest.{retries, again, after, digestIn}
@@ -33,7 +33,7 @@ use Rattle.digest.specs.Heard.{Where, Heard}
 use Rattle.digest.specs.Step.{by-length, rest-shorter, digest-step, tried-within, digest-within, retries-on}
 use Rattle.digest.specs.Items.{some-map, lf-finished, crlf-lf, stands-here, item-some, item-size, item-long, no-crlf-item}
 use Rattle.digest.specs.Starts.{start-here, start-is}
-use Rattle.digest.specs.Sound.{Hit, Broken, tried-sound}
+use Rattle.digest.specs.Sound.{digits-on, Hit, Broken, tried-sound}
 use Rattle.digest.specs.Silent.{Silent, silent, nothing-here, no-alone, no-customs}
 
 module _ (ts : List Token) (good : Texts ts) where
@@ -179,6 +179,8 @@ module _ (ts : List Token) (good : Texts ts) where
         };
         ends = h .ends;
         payload = v .payload;
+        within = v .digits;
+        digits = h .digits;
       }
 
   retries-crlf : (s : List ℕ) (e : ℕ) → retries s e ≡ true → stands crlf s e ≡ true
@@ -191,6 +193,7 @@ module _ (ts : List Token) (good : Texts ts) where
     again-where q r v h g =
         let e = skipped s in
         let x : Where ts (drop (e + 2) s) r = rw v (ih (drop (e + 2) s) (rest-shorter s e h) (rw v at g)) in
+        let w = shift-within (e + 2) (r .consumed) r (record { payload = x .payload; digits = x .within; all = omega arith }) in
         let i : drop (x .p) (drop (e + 2) s) ≡ drop (e + 2 + x .p) s = drop-drop (x .p) (e + 2) s in
         record {
           p = e + 2 + x .p;
@@ -201,7 +204,11 @@ module _ (ts : List Token) (good : Texts ts) where
             finished = rw i at (x .holds .finished);
           };
           ends = omega (arith, x .ends);
-          payload = shift-within (e + 2) (r .consumed) r (record { payload = x .payload; all = omega arith }) .payload;
+          payload = w .payload;
+          within = w .digits;
+          digits =
+              digits-on s (e + 2) r (shift (e + 2) r) (x .digits) refl refl refl
+              (λ y. sym (placed-some (r .«digits_len») (r .«digits_place» + (e + 2)) (λ z. omega arith)) ∙ omega arith) (omega arith);
         }
       where
         on : (x : Where ts (drop (skipped s + 2) s) r) → LineStart (drop (skipped s + 2) s) (x .p) → LineStart s (skipped s + 2 + x .p)

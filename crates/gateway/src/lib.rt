@@ -1,5 +1,5 @@
 // Document 01's calls for C and Rust: numbers and byte slices go in, the refusal's number comes out (0: not refused).
-// What a call answers stands at the front of a lent array of five numbers, whose other numbers stay as they were.
+// What a call answers stands at the front of a lent array of seven numbers, whose other numbers stay as they were.
 // Each export promises that it equals the call behind it; none has a condition on its arguments. It changes no number of the state but
 // those that the call gives another meaning.
 ghost use mathlib.Core.Path.{_≡_};
@@ -49,7 +49,8 @@ pub extern "C" fn wx_table_check(table: &[u8], out: &mut [u64; OUT]) -> u32
     }
 }
 
-// Digests an input under a table. Answers kind, number, payload's place and length, bytes consumed; refusal 2 the faulty record's number.
+// Digests an input under a table. Answers kind, number, payload's place and length, bytes consumed, digits' place and length (R-2); refusal 2 the faulty record's
+// number.
 #[no_mangle]
 pub extern "C" fn wx_digest(table: &[u8], input: &[u8], out: &mut [u64; OUT]) -> u32
     ensures { λ r. ⌜ call r (now (out .exit)) ≡ said answerValues (digest (now (table .entry)) (now (input .entry))) (now (out .entry)) ⌝ }
@@ -81,7 +82,7 @@ fn fitted(s: &[u8], place: usize, len: usize) -> usize
     place
 }
 
-// The payload of an answer, fitted: its place in the input and its length; both 0 where it doesn't fit.
+// The payload of an answer, or its digits, fitted: place in the input and length; both 0 where it doesn't fit.
 #[no_mangle]
 pub extern "C" fn wx_payload(input: &[u8], place: usize, len: usize, out: &mut [u64; OUT])
     ensures { λ _. ⌜ now (out .exit) ≡ laid (partValues (now (input .entry)) place len) (now (out .entry)) ⌝ }
@@ -100,7 +101,7 @@ pub extern "C" fn wx_slot_new(state: &mut [u64; NUMBERS])
     numbers::put_slot(state, slot);
 }
 
-// Signals an answer (five numbers as `wx_digest` leaves them) with its payload's bytes to the slot.
+// Signals an answer (seven numbers as `wx_digest` leaves them) to the slot, with its payload's bytes, or a numeric error's digits (R-2).
 #[no_mangle]
 pub extern "C" fn wx_slot_signal(
     state: &mut [u64; NUMBERS],
@@ -120,7 +121,7 @@ pub extern "C" fn wx_slot_signal(
     }
 }
 
-// Looks at the slot. Answers 1, what is held, its number and its payload's length; of a free slot 0 and no more.
+// Looks at the slot. Answers 1, what is held, its number and the length of its payload or digits; of a free slot 0 and no more.
 #[no_mangle]
 pub extern "C" fn wx_slot_lookup(state: &[u64; NUMBERS], mem: &[u8], out: &mut [u64; OUT]) -> u32
     ensures { λ r. ⌜ call r (now (out .exit)) ≡ said readValues (wasRead (slotOf (now (state .entry))) (now (mem .entry))) (now (out .entry)) ⌝ }
@@ -157,7 +158,7 @@ pub extern "C" fn wx_slot_reset(state: &mut [u64; NUMBERS], mem: &[u8]) -> u32
     }
 }
 
-// The payload that can be read, fitted: its place in the slot's memory and its length; both 0 of a free slot and where it doesn't fit.
+// The payload that can be read, or the digits, fitted: its place in the slot's memory and its length; both 0 of a free slot and where it doesn't fit.
 #[no_mangle]
 pub extern "C" fn wx_slot_payload(state: &[u64; NUMBERS], mem: &[u8], out: &mut [u64; OUT])
     ensures { λ _. ⌜ now (out .exit) ≡ laid (partValues (now (mem .entry)) 0 (readable (slotOf (now (state .entry))))) (now (out .entry)) ⌝ }
@@ -336,7 +337,7 @@ pub extern "C" fn wx_ingress_clear(state: &mut [u64; NUMBERS])
 // meaning of a number in one changes.
 #[no_mangle]
 pub extern "C" fn wx_version() -> u32
-    ensures { λ r. ⌜ r ≡ 1 ⌝ }
+    ensures { λ r. ⌜ r ≡ 2 ⌝ }
 {
-    1
+    2
 }

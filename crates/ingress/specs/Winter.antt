@@ -20,10 +20,10 @@ use Rattle.queue.specs.Waiting.{put-room, take-kept, take-empty, adds-one}
 use Rattle.queue.specs.declared.Put.the-variants as puts
 use Rattle.queue.specs.declared.Queue.{Queue}
 use Rattle.queue.specs.declared.Notice.{Notice}
-use Rattle.turn.specs.Turn.{withEnd, withSlot, withQueue, Delivery, World, withState, held, Choice, says, payloadOf, delivering}
+use Rattle.turn.specs.Turn.{withEnd, withSlot, withQueue, Delivery, deliver, World, withState, held, Choice, says, payloadOf, delivering}
 use Rattle.turn.specs.Says.{held-long, says-same, says-within, notice-found}
 use Rattle.turn.specs.Laws.{to-queue, next, once-goes}
-use Rattle.turn.specs.Kept.{Good, trusted, next-good}
+use Rattle.turn.specs.Kept.{Good, trusted, next-good, notice-carries}
 use Rattle.ingress.specs.Ingress.{Result, run, advanced, written}
 use Rattle.ingress.specs.Laws.{passed, passes, run-goes, at-run}
 use Rattle.ingress.specs.Story.{Event, arrived, consumed, dropped, handed, freed, cameBy, handedBy, flat, waitingIn, emptied, Consumes, Story, Fed, Over, Waits, takesBytes, Keeps, committedBytes, tookOf}
@@ -159,7 +159,10 @@ module _ (c : Choice) (w : World) (z : Waits c w) (q : Queue) (n : Notice) (e : 
       let a = says c with-room in
       let p = payloadOf (held w) a in
       let y = room-waits z in
-      sym (ap (λ (d : Delivery). d .waits) (to-queue (with-room .state) a p (w .slotMemory) (w .queueMemory) (y .0) (puts.Is (longer q)) (queues.written ours q (a .number) p (w .queueMemory)) (put-room q (a .number) p (w .queueMemory) (k .0) (k .1) (y .1 .0) (y .1 .1)) (puts.Is (longer q)) refl))
+      sym
+      (ap (λ (d : Delivery). d .waits)
+      (to-queue (with-room .state) a p (w .slotMemory) (w .queueMemory) (y .0) (puts.Is (longer q)) (queues.written ours q (a .number) p (w .queueMemory)) (put-room q (a .number) p (w .queueMemory) (k .0) (k .1) (y .1 .0) (y .1 .1)) (puts.Is (longer q)) refl
+      ∙ ap (λ (x : List ℕ). deliver (with-room .state) a x (w .slotMemory) (w .queueMemory)) (sym (notice-carries (held w) a (y .0)))))
 
   room-found : 1 ≤ says c with-room .consumed
   room-found = trusted c with-room room-good .some (notice-found (says c with-room) (room-waits z .0))

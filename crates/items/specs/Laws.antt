@@ -32,7 +32,7 @@ use Rattle.places.specs.declared.Places.{Places}
 use Rattle.answers.specs.declared.Kind.{Kind}
 use Rattle.answers.specs.declared.Kind.the-variants as kind
 use Rattle.answers.specs.declared.Answer.{Answer}
-use Rattle.answers.specs.Answer.{withNumber, withPayload}
+use Rattle.answers.specs.Answer.{withNumber, withDigits, withPayload}
 use Rattle.items.specs.declared.Occurs.{Occurs}
 use Rattle.items.specs.declared.Occurs.the-variants as occurs
 use Rattle.items.specs.declared.Tried.{Tried}
@@ -210,9 +210,9 @@ module _ (l : List Entry) (s : List ℕ) (e : ℕ) (r : Occurs) (p : r ≡ first
 
 -- a numeric error
 module _ (h : Fixed) (n r : Numeric) (p : r ≡ n) where
-  pub numeric-hit : (d : Digits) → r ≡ numeric.Is d → (k : Kind) → k ≡ kindOf h → (a : Answer) → a ≡ withNumber k (d .code) (d .end) → tries.Done a ≡ numericTried h n
+  pub numeric-hit : (d : Digits) → r ≡ numeric.Is d → (k : Kind) → k ≡ kindOf h → (a : Answer) → a ≡ withDigits k (d .code) (record { start = d .start; len = d .stop - d .start }) (d .end) → tries.Done a ≡ numericTried h n
   unfolding numericTried
-  numeric-hit d q k v a w = ap tries.Done (w ∙ ap (λ (x : Kind). withNumber x (d .code) (d .end)) v) ∙ matched (numericTried h) p q
+  numeric-hit d q k v a w = ap tries.Done (w ∙ ap (λ (x : Kind). withDigits x (d .code) (record { start = d .start; len = d .stop - d .start }) (d .end)) v) ∙ matched (numericTried h) p q
 
   pub numeric-miss : r ≡ numeric.Nothing → tries.Next ≡ numericTried h n
   unfolding numericTried

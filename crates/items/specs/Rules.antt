@@ -22,7 +22,7 @@ use Rattle.parser.specs.declared.Notice.{Notice}
 use Rattle.parser.specs.declared.Notice.the-variants as notice
 use Rattle.answers.specs.declared.Kind.{Kind}
 use Rattle.answers.specs.declared.Kind.the-variants as kind
-use Rattle.answers.specs.Answer.{bare, nothing, withNumber, withPayload}
+use Rattle.answers.specs.Answer.{bare, nothing, withNumber, withDigits, withPayload}
 use Rattle.items.specs.declared.Occurs.{Occurs}
 use Rattle.items.specs.declared.Occurs.the-variants as occurs
 use Rattle.items.specs.declared.Tried.{Tried}
@@ -135,12 +135,12 @@ unfoldable pub customError : Occurs → Tried
 customError (occurs.At n len k) = Done (withPayload kind.Custom n (record { start = k + 2; len = len }) (k + (len + 4)))
 customError occurs.Nothing = Next
 
--- CME, CMS, MODEM ERROR: through the end of the numeric error
+-- CME, CMS, MODEM ERROR: through the end of the numeric error, with its digits as they came (R-2)
 abbrev pub heads : List Fixed
 heads = fixed.Cme ∷ fixed.Cms ∷ fixed.Modem ∷ []
 
 unfoldable pub numericTried : Fixed → Numeric → Tried
-numericTried h (numeric.Is d) = Done (withNumber (kindOf h) (d .code) (d .end))
+numericTried h (numeric.Is d) = Done (withDigits (kindOf h) (d .code) (record { start = d .start; len = d .stop - d .start }) (d .end))
 numericTried h numeric.Nothing = Next
 
 unfoldable pub numericErrors : List ℕ → ℕ → Tried

@@ -156,13 +156,20 @@ fn prompt_at(s: &[u8], place: usize, byte: u8) -> Tried
     prompt_tried(s, s.len() <= end, byte)
 }
 
-// Rule 5: a numeric error, its head at its first place.
+// Rule 5: a numeric error, its head at its first place; with its digits as they came (R-2).
 fn numeric_at(s: &[u8], place: usize, kind: Kind, head: Fixed) -> Tried
     requires { ⌜ kind ≡ kindOf head ⌝ }
     ensures { λ r. ⌜ r ≡ numericTried head (numericAt (fixedText head) (now (s .entry)) place) ⌝ }
 {
     match parser::numeric_at(s, place, head) {
-        Numeric::Is(d) => Tried::Done(answers::with_number(kind, d.code, d.end)),
+        Numeric::Is(d) => {
+            let len = d.stop - d.start;
+            let digits = Span {
+                start: d.start,
+                len: len,
+            };
+            Tried::Done(answers::with_digits(kind, d.code, digits, d.end))
+        }
         Numeric::Nothing => Tried::Next,
     }
 }

@@ -11,9 +11,9 @@
 // Bytes of one field, or of one op, are at most 65,536; numbers are decimal, at most 4,294,967,295.
 // OPS is `-`, or ops joined by `;`: Wbytes write; Abytes put the bytes into the room and advance by as many (where they don't fit nothing is put, and
 // advance is called all the same); Mn advance by n; C clear; R reset; T take; L lookup; Obytes signal an Ok; Pn a prompt, n up to 255; En a CME code,
-// n up to 65,535; B BUSY.
+// n up to 65,535, with its digits in decimal, no zeros in front; En,bytes with these digits; B BUSY.
 //
-// A digest case answers KIND NUMBER PLACE LENGTH CONSUMED, `-` for no number. The others answer a part for each op, each ended by `;`, a space, and the last
+// A digest case answers KIND NUMBER PLACE LENGTH CONSUMED, `-` for no number, and where the answer has digits ` digits PLACE LENGTH` behind it. The others answer a part for each op, each ended by `;`, a space, and the last
 // state. What doesn't read in this notation, or is over a limit, is answered `bad line`, and nothing of the line is done.
 pub mod form;
 pub mod op;

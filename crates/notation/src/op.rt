@@ -26,12 +26,11 @@ fn op_of_bytes(letter: u8, n: usize) -> Op {
     }
 }
 
-// An op with a number: M, P or E.
+// An op with a number: M or P.
 fn op_of_number(letter: u8, n: u32) -> Op {
     match letter {
         b'M' => Op::Advance(n as usize, 0),
         b'P' => Op::Signal(Kind::Prompt, n, 0),
-        b'E' => Op::Signal(Kind::Cme, n, 0),
         _ => Op::Bad,
     }
 }
@@ -40,7 +39,6 @@ fn op_of_number(letter: u8, n: u32) -> Op {
 fn most(letter: u8) -> u32 {
     match letter {
         b'P' => 255,
-        b'E' => 65535,
         _ => fields::MOST,
     }
 }
@@ -68,8 +66,23 @@ fn takes_bytes(letter: u8) -> bool {
 // Has the op a number?
 fn takes_number(letter: u8) -> bool {
     match letter {
-        b'M' | b'P' | b'E' => true,
+        b'M' | b'P' => true,
         _ => false,
+    }
+}
+
+// A CME code of E, with the digits behind a comma or, with no comma, its own in decimal; they are read into the piece's memory.
+fn op_of_code(s: &[u8], piece: &mut Memory) -> Op {
+    let comma = fields::seek(s, 0, b',');
+    let Amount::Is(n) = fields::number(fields::between(s, 0, comma), 65535) else {
+        return Op::Bad;
+    };
+    if comma == s.len() {
+        return Op::Signal(Kind::Cme, n, ink::decimal(piece, 0, n as u64));
+    }
+    match data::data(fields::between(s, fields::plus(comma, 1), s.len()), piece) {
+        Filled::Is(len) => Op::Signal(Kind::Cme, n, len),
+        Filled::Bad => Op::Bad,
     }
 }
 
@@ -82,6 +95,9 @@ pub fn read_op(s: &[u8], piece: &mut Memory) -> Op {
             Filled::Is(n) => op_of_bytes(letter, n),
             Filled::Bad => Op::Bad,
         };
+    }
+    if letter == b'E' {
+        return op_of_code(rest, piece);
     }
     if takes_number(letter) {
         return match fields::number(rest, most(letter)) {

@@ -1,4 +1,4 @@
--- What each number of a lent array means: a state as nine numbers, and what a call answers at the front of an array of five.
+-- What each number of a lent array means: a state as nine numbers, and what a call answers at the front of an array of seven.
 use mathlib.Core.List.{List, [], _∷_}
 use Prim.Native.Nat.{ℕ, min}
 use lib.ListN.{getD}
@@ -58,9 +58,9 @@ kindOf n = getD kinds n kind.None
 abbrev pub word : ℕ → ℕ
 word n = min n 4294967295
 
--- an answer from its five numbers, in the order in which the digester's export leaves them
+-- an answer from its seven numbers, in the order in which the digester's export leaves them
 abbrev pub answerOf : List ℕ → Answer
-answerOf v = record { kind = kindOf (getD v 0 0); number = word (getD v 1 0); place = getD v 2 0; len = getD v 3 0; consumed = getD v 4 0 }
+answerOf v = record { kind = kindOf (getD v 0 0); number = word (getD v 1 0); place = getD v 2 0; len = getD v 3 0; «digits_place» = getD v 5 0; «digits_len» = getD v 6 0; consumed = getD v 4 0 }
 
 -- what a slot holds: 0 to 13 a kind, 14 CapacityError; a number over 14 reads as CapacityError too
 abbrev pub heldNumber : Held → ℕ
@@ -111,6 +111,6 @@ withState v s = withQueue (withSlot (withEnd v (s .end)) (s .slot)) (s .queue)
 abbrev pub laid : List ℕ → List ℕ → List ℕ
 laid v o = sets o 0 v
 
--- an answer of the digester: kind, number, place, length, bytes consumed
+-- an answer of the digester: kind, number, place, length, bytes consumed; behind them the place and length of the digits (R-2)
 abbrev pub answerValues : Answer → List ℕ
-answerValues a = kindNumber (a .kind) ∷ a .number ∷ a .place ∷ a .len ∷ a .consumed ∷ []
+answerValues a = kindNumber (a .kind) ∷ a .number ∷ a .place ∷ a .len ∷ a .consumed ∷ a .«digits_place» ∷ a .«digits_len» ∷ []

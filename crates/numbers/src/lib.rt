@@ -1,4 +1,4 @@
-// What each number of a lent array means: the state as nine numbers, and the digester's answer as five.
+// What each number of a lent array means: the state as nine numbers, and the digester's answer as seven.
 // Any nine numbers are a state, and a state that is written reads back as it was. A number that reads already as it is to read stays
 // as it stood, in plain form or not: so a call changes no number but those that it gives another meaning.
 ghost use mathlib.Core.Path.{_≡_};
@@ -14,7 +14,7 @@ use slot::Slot;
 use turn::State;
 
 // How many numbers a call may answer, and how many a state has.
-pub const OUT: usize = 5;
+pub const OUT: usize = 7;
 
 pub const NUMBERS: usize = 9;
 
@@ -22,7 +22,7 @@ pub const NUMBERS: usize = 9;
 pub const END: usize = 0;
 
 // of the slot, whether it is signalled (0: free), what it holds (0 to 13 a kind, 14 CapacityError), the answer's number,
-// the stored payload's length and the lost answers;
+// the length of the stored payload or digits and the lost answers;
 const SIGNALLED: usize = 1;
 
 const HELD: usize = 2;
@@ -132,7 +132,7 @@ fn flag_number(b: bool) -> u64
     0
 }
 
-// An answer from the five numbers that `wx_digest` leaves.
+// An answer from the seven numbers that `wx_digest` leaves.
 pub fn answer_of(answer: &[u64; OUT]) -> Answer
     ensures { λ r. ⌜ r ≡ answerOf (now (answer .entry)) ⌝ }
 {
@@ -141,6 +141,8 @@ pub fn answer_of(answer: &[u64; OUT]) -> Answer
         number: word(answer[1]),
         place: answer[2] as usize,
         len: answer[3] as usize,
+        digits_place: answer[5] as usize,
+        digits_len: answer[6] as usize,
         consumed: answer[4] as usize,
     }
 }
@@ -231,7 +233,7 @@ pub fn put_state(state: &mut [u64; NUMBERS], s: State)
     put_queue(state, s.queue);
 }
 
-// An answer of the digester: kind, number, place, length, bytes consumed.
+// An answer of the digester: kind, number, place, length, bytes consumed; behind them the place and length of the digits (R-2).
 pub fn lay_answer(out: &mut [u64; OUT], a: Answer)
     ensures { λ _. ⌜ now (out .exit) ≡ laid (answerValues a) (now (out .entry)) ⌝ }
 {
@@ -241,4 +243,6 @@ pub fn lay_answer(out: &mut [u64; OUT], a: Answer)
     out[2] = a.place as u64;
     out[3] = a.len as u64;
     out[4] = a.consumed as u64;
+    out[5] = a.digits_place as u64;
+    out[6] = a.digits_len as u64;
 }

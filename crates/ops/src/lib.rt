@@ -1,5 +1,4 @@
 // An op of a script, done through the public calls, and its answer said. It is part of a harness and promises only that it doesn't trip.
-use answers::Answer;
 use answers::Kind;
 use fields::Memory;
 use ingress::Advanced;
@@ -98,14 +97,10 @@ fn do_reset(now: State, slot_mem: &[u8]) -> Left {
 
 fn do_signal(now: State, kind: Kind, n: u32, p: &[u8], slot_mem: &mut [u8]) -> Left {
     let slot = now.slot;
-    let a = Answer {
-        kind: kind,
-        number: n,
-        place: 0,
-        len: p.len(),
-        consumed: 0,
-    };
-    turned(now, slot.signal(a, p, slot_mem))
+    turned(
+        now,
+        slot.signal(answers::with_number(kind, n, 0), p, slot_mem),
+    )
 }
 
 fn do_take(now: State, queue_mem: &[u8]) -> Left {
@@ -174,7 +169,7 @@ pub fn say_content(x: Slot, out: &mut Memory, at: usize) -> usize {
     }
 }
 
-// What a signalled slot holds, with its payload in hex.
+// What a signalled slot holds, with its payload or digits in hex.
 fn say_held(x: Slot, slot_mem: &[u8], out: &mut Memory, at: usize) -> usize {
     let head = say::words(out, at, b"held ");
     let named = say_content(x, out, head);

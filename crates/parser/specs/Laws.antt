@@ -309,32 +309,38 @@ pub notice-bounds : (x s : List ℕ) (p end : ℕ) → noticeAt x s p ≡ notice
 unfolding noticeAt
 notice-bounds x s p end h = opened-bounds (lineEnding s p) x s p end h
 
--- a numeric error lies in the input
-ended-end : (s : List ℕ) (a v b : ℕ) (c : Bool) → (c ≡ true → 0 < lineEnding s b) → (d : Digits) → (if c then numeric.Is (record { code = v; start = a; stop = b; end = b + lineEnding s b }) else numeric.Nothing) ≡ numeric.Is d → d .end ≤ length s
-ended-end s a v b true h d e =
-    let q : b + lineEnding s b ≡ d .end = ap endOf e in
-    omega (arith, ending-fits s b (h refl))
-  where
-    endOf : Numeric → ℕ
-    endOf (numeric.Is x) = x .end
-    endOf numeric.Nothing = 0
-ended-end s a v b false h d e = let z : _≡_ {A = ℕ} 0 1 = cc in absurd (omega arith)
+-- a numeric error lies in the input: its digits, and behind them its line ending
+abbrev pub LiesIn : List ℕ → Digits → Type 0
+LiesIn s d = (d .start < d .stop) × ((d .stop < d .end) × (d .end ≤ length s))
 
-run-bounds : (s : List ℕ) (a : ℕ) (r : Run) (d : Digits) → endedRun s a r ≡ numeric.Is d → d .end ≤ length s
+closed-bounds : (s : List ℕ) (a v b : ℕ) (c : Bool) → (c ≡ true → (a < b) × (0 < lineEnding s b)) → (d : Digits) → (if c then numeric.Is (record { code = v; start = a; stop = b; end = b + lineEnding s b }) else numeric.Nothing) ≡ numeric.Is d → LiesIn s d
+closed-bounds s a v b true h d e =
+    let q : d ≡ record { code = v; start = a; stop = b; end = b + lineEnding s b } = cc in
+    let w = h refl in
+    rw q (w .0, (omega (arith, w .1), ending-fits s b (w .1)))
+closed-bounds s a v b false h d e = let z : _≡_ {A = ℕ} 0 1 = cc in absurd (omega arith)
+
+run-bounds : (s : List ℕ) (a : ℕ) (r : Run) (d : Digits) → endedRun s a r ≡ numeric.Is d → LiesIn s d
 unfolding endedRun
-run-bounds s a (Value v b) d e = ended-end s a v b (ltb a b && ltb 0 (lineEnding s b)) (λ h. ltb-true 0 (lineEnding s b) (and-both (ltb a b) (ltb 0 (lineEnding s b)) h .1)) d e
+run-bounds s a (Value v b) d e =
+    closed-bounds s a v b (ltb a b && ltb 0 (lineEnding s b))
+    (λ h. let w = and-both (ltb a b) (ltb 0 (lineEnding s b)) h in (ltb-true a b (w .0), ltb-true 0 (lineEnding s b) (w .1))) d e
 run-bounds s a TooLarge d e = let z : _≡_ {A = ℕ} 0 1 = cc in absurd (omega arith)
 
-numeric-bounds : (h s : List ℕ) (p : ℕ) (b : Bool) (d : Digits) → (if b then tailAt s (p + length h) else numeric.Nothing) ≡ numeric.Is d → d .end ≤ length s
+head-bounds : (h s : List ℕ) (p : ℕ) (b : Bool) (d : Digits) → (if b then tailAt s (p + length h) else numeric.Nothing) ≡ numeric.Is d → LiesIn s d
 unfolding tailAt
-numeric-bounds h s p true d e = run-bounds s (past (isBlank blanks.Run) s (p + length h)) (digitsAt s (past (isBlank blanks.Run) s (p + length h))) d e
-numeric-bounds h s p false d e = let z : _≡_ {A = ℕ} 0 1 = cc in absurd (omega arith)
+head-bounds h s p true d e = run-bounds s (past (isBlank blanks.Run) s (p + length h)) (digitsAt s (past (isBlank blanks.Run) s (p + length h))) d e
+head-bounds h s p false d e = let z : _≡_ {A = ℕ} 0 1 = cc in absurd (omega arith)
 
-found-bounds : (h s : List ℕ) (r : Found) (d : Digits) → atFound h s r ≡ numeric.Is d → d .end ≤ length s
-unfolding atFound numericAt
-found-bounds h s (At p) d e = numeric-bounds h s p (stands h s p) d e
+pub numeric-bounds : (h s : List ℕ) (p : ℕ) (d : Digits) → numericAt h s p ≡ numeric.Is d → LiesIn s d
+unfolding numericAt
+numeric-bounds h s p d e = head-bounds h s p (stands h s p) d e
+
+found-bounds : (h s : List ℕ) (r : Found) (d : Digits) → atFound h s r ≡ numeric.Is d → LiesIn s d
+unfolding atFound
+found-bounds h s (At p) d e = numeric-bounds h s p d e
 found-bounds h s Nothing d e = let z : _≡_ {A = ℕ} 0 1 = cc in absurd (omega arith)
 
-pub error-bounds : (h s : List ℕ) (e : ℕ) (d : Digits) → numericError h s e ≡ numeric.Is d → d .end ≤ length s
+pub error-bounds : (h s : List ℕ) (e : ℕ) (d : Digits) → numericError h s e ≡ numeric.Is d → LiesIn s d
 unfolding numericError
 error-bounds h s e d q = found-bounds h s (findIn h s e) d q

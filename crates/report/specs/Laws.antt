@@ -12,19 +12,22 @@ use Rattle.outcome.specs.Laws.{ways}
 use Rattle.text.specs.Bytes.{bytes}
 use Rattle.text.specs.Text.{partOf}
 use Rattle.text.specs.Laws.{part-is, part-none}
+use Rattle.text.specs.declared.Span.{Span}
 use Rattle.ink.specs.Ink.{Ink, inked, ink, decimal, hex}
 use Rattle.ink.specs.Laws.{ink-none, ink-at, then-ink, decimal-length, hex-length}
 use Rattle.answers.specs.declared.Kind.{Kind}
 use Rattle.answers.specs.declared.Kind.the-variants as kind
 use Rattle.answers.specs.declared.Answer.{Answer}
-use Rattle.answers.specs.Answer.{Number, none, number, numberOf, isFound}
+use Rattle.answers.specs.Answer.{Number, none, number, numberOf, isFound, isNumeric, carried}
+use Rattle.answers.specs.Laws.{carried-within}
+use Rattle.digest.specs.Digest.{digestUnchecked}
 use Rattle.digest.specs.Calls.{unchecked-inside}
 use Rattle.steps.specs.declared.Step.{Step}
 use Rattle.steps.specs.declared.Stepped.the-variants.{Is, End}
 use Rattle.steps.specs.Steps.{stepsFrom, steps, firstOf, eaten}
 use Rattle.steps.specs.Laws.{Begins, Run, steps-run, steps-more, at-end, at-step, step-within, eaten-within}
 use Rattle.report.specs.declared.Drawn.{Drawn}
-use Rattle.report.specs.Report.{nameOf, numberText, payloadText, valueOf, lineOf, lines, textOf, Drawing, drawn, draw, is, short, report}
+use Rattle.report.specs.Report.{nameOf, numberText, digitsText, payloadText, numberOr, valueOf, lineOf, lines, textOf, Drawing, drawn, draw, is, short, report}
 
 -- how long the texts are
 payload-length : (p : List ℕ) → length (payloadText p) ≤ 1 + 2 * length p
@@ -32,9 +35,19 @@ unfolding payloadText
 payload-length [] = omega arith
 payload-length (b ∷ p) = let e = hex-length (b ∷ p) in omega arith
 
-value-length : (m : Number) (p : List ℕ) → length (valueOf m p) ≤ 21 + 2 * length p
-value-length none p = omega (arith, payload-length p)
-value-length (number n) p = omega (arith, decimal-length n)
+number-length : (m : Number) (p : List ℕ) → length (numberOr m p) ≤ 21 + 2 * length p
+number-length none p = omega (arith, payload-length p)
+number-length (number n) p = omega (arith, decimal-length n)
+
+value-length : (k : Kind) (m : Number) (p : List ℕ) → length (valueOf k m p) ≤ 21 + 2 * length p
+value-length k m p = ways (λ (l : List ℕ). length l ≤ 21 + 2 * length p) (isNumeric k) (λ q. omega arith) (λ q. number-length m p)
+
+-- the two ways of a value
+pub value-numeric : (k : Kind) (m : Number) (p : List ℕ) → isNumeric k ≡ true → digitsText p ≡ valueOf k m p
+value-numeric k m p e = rw e
+
+pub value-other : (k : Kind) (m : Number) (p : List ℕ) → isNumeric k ≡ false → numberOr m p ≡ valueOf k m p
+value-other k m p e = rw e
 
 name-length : (k : Kind) → length (nameOf k) ≤ 11
 name-length kind.None = omega arith
@@ -76,41 +89,45 @@ part-short s p n = go (leb (p + n) (length s)) refl
 
 module _ (a : Answer) (s : List ℕ) where
   abbrev texts : List ℕ
-  texts = valueOf (numberOf a) (partOf s (a .place) (a .len))
+  texts = valueOf (a .kind) (numberOf a) (partOf s (carried a .start) (carried a .len))
 
-  text-length : length texts ≤ 21 + 2 * a .len
-  text-length = omega (arith, value-length (numberOf a) (partOf s (a .place) (a .len)), part-short s (a .place) (a .len))
+  -- what goes along stands where `carried` says
+  part-carried : (v : Span) → v ≡ carried a → (p : List ℕ) → p ≡ partOf s (v .start) (v .len) → p ≡ partOf s (carried a .start) (carried a .len)
+  part-carried v u p q = q ∙ ap (λ (y : Span). partOf s (y .start) (y .len)) u
 
-  found-length : length (decimal (a .consumed) ++ (nameOf (a .kind) ++ (texts ++ bytes "\n"))) ≤ 53 + 2 * a .len
+  text-length : length texts ≤ 21 + 2 * carried a .len
+  text-length = omega (arith, value-length (a .kind) (numberOf a) (partOf s (carried a .start) (carried a .len)), part-short s (carried a .start) (carried a .len))
+
+  found-length : length (decimal (a .consumed) ++ (nameOf (a .kind) ++ (texts ++ bytes "\n"))) ≤ 53 + 2 * carried a .len
   found-length = rw (length-append, length-append, length-append) (omega (arith, decimal-length (a .consumed), name-length (a .kind), text-length))
 
-  line-length : length (lineOf a s) ≤ 53 + 2 * a .len
+  line-length : length (lineOf a s) ≤ 53 + 2 * carried a .len
   unfolding lineOf
-  line-length = ways (λ (l : List ℕ). length l ≤ 53 + 2 * a .len) (isFound a) (λ q. found-length) (λ q. omega arith)
+  line-length = ways (λ (l : List ℕ). length l ≤ 53 + 2 * carried a .len) (isFound a) (λ q. found-length) (λ q. omega arith)
 
   pub line-none : (o : List ℕ) (n : ℕ) → isFound a ≡ false → inked o n ≡ ink o n (lineOf a s)
   unfolding lineOf
   line-none o n e = rw e (ink-none o n)
 
-  module _ (o : List ℕ) (n : ℕ) (h : n + (53 + 2 * a .len) ≤ length o) (o₁ : List ℕ) (n₁ : ℕ) (e₁ : inked o₁ n₁ ≡ ink o n (decimal (a .consumed))) (l₁ : length o₁ ≡ length o) where
+  module _ (o : List ℕ) (n : ℕ) (h : n + (53 + 2 * carried a .len) ≤ length o) (o₁ : List ℕ) (n₁ : ℕ) (e₁ : inked o₁ n₁ ≡ ink o n (decimal (a .consumed))) (l₁ : length o₁ ≡ length o) where
     module _ (o₂ : List ℕ) (n₂ : ℕ) (e₂ : inked o₂ n₂ ≡ ink o₁ n₁ (nameOf (a .kind))) (l₂ : length o₂ ≡ length o₁) where
       named : inked o₂ n₂ ≡ ink o n (decimal (a .consumed) ++ nameOf (a .kind))
       named = then-ink o n (decimal (a .consumed)) (nameOf (a .kind)) o₁ n₁ (inked o₂ n₂) e₁ e₂ (omega (arith, decimal-length (a .consumed), name-length (a .kind)))
 
-      pub value-room : (p : List ℕ) → p ≡ partOf s (a .place) (a .len) → n₂ + (21 + 2 * length p) ≤ length o₂
-      value-room p q =
+      pub value-room : (q : Span) → q ≡ carried a → (p : List ℕ) → p ≡ partOf s (q .start) (q .len) → n₂ + (21 + 2 * length p) ≤ length o₂
+      value-room v u p q =
           let k = decimal-length (a .consumed) in
           let l = name-length (a .kind) in
           let w = ink-at o n (decimal (a .consumed)) (omega arith) o₁ n₁ e₁ in
-          omega (arith, ink-at o₁ n₁ (nameOf (a .kind)) (omega arith) o₂ n₂ e₂, ap length q, part-short s (a .place) (a .len))
+          omega (arith, ink-at o₁ n₁ (nameOf (a .kind)) (omega arith) o₂ n₂ e₂, ap length (part-carried v u p q), part-short s (carried a .start) (carried a .len))
 
-      module _ (p : List ℕ) (q : p ≡ partOf s (a .place) (a .len)) (o₃ : List ℕ) (n₃ : ℕ) (e₃ : inked o₃ n₃ ≡ ink o₂ n₂ (valueOf (numberOf a) p)) (l₃ : length o₃ ≡ length o₂) where
+      module _ (v : Span) (u : v ≡ carried a) (p : List ℕ) (q : p ≡ partOf s (v .start) (v .len)) (o₃ : List ℕ) (n₃ : ℕ) (e₃ : inked o₃ n₃ ≡ ink o₂ n₂ (valueOf (a .kind) (numberOf a) p)) (l₃ : length o₃ ≡ length o₂) where
         valued : inked o₃ n₃ ≡ ink o n (decimal (a .consumed) ++ nameOf (a .kind) ++ texts)
         valued =
-            then-ink o n (decimal (a .consumed) ++ nameOf (a .kind)) texts o₂ n₂ (inked o₃ n₃) named (e₃ ∙ ap (λ (y : List ℕ). ink o₂ n₂ (valueOf (numberOf a) y)) q)
+            then-ink o n (decimal (a .consumed) ++ nameOf (a .kind)) texts o₂ n₂ (inked o₃ n₃) named (e₃ ∙ ap (λ (y : List ℕ). ink o₂ n₂ (valueOf (a .kind) (numberOf a) y)) (part-carried v u p q))
             (rw length-append (omega (arith, decimal-length (a .consumed), name-length (a .kind), text-length)))
 
-        front-length : length (decimal (a .consumed) ++ nameOf (a .kind) ++ texts) ≤ 52 + 2 * a .len
+        front-length : length (decimal (a .consumed) ++ nameOf (a .kind) ++ texts) ≤ 52 + 2 * carried a .len
         front-length = rw (length-append, length-append) (omega (arith, decimal-length (a .consumed), name-length (a .kind), text-length))
 
         pub line-some : isFound a ≡ true → (r : Ink) → r ≡ ink o₃ n₃ (10 ∷ []) → r ≡ ink o n (lineOf a s)
@@ -120,10 +137,10 @@ module _ (a : Answer) (s : List ℕ) where
             ∙ ap (ink o n) (append-assoc (decimal (a .consumed) ++ nameOf (a .kind)) texts (10 ∷ []) ∙ append-assoc (decimal (a .consumed)) (nameOf (a .kind)) (texts ++ (10 ∷ []))))
 
 -- the lines take at most 55 bytes for each byte
-step-inside : (s : List ℕ) (i : ℕ) (x : Step) → Begins [] s i x → x .answer .len ≤ x .answer .consumed
+step-inside : (s : List ℕ) (i : ℕ) (x : Step) → Begins [] s i x → carried (x .answer) .len ≤ x .answer .consumed
 step-inside s i x b =
     let w = unchecked-inside [] (drop i s) in
-    omega (arith, w .payload, ap (λ (a : Answer). a .consumed) (b .says), ap (λ (a : Answer). a .len) (b .says))
+    omega (arith, carried-within (length (drop i s)) (digestUnchecked [] (drop i s)) w, ap (λ (a : Answer). a .consumed) (b .says), ap (λ (a : Answer). carried a .len) (b .says))
 
 lines-eaten : (s : List ℕ) (i : ℕ) (l : List Step) → Run [] s i l → length (lines s l) ≤ 55 * eaten l
 unfolding Run lines eaten
@@ -169,7 +186,7 @@ module _ (s o₀ : List ℕ) (from : ℕ) (o : List ℕ) (at n : ℕ) (g : Linin
     pub draw-within : at + x .answer .consumed ≤ length s
     draw-within = step-within [] s at (g .within) x begins
 
-    pub draw-room : n + (53 + 2 * x .answer .len) ≤ length o
+    pub draw-room : n + (53 + 2 * carried (x .answer) .len) ≤ length o
     draw-room =
         omega (arith, ink-at o₀ from (g .sofar) (omega (arith, g .bound, g .room, g .within)) o n (g .inks), g .bound, g .room, g .long, draw-within, draw-eats, step-inside s at x begins)
 

@@ -10,7 +10,7 @@ use Rattle.ink.specs.Ink.{Ink, inked, ink, decimal, hex}
 use Rattle.answers.specs.declared.Kind.{Kind}
 use Rattle.answers.specs.declared.Kind.the-variants as kind
 use Rattle.answers.specs.declared.Answer.{Answer}
-use Rattle.answers.specs.Answer.{Number, none, number, numberOf, isFound}
+use Rattle.answers.specs.Answer.{Number, none, number, numberOf, isFound, isNumeric, carried}
 use Rattle.steps.specs.declared.Step.{Step}
 use Rattle.steps.specs.Steps.{steps, eaten}
 use Rattle.report.specs.declared.Drawn.{Drawn}
@@ -34,7 +34,10 @@ nameOf kind.NoDialtone = bytes " nodialtone"
 nameOf kind.Custom = bytes " custom"
 nameOf kind.Notice = bytes " notice"
 
--- then the number, or a payload that isn't empty in hex
+-- then, of a numeric error, the digits as they came (R-2); else the number, or a payload that isn't empty in hex
+abbrev pub digitsText : List ℕ → List ℕ
+digitsText p = bytes " " ++ p
+
 abbrev pub numberText : ℕ → List ℕ
 numberText n = bytes " " ++ decimal n
 
@@ -43,13 +46,16 @@ unfolding hex
 payloadText [] = []
 payloadText (b ∷ p) = bytes " " ++ hex (b ∷ p)
 
-abbrev pub valueOf : Number → List ℕ → List ℕ
-valueOf none p = payloadText p
-valueOf (number n) p = numberText n
+abbrev pub numberOr : Number → List ℕ → List ℕ
+numberOr none p = payloadText p
+numberOr (number n) p = numberText n
 
--- A line is the bytes consumed, the kind, then the number or the payload; steps that answer None print nothing.
+abbrev pub valueOf : Kind → Number → List ℕ → List ℕ
+valueOf k m p = if isNumeric k then digitsText p else numberOr m p
+
+-- A line is the bytes consumed, the kind, then the digits, the number or the payload; steps that answer None print nothing.
 unfoldable pub lineOf : Answer → List ℕ → List ℕ
-lineOf a s = if isFound a then decimal (a .consumed) ++ (nameOf (a .kind) ++ (valueOf (numberOf a) (partOf s (a .place) (a .len)) ++ bytes "\n")) else []
+lineOf a s = if isFound a then decimal (a .consumed) ++ (nameOf (a .kind) ++ (valueOf (a .kind) (numberOf a) (partOf s (carried a .start) (carried a .len)) ++ bytes "\n")) else []
 
 -- the lines of steps on s
 unfoldable pub lines : List ℕ → List Step → List ℕ

@@ -3,9 +3,9 @@
 ghost use mathlib.Core.Path.{_≡_};
 ghost use Prim.Native.Nat.{_≤_, _+_, _*_};
 ghost use lib.ListN.{length};
-ghost use Rattle.answers.specs.Answer.{numbered};
+ghost use Rattle.answers.specs.Answer.{numbered, carried};
 ghost use Rattle.ink.specs.Ink.{inked, ink};
-ghost use Rattle.report.specs.Report.{nameOf, payloadText, numberText, valueOf, lineOf, drawn, draw, reported, report};
+ghost use Rattle.report.specs.Report.{nameOf, payloadText, numberText, digitsText, valueOf, lineOf, drawn, draw, reported, report};
 use answers::Answer;
 use answers::Kind;
 use steps::Stepped;
@@ -17,6 +17,15 @@ fn number(out: &mut [u8], at: usize, n: u64) -> usize
 {
     let from = ink::words(out, at, b" ");
     ink::decimal(out, from, n)
+}
+
+// Digits as they came (R-2), a space before them.
+fn digits(out: &mut [u8], at: usize, p: &[u8]) -> usize
+    requires { ⌜ at + (1 + length (now p)) ≤ length (now out) ⌝ }
+    ensures { λ r. ⌜ inked (now (out .exit)) r ≡ ink (now (out .entry)) at (digitsText (now (p .entry))) ⌝ }
+{
+    let from = ink::words(out, at, b" ");
+    ink::words(out, from, p)
 }
 
 // A payload that isn't empty in hexadecimal, a space before it.
@@ -53,11 +62,14 @@ fn name(out: &mut [u8], at: usize, kind: Kind) -> usize
     }
 }
 
-// The number where the kind has one, else the payload.
+// Of a numeric error the digits (R-2); else the number where the kind has one, else the payload.
 fn value(out: &mut [u8], at: usize, kind: Kind, n: u32, p: &[u8]) -> usize
     requires { ⌜ at + (21 + 2 * length (now p)) ≤ length (now out) ⌝ }
-    ensures { λ r. ⌜ inked (now (out .exit)) r ≡ ink (now (out .entry)) at (valueOf (numbered kind n) (now (p .entry))) ⌝ }
+    ensures { λ r. ⌜ inked (now (out .exit)) r ≡ ink (now (out .entry)) at (valueOf kind (numbered kind n) (now (p .entry))) ⌝ }
 {
+    if answers::is_numeric(kind) {
+        return digits(out, at, p);
+    }
     if answers::has_number(kind) {
         return number(out, at, n as u64);
     }
@@ -66,14 +78,15 @@ fn value(out: &mut [u8], at: usize, kind: Kind, n: u32, p: &[u8]) -> usize
 
 // The line of an answer on s; None prints nothing.
 fn line(out: &mut [u8], at: usize, s: &[u8], a: Answer) -> usize
-    requires { ⌜ at + (53 + 2 * a .len) ≤ length (now out) ⌝ }
+    requires { ⌜ at + (53 + 2 * carried a .len) ≤ length (now out) ⌝ }
     ensures { λ r. ⌜ inked (now (out .exit)) r ≡ ink (now (out .entry)) at (lineOf a (now (s .entry))) ⌝ }
 {
     if !answers::is_found(a) {
         return at;
     }
     let kind = a.kind;
-    let p = digest::payload(s, a.place, a.len);
+    let part = answers::carried(a);
+    let p = digest::payload(s, part.start, part.len);
     let counted = ink::decimal(out, at, a.consumed as u64);
     let named = name(out, counted, kind);
     let valued = value(out, named, kind, a.number, p);

@@ -234,6 +234,16 @@ fn state_of(x: Start) -> State {
     }
 }
 
+// Where the digits of a numeric error stand (R-2), if it has any.
+fn say_digits(a: Answer, out: &mut Memory, at: usize) -> usize {
+    if a.digits_len == 0 {
+        return at;
+    }
+    let head = say::words(out, at, b" digits");
+    let place = say::and_number(out, head, a.digits_place as u64);
+    say::and_number(out, place, a.digits_len as u64)
+}
+
 // Says a digester's answer, and ends the line.
 fn say_answer(a: Answer, out: &mut Memory, at: usize) -> usize {
     let kind = a.kind;
@@ -241,7 +251,8 @@ fn say_answer(a: Answer, out: &mut Memory, at: usize) -> usize {
     let place = say::and_number(out, named, a.place as u64);
     let len = say::and_number(out, place, a.len as u64);
     let consumed = say::and_number(out, len, a.consumed as u64);
-    say::words(out, consumed, b"\n")
+    let told = say_digits(a, out, consumed);
+    say::words(out, told, b"\n")
 }
 
 // Digests, and says the answer or the refusal.

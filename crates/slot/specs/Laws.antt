@@ -12,7 +12,7 @@ use Rattle.moves.specs.Moves.{put, oneMore}
 use Rattle.moves.specs.Laws.{put-length}
 use Rattle.outcome.specs.Outcome.{Outcome, answered, refused}
 use Rattle.outcome.specs.Laws.{ways}
-use Rattle.answers.specs.Answer.{numbered, stored}
+use Rattle.answers.specs.Answer.{numbered, stored, isNumeric}
 use Rattle.answers.specs.declared.Kind.{Kind}
 use Rattle.answers.specs.declared.Answer.{Answer}
 use Rattle.slot.specs.declared.Held.the-variants.{Heard}
@@ -91,7 +91,7 @@ module _ (x : Slot) (a : Answer) (p m : List ℕ) where
         signal-bare e y w = ap (λ (z : Slot). after (answered z) m) w ∙ rw (le-ltb (length m) (x .len) h, r, t, e)
 
         module _ (c : carries (a .kind) ≡ true) where
-          pub signal-over : length m < length p → (y : Slot) → y ≡ overflowing x → after (answered y) m ≡ signalled x a p m
+          pub signal-over : length m < length p → (y : Slot) → y ≡ overflowing x (a .kind) (a .number) → after (answered y) m ≡ signalled x a p m
           unfolding signalled
           signal-over e y w = ap (λ (z : Slot). after (answered z) m) w ∙ rw (le-ltb (length m) (x .len) h, r, t, c, lt-ltb (length m) (length p) e)
 
@@ -112,7 +112,7 @@ module _ (x : Slot) (a : Answer) (p m : List ℕ) where
       (λ t.
       ways P (not (carries (a .kind))) (λ c. f (filled x (a .kind) (a .number) 0) m refl (omega arith))
       (λ c.
-      ways P (ltb (length m) (length p)) (λ o. f (overflowing x) m refl (omega arith))
+      ways P (ltb (length m) (length p)) (λ o. f (overflowing x (a .kind) (a .number)) m refl (ways (λ (z : Slot). z .len ≤ length m) (isNumeric (a .kind)) (λ z. omega arith) (λ z. omega arith)))
       (λ o. f (filled x (a .kind) (a .number) (length p)) (put m 0 p) (put-length m 0 p) (omega (arith, ltb-false (length m) (length p) o, put-length m 0 p)))))))
 
   -- an answered signal keeps the memory's length, and what it leaves fits there

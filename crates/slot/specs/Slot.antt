@@ -6,7 +6,7 @@ use lib.ListN.{length}
 use lib.Dec.{ltb}
 use Rattle.moves.specs.Moves.{put, oneMore}
 use Rattle.outcome.specs.Outcome.{Outcome, answered, refused, if_then_else_}
-use Rattle.answers.specs.Answer.{numbered, stored}
+use Rattle.answers.specs.Answer.{numbered, stored, isNumeric}
 use Rattle.answers.specs.declared.Kind.{Kind}
 use Rattle.answers.specs.declared.Kind.the-variants as kind
 use Rattle.answers.specs.declared.Answer.{Answer}
@@ -36,14 +36,14 @@ isResponse kind.NoDialtone = true
 isResponse kind.Custom = true
 isResponse kind.Notice = false
 
--- the payload's bytes are used for Ok and custom error only
+-- A signal's bytes are used for Ok and custom error, as the payload, and for the numeric errors, as the digits (R-2).
 abbrev pub carries : Kind → Bool
 carries kind.None = false
 carries kind.Ok = true
 carries kind.Prompt = false
-carries kind.Cme = false
-carries kind.Cms = false
-carries kind.Unknown = false
+carries kind.Cme = true
+carries kind.Cms = true
+carries kind.Unknown = true
 carries kind.NotAllowed = false
 carries kind.Error = false
 carries kind.NoCarrier = false
@@ -61,9 +61,9 @@ newSlot = record { signalled = false; held = Heard kind.Ok; number = 0; len = 0;
 abbrev pub filled : Slot → Kind → ℕ → ℕ → Slot
 filled x k n len = record { signalled = true; held = Heard k; number = stored (numbered k n); len = len; lost = x .lost }
 
--- The slot reads CapacityError.
-abbrev pub overflowing : Slot → Slot
-overflowing x = record { signalled = true; held = Capacity; number = 0; len = 0; lost = x .lost }
+-- Bytes longer than the memory: digits are left out and their length is 0 (R-2); else the slot reads CapacityError.
+abbrev pub overflowing : Slot → Kind → ℕ → Slot
+overflowing x k n = if isNumeric k then filled x k n 0 else record { signalled = true; held = Capacity; number = 0; len = 0; lost = x .lost }
 
 -- Nothing changes but a count of lost answers.
 abbrev pub lostOne : Slot → Slot
@@ -81,14 +81,14 @@ pub record After : Type 0 where
 abbrev pub after : Outcome Slot → List ℕ → After
 after o m = record { said = o; memory = m }
 
--- a signal of the answer a with the payload's bytes p, on the slot x with the memory m
+-- a signal of the answer a with the bytes p, its payload or its digits, on the slot x with the memory m
 unfoldable pub signalled : Slot → Answer → List ℕ → List ℕ → After
 signalled x a p m =
     if ltb (length m) (x .len) then after (refused 3 []) m
     else if not (isResponse (a .kind)) then after (answered x) m
     else if x .signalled then after (answered (lostOne x)) m
     else if not (carries (a .kind)) then after (answered (filled x (a .kind) (a .number) 0)) m
-    else if ltb (length m) (length p) then after (answered (overflowing x)) m
+    else if ltb (length m) (length p) then after (answered (overflowing x (a .kind) (a .number))) m
     else after (answered (filled x (a .kind) (a .number) (length p))) (put m 0 p)
 
 -- document 01's number for each case of a signal's answer
@@ -117,6 +117,6 @@ reading looks.BadLength = refused 3 []
 unfoldable pub wasRead : Slot → List ℕ → Outcome Reading
 wasRead x m = if ltb (length m) (x .len) then refused 3 [] else answered (record { there = x .signalled; slot = x })
 
--- Reading a free slot answers nothing: how many bytes of the memory's front are a payload to be read.
+-- Reading a free slot answers nothing: how many bytes of the memory's front are a payload, or digits, to be read.
 abbrev pub readable : Slot → ℕ
 readable x = if x .signalled then x .len else 0

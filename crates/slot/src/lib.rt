@@ -7,7 +7,7 @@ ghost use Rattle.slot.specs.Slot.{isResponse, carries, newSlot, lostOne,
 use answers::Answer;
 use answers::Kind;
 
-// What is stored: an answer's kind, or that its payload was longer than the memory (CapacityError).
+// What is stored: an answer's kind, or that its payload was longer than the memory (CapacityError; not for digits, R-2).
 pub enum Held {
     Heard(Kind),
     Capacity,
@@ -62,17 +62,17 @@ fn is_response(kind: Kind) -> bool
     }
 }
 
-// Does the kind carry a payload? An Ok and a custom error do.
-fn carries_payload(kind: Kind) -> bool
+// Does the kind carry bytes? An Ok and a custom error their payload, a numeric error its digits (R-2).
+fn carries(kind: Kind) -> bool
     ensures { λ r. ⌜ r ≡ carries kind ⌝ }
 {
     match kind {
         Kind::None => false,
         Kind::Ok => true,
         Kind::Prompt => false,
-        Kind::Cme => false,
-        Kind::Cms => false,
-        Kind::Unknown => false,
+        Kind::Cme => true,
+        Kind::Cms => true,
+        Kind::Unknown => true,
         Kind::NotAllowed => false,
         Kind::Error => false,
         Kind::NoCarrier => false,
@@ -111,10 +111,13 @@ impl Slot {
         }
     }
 
-    // The slot that reads CapacityError.
-    fn overflow(self) -> Slot
-        ensures { λ r. ⌜ r ≡ overflowing self ⌝ }
+    // The slot with an answer whose bytes are longer than the memory: of a numeric error they are left out (R-2), any other reads CapacityError.
+    fn overflow(self, kind: Kind, n: u32) -> Slot
+        ensures { λ r. ⌜ r ≡ overflowing self kind n ⌝ }
     {
+        if answers::is_numeric(kind) {
+            return self.fill(kind, n, 0);
+        }
         Slot {
             signalled: true,
             held: Held::Capacity,
@@ -138,8 +141,8 @@ impl Slot {
         }
     }
 
-    // Signals an answer with its payload's bytes, which are used for an Ok or a custom error only. A free slot stores it; on a signalled one
-    // it is lost and counted; None or a notice changes nothing on either.
+    // Signals an answer with its bytes: an Ok's or a custom error's payload, a numeric error's digits (R-2); other kinds use none. A free slot stores it;
+    // on a signalled one it is lost and counted; None or a notice changes nothing on either.
     pub fn signal(self, a: Answer, p: &[u8], mem: &mut [u8]) -> Turned
         ensures { λ r. ⌜ after (outcome r) (now (mem .exit)) ≡ signalled self a (now (p .entry)) (now (mem .entry)) ⌝ }
     {
@@ -154,11 +157,11 @@ impl Slot {
         if busy {
             return Turned::Is(self.lose());
         }
-        if !carries_payload(kind) {
+        if !carries(kind) {
             return Turned::Is(self.fill(kind, a.number, 0));
         }
         if mem.len() < p.len() {
-            return Turned::Is(self.overflow());
+            return Turned::Is(self.overflow(kind, a.number));
         }
         moves::put(mem, 0, p);
         Turned::Is(self.fill(kind, a.number, p.len()))
@@ -204,7 +207,7 @@ impl Slot {
         0
     }
 
-    // The payload of the answer that can be read, as a part of the caller's memory. A free slot gives the empty front part, and so does
+    // The payload, or digits, of the answer that can be read, as a part of the caller's memory. A free slot gives the empty front part, and so does
     // a stored length past the memory. It hands no slot back: the caller's stands.
     pub fn payload(self, mem: &[u8]) -> &[u8]
         ensures { λ r. ⌜ now r ≡ partOf (now (mem .entry)) 0 (readable self) ⌝ }

@@ -11,6 +11,8 @@ use Rattle.moves.specs.Laws.{moved-length, moved-held, moved-still}
 use Rattle.outcome.specs.Outcome.{Outcome, answered, refused, if_then_else_}
 use Rattle.table.specs.Table.{ruling}
 use Rattle.answers.specs.Answer.{isFound, isNotice}
+use Rattle.answers.specs.Laws.{notice-plain}
+use Rattle.outcome.specs.Laws.{same-way}
 use Rattle.answers.specs.declared.Answer.{Answer}
 use Rattle.slot.specs.Slot.{isResponse, signalled}
 use Rattle.slot.specs.Slot as slots
@@ -21,7 +23,7 @@ use Rattle.queue.specs.Queue as queues
 use Rattle.queue.specs.Waiting.{put-waits, put-kept, put-stuck, put-full-only}
 use Rattle.queue.specs.declared.Queue.{Queue}
 use Rattle.turn.specs.declared.State.{State}
-use Rattle.turn.specs.Turn.{withEnd, Delivery, isRefused, toQueue, toSlot, deliver, World, world, held, Choice, says, Quiet, payloadOf, delivering}
+use Rattle.turn.specs.Turn.{withEnd, Delivery, isRefused, toQueue, toSlot, deliver, World, world, held, Choice, says, Quiet, payloadOf, carriedOf, delivering}
 use Rattle.turn.specs.Says.{held-long, says-within, Trusted, says-trusted}
 use Rattle.turn.specs.Laws.{next, waitsAt}
 
@@ -89,6 +91,10 @@ pub record Good (c : Choice) (w : World) : Type 0 where
   pub slotFits : w .state .slot .len ≤ length (w .slotMemory)
   pub queueFits : inBounds (capacityOf ours (length (w .queueMemory))) (w .state .queue) ≡ true
 
+-- What goes along with a notice is its payload.
+pub notice-carries : (s : List ℕ) (a : Answer) → isNotice (a .kind) ≡ true → carriedOf s a ≡ payloadOf s a
+notice-carries s a e = rw (notice-plain (a .kind) e)
+
 -- what a turn from a good state leaves
 module _ (c : Choice) (w : World) (g : Good c w) where
   ends-there : length (held w) ≡ w .state .end
@@ -108,7 +114,7 @@ module _ (c : Choice) (w : World) (g : Good c w) where
     pub idle-next : next c w ≡ w
     idle-next =
         let k = trusted .nothing unheard in
-        let d : toSlot (w .state) (w .queueMemory) (slots.after (answered (w .state .slot)) (w .slotMemory)) ≡ delivering c w = delivers-none (w .state) (says c w) (payloadOf (held w) (says c w)) (w .slotMemory) (w .queueMemory) (g .slotFits) (g .queueFits) (ap isNotice k) (ap isResponse k) in
+        let d : toSlot (w .state) (w .queueMemory) (slots.after (answered (w .state .slot)) (w .slotMemory)) ≡ delivering c w = delivers-none (w .state) (says c w) (carriedOf (held w) (says c w)) (w .slotMemory) (w .queueMemory) (g .slotFits) (g .queueFits) (ap isNotice k) (ap isResponse k) in
         let e : length (held w) - says c w .consumed ≡ w .state .end = omega (arith, ends-there) in
         let b : moved (w .buf) (says c w .consumed) (length (held w)) ≡ w .buf = ap (λ (n : ℕ). moved (w .buf) n (length (held w))) z ∙ moved-still (w .buf) (length (held w)) in
         λ i. world (withEnd (sym d i .state) (e i)) (b i) (sym d i .slotMemory) (sym d i .queueMemory)
@@ -116,7 +122,9 @@ module _ (c : Choice) (w : World) (g : Good c w) where
   -- a turn that goes on leaves a good state, and what is consumed goes from the front of what is held
   module _ (r : delivering c w .waits ≡ false) where
     pub kept : Delivers (w .state) (w .slotMemory) (w .queueMemory) (if isNotice (says c w .kind) then adds ours (says c w .number) (payloadOf (held w) (says c w)) else []) (delivering c w)
-    kept = delivers (w .state) (says c w) (payloadOf (held w) (says c w)) (w .slotMemory) (w .queueMemory) (g .slotFits) (g .queueFits) r
+    kept =
+        rw (same-way [] (isNotice (says c w .kind)) (λ e. ap (adds ours (says c w .number)) (notice-carries (held w) (says c w) e)))
+        at (delivers (w .state) (says c w) (carriedOf (held w) (says c w)) (w .slotMemory) (w .queueMemory) (g .slotFits) (g .queueFits) r)
 
     pub next-good : Good c (next c w)
     next-good =
@@ -139,7 +147,9 @@ module _ (c : Choice) (w : World) (g : Good c w) where
   -- one that waits leaves everything, and its notice has 1 to 128 bytes and meets a full queue
   module _ (r : delivering c w .waits ≡ true) where
     pub waits-full : (isNotice (says c w .kind) ≡ true) × ((capacityOf ours (length (w .queueMemory)) ≤ w .state .queue .count) × ((1 ≤ length (payloadOf (held w) (says c w))) × (length (payloadOf (held w) (says c w)) ≤ 128))) × ((delivering c w .slotMemory ≡ w .slotMemory) × (delivering c w .queueMemory ≡ w .queueMemory))
-    waits-full = waited (w .state) (says c w) (payloadOf (held w) (says c w)) (w .slotMemory) (w .queueMemory) (g .slotFits) (g .queueFits) r
+    waits-full =
+        let v = waited (w .state) (says c w) (carriedOf (held w) (says c w)) (w .slotMemory) (w .queueMemory) (g .slotFits) (g .queueFits) r in
+        (v .0, rw (notice-carries (held w) (says c w) (v .0)) at (v .1), v .2)
 
     pub stays : waitsAt c w ≡ w
     stays = λ i. world (w .state) (w .buf) (waits-full .2 .0 i) (waits-full .2 .1 i)

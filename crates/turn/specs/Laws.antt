@@ -7,7 +7,9 @@ use native.Mathlib.Omega.{arith}
 use lib.ListN.{length, take}
 use Rattle.moves.specs.Moves.{moved}
 use Rattle.outcome.specs.Laws.{ways}
-use Rattle.answers.specs.Answer.{isNotice}
+use Rattle.text.specs.Text.{partOf}
+use Rattle.text.specs.declared.Span.{Span}
+use Rattle.answers.specs.Answer.{isNotice, carried}
 use Rattle.answers.specs.declared.Answer.{Answer}
 use Rattle.digest.specs.Digest.{digestUnchecked}
 use Rattle.slot.specs.Slot.{signalled}
@@ -23,7 +25,7 @@ use Rattle.queue.specs.declared.Queue.{Queue}
 use Rattle.turn.specs.declared.State.{State}
 use Rattle.turn.specs.declared.Delivered.{Delivered}
 use Rattle.turn.specs.declared.Delivered.the-variants as delivers
-use Rattle.turn.specs.Turn.{withEnd, withSlot, withQueue, toQueue, toSlot, deliver, delivery, World, world, held, Choice, choice, says, payloadOf, delivering, Step, went, stuck, onward, once}
+use Rattle.turn.specs.Turn.{withEnd, withSlot, withQueue, toQueue, toSlot, deliver, delivery, World, world, held, Choice, choice, says, carriedOf, delivering, Step, went, stuck, onward, once}
 use Rattle.turn.specs.Says.{held-long, held-is, says-is, says-within, says-byte}
 
 -- where a delivery went: r is what the queue or the slot answered, k the memory that it left
@@ -54,24 +56,24 @@ module _ (t : List ℕ) (s : State) (b m n : List ℕ) (e : ℕ) (h : e ≡ min 
   pub step-number : isNotice (a .kind) ≡ true → a .number < 256
   step-number = rw (ea ∙ says-is s b m n e h t) (says-byte (choice t) (world s b m n))
 
-  module _ (p : List ℕ) (ep : p ≡ payloadOf (take e b) a) (r : Delivered) (k l : List ℕ) (er : delivery s r k l ≡ deliver s a p m n) where
+  module _ (q : Span) (eq : q ≡ carried a) (p : List ℕ) (ep : p ≡ partOf (take e b) (q .start) (q .len)) (r : Delivered) (k l : List ℕ) (er : delivery s r k l ≡ deliver s a p m n) where
     at-delivery : onward (world s b m n) a (delivery s r k l) ≡ once (choice t) (world s b m n)
     unfolding once
     at-delivery =
-        ap (onward (world s b m n) a) (er ∙ ap (λ (x : List ℕ). deliver s a x m n) (ep ∙ ap (λ (y : List ℕ). payloadOf y a) (held-is s b m n e h)))
-        ∙ ap (λ (x : Answer). onward (world s b m n) x (deliver s x (payloadOf (held (world s b m n)) x) m n)) (ea ∙ says-is s b m n e h t)
+        ap (onward (world s b m n) a) (er ∙ ap (λ (x : List ℕ). deliver s a x m n) (ep ∙ ap (λ (y : Span). partOf (take e b) (y .start) (y .len)) eq ∙ ap (λ (y : List ℕ). carriedOf y a) (held-is s b m n e h)))
+        ∙ ap (λ (x : Answer). onward (world s b m n) x (deliver s x (carriedOf (held (world s b m n)) x) m n)) (ea ∙ says-is s b m n e h t)
 
     pub step-full : r ≡ delivers.Waits → stuck (world s b k l) ≡ once (choice t) (world s b m n)
     unfolding onward
-    step-full q = rw q at at-delivery
+    step-full f = rw f at at-delivery
 
     pub step-is : (x : State) → r ≡ delivers.Is x → (c : List ℕ) → c ≡ moved b (a .consumed) e → (y : State) → y ≡ withEnd x (e - a .consumed) → went (world y c k l) (a .consumed) ≡ once (choice t) (world s b m n)
     unfolding onward
-    step-is x q c v y u =
+    step-is x f c v y u =
         let z : e ≡ length (held (world s b m n)) = h ∙ sym (held-long (world s b m n)) in
         (λ i. went (world (u i) (v i) k l) (a .consumed))
         ∙ (λ i. went (world (withEnd x (z i - a .consumed)) (moved b (a .consumed) (z i)) k l) (a .consumed))
-        ∙ (rw q at at-delivery)
+        ∙ (rw f at at-delivery)
 
 -- a turn that went on: what it leaves; one that is stuck: the same
 abbrev pub next : Choice → World → World

@@ -7,7 +7,7 @@ use Rattle.text.specs.Text.{partOf}
 use Rattle.moves.specs.Moves.{moved}
 use Rattle.outcome.specs.Outcome.{Outcome, answered, refused, if_then_else_}
 use Rattle.table.specs.Table.{tokens}
-use Rattle.answers.specs.Answer.{isNotice}
+use Rattle.answers.specs.Answer.{isNotice, carried}
 use Rattle.answers.specs.declared.Answer.{Answer}
 use Rattle.digest.specs.Digest.{digestUnchecked}
 use Rattle.digest.specs.Finished.{NothingFinished}
@@ -100,9 +100,13 @@ Quiet c w = NothingFinished (tokens (c .table)) (held w)
 abbrev pub payloadOf : List ℕ → Answer → List ℕ
 payloadOf s a = partOf s (a .place) (a .len)
 
+-- the bytes that go along: a numeric error's digits (R-2), else the payload
+abbrev pub carriedOf : List ℕ → Answer → List ℕ
+carriedOf s a = partOf s (carried a .start) (carried a .len)
+
 -- what is delivered of it
 abbrev pub delivering : Choice → World → Delivery
-delivering c w = deliver (w .state) (says c w) (payloadOf (held w) (says c w)) (w .slotMemory) (w .queueMemory)
+delivering c w = deliver (w .state) (says c w) (carriedOf (held w) (says c w)) (w .slotMemory) (w .queueMemory)
 
 -- one turn: what it leaves and the bytes it consumed, or that its notice meets a full queue
 pub data Step : Type 0 where

@@ -120,7 +120,8 @@ pub fn step(
     let end = fitting(state.end, buf.len());
     let a = digest::digest_unchecked(table, &buf[..end]);
     let n = a.consumed;
-    let p = digest::payload(&buf[..end], a.place, a.len);
+    let part = answers::carried(a);
+    let p = digest::payload(&buf[..end], part.start, part.len);
     match deliver(state, a, p, slot_mem, queue_mem) {
         Delivered::Waits => Stepped::Full,
         Delivered::Is(next) => {

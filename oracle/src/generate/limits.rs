@@ -55,6 +55,7 @@ pub fn limits() -> Vec<Case> {
     all.long_inputs();
     all.kinds_in_the_slot();
     all.slot_sizes();
+    all.digit_sizes();
     all.queue_sizes();
     all.rooms();
     all.going_on();
@@ -275,7 +276,7 @@ impl List {
             self.script(&table, 40, 16, 132, &[write(item)]);
             self.script(&table, 40, 16, 132, &[write(item), Op::Reset]);
             self.script(&table, 40, 16, 132, &[write(item), write(next), Op::Take, Op::Reset, write(next)]);
-            self.script(&table, 40, 2, 0, &[write(item), Op::Busy, Op::Reset, Op::Cme(100), Op::Prompt(64)]);
+            self.script(&table, 40, 2, 0, &[write(item), Op::Busy, Op::Reset, Op::Cme(100, None), Op::Prompt(64)]);
         }
     }
 
@@ -292,6 +293,24 @@ impl List {
                 if (1..=32).contains(&len) {
                     let text = vec![b'E'; len];
                     self.script(&tables::of(&[(b"CE", &text)]), 40, size, 0, &[write(&line(&text)), Op::Reset]);
+                }
+            }
+        }
+    }
+
+    /// Digits one under, at and one over the slot's memory, handed in and heard; over what an Ok left there, and on a signalled slot.
+    fn digit_sizes(&mut self) {
+        let empty = Table::default();
+        for size in SLOT_SIZES {
+            for len in size.saturating_sub(1)..=size + 1 {
+                let digits = vec![b'0'; len];
+                self.script(&empty, 0, size, 0, &[Op::Cme(0, Some(digits.clone())), Op::Cme(1, None), Op::Reset, Op::Okay(b"ok".to_vec())]);
+                if !(1..=200).contains(&len) {
+                    continue;
+                }
+                for head in [&b"\r\n+CME ERROR: "[..], b"\r\n+CMS ERROR:", b"\r\nMODEM ERROR:\t"] {
+                    let said = [head, &digits, b"\r\n"].concat();
+                    self.script(&empty, 300, size, 0, &[Op::Okay(b"pay".to_vec()), write(&said), Op::Reset, write(&said), Op::Reset]);
                 }
             }
         }

@@ -120,7 +120,10 @@ fn other(chance: &mut Chance, slot: usize) -> Op {
         34 => Op::Put(Vec::new()),
         35..37 => Op::Okay(vec![b'k'; chance.within(slot.saturating_sub(1), slot + 1).min(300)]),
         37 => Op::Prompt(chance.byte()),
-        38 => Op::Cme(chance.one_of(&[0, 3, 100, 65_535])),
+        38 => {
+            let (code, digits) = chance.one_of(&[(0, Some("0000")), (3, Some("003")), (100, None), (65_535, None)]);
+            Op::Cme(code, digits.map(|digits| digits.as_bytes().to_vec()))
+        }
         _ => Op::Busy,
     }
 }

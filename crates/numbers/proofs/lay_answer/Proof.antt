@@ -24,6 +24,12 @@ element-write-out-4 c = search needs
 element-write-out-5 : tie.Need-element-write-out-5
 element-write-out-5 c = search needs
 
+element-write-out-6 : tie.Need-element-write-out-6
+element-write-out-6 c = search needs
+
+element-write-out-7 : tie.Need-element-write-out-7
+element-write-out-7 c = search needs
+
 returns : tie.Need-returns
 returns c = rw (c .before .kind-number .ensures)
 
@@ -38,4 +44,6 @@ lay-answer-spec =
     element-write-out-3
     element-write-out-4
     element-write-out-5
+    element-write-out-6
+    element-write-out-7
     returns)

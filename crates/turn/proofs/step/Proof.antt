@@ -21,13 +21,16 @@ slice-aggregate-digest-unchecked c =
 digest-unchecked-requires : tie.Need-digest-unchecked-requires
 digest-unchecked-requires c κs = search needs
 
+carried-requires : tie.Need-carried-requires
+carried-requires c κs = search needs
+
 slice-reshare-prefix-payload : tie.Need-slice-reshare-prefix-payload
 slice-reshare-prefix-payload c = search needs
 
 slice-aggregate-payload : tie.Need-slice-aggregate-payload
 slice-aggregate-payload c =
-    let args = c .before .before .before .before .before .before .before .before .args in
-    let fitting = c .before .before .before .fitting in
+    let args = c .before .before .before .before .before .before .before .before .before .args in
+    let fitting = c .before .before .before .before .fitting in
     sym (length-take-le _ (args .buf .now) (omega (arith, fitting .ensures)))
 
 payload-requires : tie.Need-payload-requires
@@ -35,9 +38,9 @@ payload-requires c κs = search needs
 
 deliver-requires : tie.Need-deliver-requires
 deliver-requires c κs =
-    let args = c .before .before .before .before .before .before .before .before .before .before .before .args in
-    let fitting = c .before .before .before .before .before .before .fitting in
-    let digest-unchecked = c .before .before .before .before .digest-unchecked in
+    let args = c .before .before .before .before .before .before .before .before .before .before .before .before .args in
+    let fitting = c .before .before .before .before .before .before .before .fitting in
+    let digest-unchecked = c .before .before .before .before .before .digest-unchecked in
     step-number (args .table .now) (args .state) (args .buf .now) (args .slot-mem .now) (args .queue-mem .now) _ (fitting .ensures) _ (digest-unchecked .ensures)
 
 enum-told : tie.Need-enum-told
@@ -51,9 +54,9 @@ move-down-requires c κs = search needs
 
 sub-with-end : tie.Need-sub-with-end
 sub-with-end c =
-    let args = c .before .before .before .before .before .before .before .before .before .before .before .before .before .before .before .before .before .before .before .before .before .before .before .args in
-    let fitting = c .before .before .before .before .before .before .before .before .before .before .before .before .before .before .before .before .before .before .fitting in
-    let digest-unchecked = c .before .before .before .before .before .before .before .before .before .before .before .before .before .before .before .before .digest-unchecked in
+    let args = c .before .before .before .before .before .before .before .before .before .before .before .before .before .before .before .before .before .before .before .before .before .before .before .before .args in
+    let fitting = c .before .before .before .before .before .before .before .before .before .before .before .before .before .before .before .before .before .before .before .fitting in
+    let digest-unchecked = c .before .before .before .before .before .before .before .before .before .before .before .before .before .before .before .before .before .digest-unchecked in
     step-room (args .table .now) (args .state) (args .buf .now) (args .slot-mem .now) (args .queue-mem .now) _ (fitting .ensures) _ (digest-unchecked .ensures)
 
 with-end-requires : tie.Need-with-end-requires
@@ -70,12 +73,13 @@ same-length-3 c = search needs
 
 returns : tie.Need-returns
 returns c =
-    let args = c .before .before .before .before .before .before .before .before .before .before .before .before .before .before .before .before .before .before .args in
-    let fitting = c .before .before .before .before .before .before .before .before .before .before .before .before .before .fitting in
-    let digest-unchecked = c .before .before .before .before .before .before .before .before .before .before .before .digest-unchecked in
+    let args = c .before .before .before .before .before .before .before .before .before .before .before .before .before .before .before .before .before .before .before .args in
+    let fitting = c .before .before .before .before .before .before .before .before .before .before .before .before .before .before .fitting in
+    let digest-unchecked = c .before .before .before .before .before .before .before .before .before .before .before .before .digest-unchecked in
+    let carried = c .before .before .before .before .before .before .before .before .before .before .before .carried in
     let payload = c .before .before .before .before .before .before .before .before .before .payload in
     let deliver = c .before .before .before .before .before .before .deliver in
-    step-full (args .table .now) (args .state) (args .buf .now) (args .slot-mem .now) (args .queue-mem .now) _ (fitting .ensures) _ (digest-unchecked .ensures) _ (payload .ensures .0) _ _ _ (deliver .ensures) (c .enum-told .given .1)
+    step-full (args .table .now) (args .state) (args .buf .now) (args .slot-mem .now) (args .queue-mem .now) _ (fitting .ensures) _ (digest-unchecked .ensures) _ (carried .ensures) _ (payload .ensures .0) _ _ _ (deliver .ensures) (c .enum-told .given .1)
 
 same-length-4 : tie.Need-same-length-4
 same-length-4 c = search needs
@@ -88,14 +92,15 @@ same-length-6 c = search needs
 
 returns-2 : tie.Need-returns-2
 returns-2 c =
-    let args = c .before .before .before .before .before .before .before .before .before .before .before .before .before .before .before .before .before .before .before .before .before .before .before .before .args in
-    let fitting = c .before .before .before .before .before .before .before .before .before .before .before .before .before .before .before .before .before .before .before .fitting in
-    let digest-unchecked = c .before .before .before .before .before .before .before .before .before .before .before .before .before .before .before .before .before .digest-unchecked in
+    let args = c .before .before .before .before .before .before .before .before .before .before .before .before .before .before .before .before .before .before .before .before .before .before .before .before .before .args in
+    let fitting = c .before .before .before .before .before .before .before .before .before .before .before .before .before .before .before .before .before .before .before .before .fitting in
+    let digest-unchecked = c .before .before .before .before .before .before .before .before .before .before .before .before .before .before .before .before .before .before .digest-unchecked in
+    let carried = c .before .before .before .before .before .before .before .before .before .before .before .before .before .before .before .before .before .carried in
     let payload = c .before .before .before .before .before .before .before .before .before .before .before .before .before .before .before .payload in
     let deliver = c .before .before .before .before .before .before .before .before .before .before .before .before .deliver in
     let next = c .before .before .before .before .before .before .next in
     let move-down = c .before .before .before .move-down in
-    step-is (args .table .now) (args .state) (args .buf .now) (args .slot-mem .now) (args .queue-mem .now) _ (fitting .ensures) _ (digest-unchecked .ensures) _ (payload .ensures .0) _ _ _ (deliver .ensures) _ (next .given .1) _ (move-down .ensures) _ (c .with-end .ensures)
+    step-is (args .table .now) (args .state) (args .buf .now) (args .slot-mem .now) (args .queue-mem .now) _ (fitting .ensures) _ (digest-unchecked .ensures) _ (carried .ensures) _ (payload .ensures .0) _ _ _ (deliver .ensures) _ (next .given .1) _ (move-down .ensures) _ (c .with-end .ensures)
 
 pub step-spec : {M : Type 1} → statement M
 step-spec =
@@ -105,6 +110,7 @@ step-spec =
     slice-reshare-prefix-digest-unchecked
     slice-aggregate-digest-unchecked
     digest-unchecked-requires
+    carried-requires
     slice-reshare-prefix-payload
     slice-aggregate-payload
     payload-requires

@@ -31,8 +31,8 @@ returns-3 c =
     let if2 = c .before .before .if2 in
     signal-lost (args .self) (args .a) (args .p .now) (args .mem .now) (if1 .left) (sym (is-response .ensures) ∙ not-false _ (if2 .left)) (c .before .if3 .taken) _ (c .lose .ensures)
 
-carries-payload-requires : tie.Need-carries-payload-requires
-carries-payload-requires c κs = search needs
+carries-requires : tie.Need-carries-requires
+carries-requires c κs = search needs
 
 fill-requires : tie.Need-fill-requires
 fill-requires c κs = search needs
@@ -43,9 +43,9 @@ returns-4 c =
     let if1 = c .before .before .before .before .before .before .if1 in
     let is-response = c .before .before .before .before .before .is-response in
     let if2 = c .before .before .before .before .if2 in
-    let carries-payload = c .before .before .carries-payload in
+    let carries = c .before .before .carries in
     let if3 = c .before .before .before .if3 in
-    signal-bare (args .self) (args .a) (args .p .now) (args .mem .now) (if1 .left) (sym (is-response .ensures) ∙ not-false _ (if2 .left)) (if3 .left) (sym (carries-payload .ensures) ∙ not-true _ (c .before .if4 .taken)) _ (c .fill .ensures)
+    signal-bare (args .self) (args .a) (args .p .now) (args .mem .now) (if1 .left) (sym (is-response .ensures) ∙ not-false _ (if2 .left)) (if3 .left) (sym (carries .ensures) ∙ not-true _ (c .before .if4 .taken)) _ (c .fill .ensures)
 
 overflow-requires : tie.Need-overflow-requires
 overflow-requires c κs = search needs
@@ -56,10 +56,10 @@ returns-5 c =
     let if1 = c .before .before .before .before .before .before .before .if1 in
     let is-response = c .before .before .before .before .before .before .is-response in
     let if2 = c .before .before .before .before .before .if2 in
-    let carries-payload = c .before .before .before .carries-payload in
+    let carries = c .before .before .before .carries in
     let if3 = c .before .before .before .before .if3 in
     let if4 = c .before .before .if4 in
-    signal-over (args .self) (args .a) (args .p .now) (args .mem .now) (if1 .left) (sym (is-response .ensures) ∙ not-false _ (if2 .left)) (if3 .left) (sym (carries-payload .ensures) ∙ not-false _ (if4 .left)) (c .before .if5 .taken) _ (c .overflow .ensures)
+    signal-over (args .self) (args .a) (args .p .now) (args .mem .now) (if1 .left) (sym (is-response .ensures) ∙ not-false _ (if2 .left)) (if3 .left) (sym (carries .ensures) ∙ not-false _ (if4 .left)) (c .before .if5 .taken) _ (c .overflow .ensures)
 
 put-requires : tie.Need-put-requires
 put-requires c κs = search needs
@@ -76,12 +76,12 @@ returns-6 c =
     let if1 = c .before .before .before .before .before .before .before .before .before .before .before .if1 in
     let is-response = c .before .before .before .before .before .before .before .before .before .before .is-response in
     let if2 = c .before .before .before .before .before .before .before .before .before .if2 in
-    let carries-payload = c .before .before .before .before .before .before .before .carries-payload in
+    let carries = c .before .before .before .before .before .before .before .carries in
     let if3 = c .before .before .before .before .before .before .before .before .if3 in
     let if4 = c .before .before .before .before .before .before .if4 in
     let if5 = c .before .before .before .before .before .if5 in
     let put = c .before .before .before .put in
-    signal-full (args .self) (args .a) (args .p .now) (args .mem .now) (if1 .left) (sym (is-response .ensures) ∙ not-false _ (if2 .left)) (if3 .left) (sym (carries-payload .ensures) ∙ not-false _ (if4 .left)) (if5 .left) _ (c .fill2 .ensures) _ (put .ensures)
+    signal-full (args .self) (args .a) (args .p .now) (args .mem .now) (if1 .left) (sym (is-response .ensures) ∙ not-false _ (if2 .left)) (if3 .left) (sym (carries .ensures) ∙ not-false _ (if4 .left)) (if5 .left) _ (c .fill2 .ensures) _ (put .ensures)
 
 pub signal-spec : {M : Type 1} → statement M
 signal-spec =
@@ -92,7 +92,7 @@ signal-spec =
     returns-2
     lose-requires
     returns-3
-    carries-payload-requires
+    carries-requires
     fill-requires
     returns-4
     overflow-requires

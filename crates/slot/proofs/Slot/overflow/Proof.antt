@@ -1,0 +1,20 @@
+-- `overflow` meets its contract: one way out for digits, one for a payload.
+use mathlib.Core.Path.{sym, _∙_}
+use borrow.Author.Needs.{needs}
+use Rattle.slot.proofs.Slot.overflow.Statement.{statement}
+use Rattle.slot.proofs.Slot.overflow.Tie as tie
+
+is-numeric-requires : tie.Need-is-numeric-requires
+is-numeric-requires c κs = search needs
+
+fill-requires : tie.Need-fill-requires
+fill-requires c κs = search needs
+
+returns : tie.Need-returns
+returns c = rw (sym (c .before .before .is-numeric .ensures) ∙ c .before .if1 .taken) (c .fill .ensures)
+
+returns-2 : tie.Need-returns-2
+returns-2 c = rw (sym (c .before .is-numeric .ensures) ∙ c .if1 .left)
+
+pub overflow-spec : {M : Type 1} → statement M
+overflow-spec = tie.close (tie.spec is-numeric-requires fill-requires returns returns-2)
