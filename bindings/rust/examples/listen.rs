@@ -60,7 +60,7 @@ fn answer(ingress: &mut Ingress<'_>) -> Result<(), Box<dyn Error>> {
         Some(Response::OtherError) => print("error")?,
         Some(Response::CmeError { code, digits }) => print(&format!("cme error   {}", number(code, digits)))?,
         Some(Response::CmsError { code, digits }) => print(&format!("cms error   {}", number(code, digits)))?,
-        Some(Response::UnknownError { digits }) => print(&format!("modem error {}", digits.escape_ascii()))?,
+        Some(Response::UnknownError { digits }) => print(format!("modem error {}", digits.escape_ascii()).trim_end())?,
         Some(Response::NotAllowedError) => print("not allowed")?,
         Some(Response::ConnectionError(e)) => print(&format!("connection  {e}"))?,
         Some(Response::CustomError { text, .. }) => print(&format!("error       {}", text.escape_ascii()))?,

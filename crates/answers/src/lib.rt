@@ -234,6 +234,7 @@ pub fn shifted(a: Answer, d: usize) -> Answer
         return a;
     }
     let same = a.kind;
+    let consumed = a.consumed + d;
     Answer {
         kind: same,
         number: a.number,
@@ -241,6 +242,6 @@ pub fn shifted(a: Answer, d: usize) -> Answer
         len: a.len,
         digits_place: placed_at(a.digits_len, a.digits_place + d),
         digits_len: a.digits_len,
-        consumed: a.consumed + d,
+        consumed: consumed,
     }
 }

@@ -11,32 +11,32 @@ returns c =
     let args = c .before .before .before .before .args in
     shifted-not (args .a) (args .d) (not-true _ (c .if1 .taken))
 
+add-consumed : tie.Need-add-consumed
+add-consumed c =
+    let args = c .before .before .before .before .before .args in
+    record { fits = omega (arith, inside (args .a) (args .d) (not-false _ (c .before .if1 .left)) .1 .1) }
+
 add-placed-at : tie.Need-add-placed-at
 add-placed-at c =
-    let args = c .before .before .before .before .before .args in
-    record { fits = omega (arith, inside (args .a) (args .d) (not-false _ (c .before .if1 .left)) .0) }
+    let args = c .before .before .before .before .before .before .args in
+    record { fits = omega (arith, inside (args .a) (args .d) (not-false _ (c .before .before .if1 .left)) .0) }
 
 placed-at-requires : tie.Need-placed-at-requires
 placed-at-requires c κs = search needs
 
 add-placed-at-2 : tie.Need-add-placed-at-2
 add-placed-at-2 c =
-    let args = c .before .before .before .before .before .before .before .args in
-    record { fits = omega (arith, inside (args .a) (args .d) (not-false _ (c .before .before .before .if1 .left)) .1 .0) }
+    let args = c .before .before .before .before .before .before .before .before .args in
+    record { fits = omega (arith, inside (args .a) (args .d) (not-false _ (c .before .before .before .before .if1 .left)) .1 .0) }
 
 placed-at-requires-2 : tie.Need-placed-at-requires-2
 placed-at-requires-2 c κs = search needs
 
-add-t15 : tie.Need-add-t15
-add-t15 c =
-    let args = c .before .before .before .before .before .before .before .before .before .args in
-    record { fits = omega (arith, inside (args .a) (args .d) (not-false _ (c .before .before .before .before .before .if1 .left)) .1 .1) }
-
 returns-2 : tie.Need-returns-2
 returns-2 c =
     let args = c .before .before .before .before .before .before .before .before .before .args in
-    let placed-at = c .before .before .before .placed-at in
-    shifted-is (args .a) (args .d) (not-false _ (c .before .before .before .before .before .if1 .left)) _ _ (placed-at .ensures) (c .before .placed-at2 .ensures)
+    let placed-at = c .before .before .placed-at in
+    shifted-is (args .a) (args .d) (not-false _ (c .before .before .before .before .before .if1 .left)) _ _ (placed-at .ensures) (c .placed-at2 .ensures)
 
 pub shifted-spec : {M : Type 1} → statement M
-shifted-spec = tie.close (tie.spec returns add-placed-at placed-at-requires add-placed-at-2 placed-at-requires-2 add-t15 returns-2)
+shifted-spec = tie.close (tie.spec returns add-consumed add-placed-at placed-at-requires add-placed-at-2 placed-at-requires-2 returns-2)
