@@ -8,7 +8,7 @@ use lib.Dec.{ltb}
 use Rattle.outcome.specs.Outcome.{Outcome, answered, refused}
 use Rattle.table.specs.Table.{Token, tokens}
 use Rattle.answers.specs.declared.Answer.{Answer}
-use Rattle.answers.specs.Answer.{hasNumber, isFound, isNumeric}
+use Rattle.answers.specs.Answer.{hasNumber, isFound, isNumeric, nothing}
 use Rattle.parser.specs.Parser.{lineEnding, isDigit, value}
 use Rattle.items.specs.Rules.{skipped}
 use Rattle.digest.specs.Finished.{All, Holds, NothingFinished}
@@ -36,12 +36,12 @@ pub record Where (ts : List Token) (s : List ℕ) (a : Answer) : Type 0 where
   pub within : a .«digits_place» + a .«digits_len» ≤ a .consumed
   pub digits : DigitsOf s a
 
--- None exactly when no line start of the input holds a finished item (none, only). Where it is None, consumed is e (rule 1).
+-- None exactly when no line start of the input holds a finished item (none, only). Where it is None, it has neither payload nor digits, and consumed is e (rules 1 and 7).
 -- Else the item is there, and at least one byte and at most the input is consumed.
 pub record Heard (ts : List Token) (s : List ℕ) (a : Answer) : Type 0 where
   pub none : isFound a ≡ false → NothingFinished ts s
   pub only : NothingFinished ts s → isFound a ≡ false
-  pub skip : isFound a ≡ false → a .consumed ≡ skipped s
+  pub skip : isFound a ≡ false → a ≡ nothing (skipped s)
   pub item : isFound a ≡ true → Where ts s a
   pub some : isFound a ≡ true → 1 ≤ a .consumed
   pub within : a .consumed ≤ length s

@@ -265,7 +265,7 @@ module _ (ts : List Token) (good : Texts ts) where
       record {
         none = λ h p n w. false-true (complete s p n w) (ap isFound (sym e) ∙ h);
         only = λ h. not-true-false (isFound a) (λ f. let w = sound s (ap isFound (sym e) ∙ f) in h (w .p) (w .n) (w .holds));
-        skip = λ h. ap (λ (x : Answer). x .consumed) (e ∙ none-is s (ap isFound (sym e) ∙ h));
+        skip = λ h. e ∙ none-is s (ap isFound (sym e) ∙ h);
         item = λ h. rw e (sound s (ap isFound (sym e) ∙ h));
         some = λ h. let w : Where ts s a = rw e (sound s (ap isFound (sym e) ∙ h)) in omega (arith, w .ends, item-size ts good (drop (w .p) s) (w .n) (w .holds .item));
         within = rw e (digest-within ts s .all);
