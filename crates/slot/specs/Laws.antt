@@ -15,7 +15,7 @@ use Rattle.outcome.specs.Laws.{ways}
 use Rattle.answers.specs.Answer.{numbered, stored, isNumeric}
 use Rattle.answers.specs.declared.Kind.{Kind}
 use Rattle.answers.specs.declared.Answer.{Answer}
-use Rattle.slot.specs.declared.Held.the-variants.{Heard}
+use Rattle.slot.specs.declared.Held.the-variants.{Heard, Capacity}
 use Rattle.slot.specs.declared.Slot.{Slot}
 use Rattle.slot.specs.declared.Turned.{Turned}
 use Rattle.slot.specs.declared.Turned.the-variants as turns
@@ -66,6 +66,13 @@ reading-one looks.BadLength looks.BadLength e = refl
 -- structs, field by field
 pub filled-is : (x : Slot) (k : Kind) (n len m : ℕ) → m ≡ stored (numbered k n) → _≡_ {A = Slot} (record { signalled = true; held = Heard k; number = m; len = len; lost = x .lost }) (filled x k n len)
 filled-is x k n len m e = λ i. record { signalled = true; held = Heard k; number = e i; len = len; lost = x .lost }
+
+-- the two ways of bytes that are longer than the memory
+pub overflow-digits : (x : Slot) (k : Kind) (n : ℕ) → isNumeric k ≡ true → filled x k n 0 ≡ overflowing x k n
+overflow-digits x k n e = rw e
+
+pub overflow-payload : (x : Slot) (k : Kind) (n : ℕ) → isNumeric k ≡ false → _≡_ {A = Slot} (record { signalled = true; held = Capacity; number = 0; len = 0; lost = x .lost }) (overflowing x k n)
+overflow-payload x k n e = rw e
 
 pub lost-is : (x : Slot) (n : ℕ) → n ≡ oneMore (x .lost) → _≡_ {A = Slot} (record { signalled = x .signalled; held = x .held; number = x .number; len = x .len; lost = n }) (lostOne x)
 lost-is x n e = λ i. record { signalled = x .signalled; held = x .held; number = x .number; len = x .len; lost = e i }
