@@ -7,7 +7,6 @@ use Prim.Native.Nat.{ℕ, _+_, _-_, _≤_, _<_}
 use native.Mathlib.Omega.{arith}
 use lib.ListN.{length, getD, take, drop, length-drop}
 use lib.Seq.{drop-drop, getD-drop}
-use lib.Dec.{ltb}
 use borrow.Author.Tests.{lt-ltb, ltb-true}
 use Rattle.text.specs.Logic.{false-true, not-true-false, order}
 use Rattle.text.specs.Text.{stands, findIn}
@@ -35,7 +34,7 @@ use Rattle.items.specs.declared.Occurs.the-variants as occurs
 use Rattle.items.specs.declared.Tried.{Tried}
 use Rattle.items.specs.declared.Tried.the-variants as tries
 use Rattle.outcome.specs.Outcome.{if_then_else_}
-use Rattle.answers.specs.Answer.{hasNumber, numbered, stored, kindFound, isFound, isNumeric, placed, bare, nothing, withNumber, withDigits, withPayload}
+use Rattle.answers.specs.Answer.{hasNumber, stored, kindFound, isFound, isNumeric, placed, bare, nothing, withNumber, withDigits, withPayload}
 use Rattle.answers.specs.Laws.{numbered-some, placed-some}
 use Rattle.items.specs.Rules.{orElse, firstOf, trimmedPart, heard, notices, occursOr, firstCustom, kindOf, success, customSuccess, lineSuccess, successLines, successes, promptTried, customPrompts, prompts, customError, heads, numericTried, numericErrors, errorLines, lineTried, lineErrors, notAllowed, errors, tried}
 use Rattle.items.specs.Laws.{next-both, done-next, wrapped-length}

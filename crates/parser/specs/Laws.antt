@@ -21,7 +21,6 @@ use Rattle.text.specs.declared.Found.the-variants.{At, Nothing}
 use Rattle.parser.specs.declared.Run.{Run}
 use Rattle.parser.specs.declared.Run.the-variants.{Value, TooLarge}
 use Rattle.parser.specs.declared.Digits.{Digits}
-use Rattle.parser.specs.declared.Numeric.{Numeric}
 use Rattle.parser.specs.declared.Numeric.the-variants as numeric
 use Rattle.parser.specs.declared.Notice.the-variants as notice
 use Rattle.lines.specs.Lines.{crlf}
