@@ -66,8 +66,10 @@ extern "C" {
 
 /* The version of this header: one more whenever a function's parameters, an array's length or the meaning of a number in one changes. An archive of another version
  * may take an array for longer than it is, so compare before any other call.
- * Version 2: a numeric error has its digits, at out[5] and out[6] of wx_digest and in the slot; WX_OUT, 5 before, is 7. */
-#define WX_VERSION 2u
+ * Version 2: a numeric error has its digits.
+ * Version 3: wx_digest, wx_ingress_advance and wx_ingress_write take a digester, in front of the table; a longer CONNECT line has its text, at out[7] and out[8] of
+ * wx_digest; WX_OUT, 7 before, is 9. */
+#define WX_VERSION 3u
 
 /* What a function that returns uint32_t returns (but wx_version): 0, or the number of the refusal. Of those that a call can give, the lowest is given.
  * A refusal of 1 to 4 leaves every number and byte as it stood, but for out[0] at WX_BAD_TABLE. */
@@ -87,6 +89,18 @@ extern "C" {
 #define WX_RECORD 132         /* a record of the queue's memory: the mark UR, the table number, the payload's length, 128 bytes of payload */
 #define WX_RECORDS 16         /* the most notices that a queue holds, however long its memory is */
 #define WX_LONGEST_NOTICE 128 /* a longer payload is counted as a lost notice; so is an empty one */
+
+/* The digester that a call uses, by its number; any other number reads as WX_VERBOSE.
+ * V.250 lets text follow CONNECT. With WX_CONNECT a CONNECT line is CRLF, `CONNECT` and CRLF, or, longer, CRLF, `CONNECT`, one space and everything through the next
+ * CRLF; the first of either counts. The text is what stands between that space and that CRLF, as it came: it isn't trimmed, and a lone CR or LF may be in it. An empty
+ * one is not told apart from a bare line. `CONNECT` with a tab behind it, or with the text right behind it, is no CONNECT line, and without its CRLF none is finished.
+ * A custom success and OK rank before CONNECT: where one of them is there, a longer line before it is in its payload, and there is no text.
+ *     \r\nCONNECT 9600\r\n              WX_OK with the text 9600; with WX_VERBOSE nothing that is finished
+ *     \r\nCONNECT 9600\r\n\r\nOK\r\n    WX_OK with the payload CONNECT 9600 and no text, with either digester
+ * The text is for callers of wx_digest. It is a part of the input, so that through the ingress it is gone with the bytes consumed; the slot doesn't hold it. The
+ * ingress takes the digester too, so that a longer CONNECT line frees a client that waits. */
+#define WX_VERBOSE 0u /* document 01's: CONNECT is a bare line */
+#define WX_CONNECT 1u /* the same, and it hears the longer CONNECT line */
 
 /* A state: nine numbers. Every array is a state.
  * END, LEN, START and COUNT are taken whole; NUMBER, SLOT_LOST and QUEUE_LOST over 4,294,967,295 read as that.
@@ -112,7 +126,7 @@ enum {
  * number: of `+CME ERROR: 0010` the number is 10, and the digits are 0010. Their payload is empty. */
 enum {
     WX_NONE = 0,
-    WX_OK = 1,           /* OK, CONNECT or a custom success; it has a payload */
+    WX_OK = 1,           /* OK, CONNECT or a custom success; it has a payload, by a longer CONNECT line a text too */
     WX_PROMPT = 2,       /* number: the prompt byte */
     WX_CME = 3,          /* number: the code of +CME ERROR; it has digits */
     WX_CMS = 4,          /* number: the code of +CMS ERROR; it has digits */
@@ -131,7 +145,7 @@ enum {
 
 /* What a call answers: it stands at the front of `out`, whose other numbers stay as they were.
  * A refused call answers what stands beside its number above, and no more. */
-#define WX_OUT 7
+#define WX_OUT 9
 
 /* The archive's version, to be compared with WX_VERSION. An archive that lacks it is older than version 1. */
 uint32_t wx_version(void);
@@ -143,14 +157,19 @@ uint32_t wx_version(void);
 uint32_t wx_table_check(const uint8_t *table, size_t table_len, uint64_t out[WX_OUT]);
 
 /* Digests an input once.
+ * digester: WX_VERBOSE or WX_CONNECT; table: the token table.
  * out[0]: the kind; out[1]: its number, 0 where the kind has none; out[2], out[3]: the payload's place in the input and its
  * length; out[4]: the bytes consumed; out[5], out[6]: the digits' place in the input and how many there are, for WX_CME, WX_CMS and
- * WX_UNKNOWN, else 0 and 0. At WX_BAD_TABLE out[0] is the first faulty record's number and the others stay.
+ * WX_UNKNOWN, else 0 and 0; out[7], out[8]: the text's place in the input and its length, for WX_OK by a longer CONNECT line, where the
+ * text isn't empty, else 0 and 0. The text ends two bytes, its CRLF, before what is consumed does. At WX_BAD_TABLE out[0] is the first
+ * faulty record's number and the others stay.
  * Refusals: WX_TOO_LONG, WX_BAD_TABLE. */
-uint32_t wx_digest(const uint8_t *table, size_t table_len, const uint8_t *input, size_t input_len, uint64_t out[WX_OUT]);
+uint32_t wx_digest(uint32_t digester, const uint8_t *table, size_t table_len, const uint8_t *input, size_t input_len,
+                   uint64_t out[WX_OUT]);
 
-/* The payload of an answer, or its digits, as a part of the input.
- * place, len: out[2] and out[3] of wx_digest for the payload, out[5] and out[6] for the digits, or any two numbers.
+/* The payload of an answer, its digits or its text, as a part of the input.
+ * place, len: out[2] and out[3] of wx_digest for the payload, out[5] and out[6] for the digits, out[7] and out[8] for the text, or any two
+ * numbers.
  * out[0], out[1]: the part's place in the input and its length: place and len where they fit, else 0 and 0. */
 void wx_payload(const uint8_t *input, size_t input_len, size_t place, size_t len, uint64_t out[WX_OUT]);
 
@@ -158,7 +177,7 @@ void wx_payload(const uint8_t *input, size_t input_len, size_t place, size_t len
 void wx_slot_new(uint64_t state[WX_NUMBERS]);
 
 /* Signals an answer to the slot.
- * answer: seven numbers as wx_digest leaves them in `out` (kind, number, and five that aren't used).
+ * answer: nine numbers as wx_digest leaves them in `out` (kind, number, and seven that aren't used).
  * payload, payload_len: the answer's payload for WX_OK and WX_CUSTOM, its digits for WX_CME, WX_CMS and WX_UNKNOWN (any bytes: they
  * aren't examined); not used for the others.
  * mem, mem_len: the slot's memory. A free slot stores the answer, with these bytes at the memory's front. Where they are longer than
@@ -203,21 +222,23 @@ uint32_t wx_queue_put(uint64_t state[WX_NUMBERS], uint8_t *mem, size_t mem_len, 
 uint32_t wx_queue_take(uint64_t state[WX_NUMBERS], const uint8_t *mem, size_t mem_len, uint64_t out[WX_OUT]);
 
 /* Adds `commit` bytes, which the caller has put into buf from END on, and digests, delivers and moves until nothing more is consumed.
- * table: the token table; buf: the ingress buffer; slot_mem, queue_mem: the memories of slot and queue.
+ * digester: WX_VERBOSE or WX_CONNECT; table: the token table; buf: the ingress buffer; slot_mem, queue_mem: the memories of slot and
+ * queue.
  * out[0]: at WX_BAD_TABLE the first faulty record's number; else out stays.
  * Refusals: all five. After WX_FULL take a notice, then advance by 0. */
-uint32_t wx_ingress_advance(uint64_t state[WX_NUMBERS], size_t commit, const uint8_t *table, size_t table_len, uint8_t *buf,
-                            size_t buf_len, uint8_t *slot_mem, size_t slot_mem_len, uint8_t *queue_mem, size_t queue_mem_len,
-                            uint64_t out[WX_OUT]);
+uint32_t wx_ingress_advance(uint64_t state[WX_NUMBERS], size_t commit, uint32_t digester, const uint8_t *table, size_t table_len,
+                            uint8_t *buf, size_t buf_len, uint8_t *slot_mem, size_t slot_mem_len, uint8_t *queue_mem,
+                            size_t queue_mem_len, uint64_t out[WX_OUT]);
 
 /* Copies as much of the piece as fits into buf, advances, and goes on until the piece is used up or there is no room. An empty piece digests nothing.
- * piece, piece_len: bytes from the modem, of any length; where the piece ends changes what is heard (above).
+ * piece, piece_len: bytes from the modem, of any length; where the piece ends changes what is heard (above). The others are those of
+ * wx_ingress_advance.
  * out[0]: the bytes taken, at WX_FULL too (they are consumed or in the buffer: never offer them again); at WX_BAD_TABLE the
  * first faulty record's number.
  * Refusals: WX_TOO_LONG, WX_BAD_TABLE, WX_BAD_STATE, WX_FULL. */
-uint32_t wx_ingress_write(uint64_t state[WX_NUMBERS], const uint8_t *piece, size_t piece_len, const uint8_t *table,
-                          size_t table_len, uint8_t *buf, size_t buf_len, uint8_t *slot_mem, size_t slot_mem_len,
-                          uint8_t *queue_mem, size_t queue_mem_len, uint64_t out[WX_OUT]);
+uint32_t wx_ingress_write(uint64_t state[WX_NUMBERS], const uint8_t *piece, size_t piece_len, uint32_t digester,
+                          const uint8_t *table, size_t table_len, uint8_t *buf, size_t buf_len, uint8_t *slot_mem,
+                          size_t slot_mem_len, uint8_t *queue_mem, size_t queue_mem_len, uint64_t out[WX_OUT]);
 
 /* Drops what is in the buffer: END becomes 0, and the other numbers stay. */
 void wx_ingress_clear(uint64_t state[WX_NUMBERS]);

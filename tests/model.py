@@ -4,10 +4,11 @@ code or its definitions.
 
 It reads the lines that the program compare reads and prints what it must print:
     tests/model.py < crates/compare/stdin     the origin of crates/compare/stdout
-Comments cite 01. The readings that 01 leaves open are those of docs/DECISIONS.md; each is marked `reading`.
+Comments cite 01 and the requests. The readings that 01 leaves open are those of docs/DECISIONS.md; each is marked `reading`.
 The notation of the lines stands in the head comment of crates/notation/src/lib.rt.
 """
 import sys
+from functools import partial
 
 CRLF = b"\r\n"
 TRIM = b" \t\n\x0c\r"
@@ -16,6 +17,7 @@ MOST = 4294967295
 LONGEST = 4096
 LINE = 65535
 FIELD = 65536
+MODES = ("verbose", "connect")
 
 
 # ---- the token table ----
@@ -60,13 +62,16 @@ def is_text(text):
 
 class Answer:
     """Kind, number (None where it has none), payload's place and length in the input, bytes consumed; of a numeric error, which "must also tell where its
-    digits stand and how many there are", their place and length (R-2), else 0 and 0."""
+    digits stand and how many there are", their place and length (R-2), else 0 and 0; of a CONNECT line with text, "a second part of the input that the caller
+    can ask for", that text's place and length (R-3), else 0 and 0."""
 
-    def __init__(self, kind, number, place, length, consumed, digits_at=0, digits=0):
+    def __init__(self, kind, number, place, length, consumed, digits_at=0, digits=0, text_at=0, text=0):
         self.kind, self.number, self.length, self.consumed = kind, number, length, consumed
         self.place = place if length else 0  # "A payload of length 0, or none, has place 0"
         self.digits = digits
         self.digits_at = digits_at if digits else 0  # reading: as for payloads
+        self.text = text
+        self.text_at = text_at if text else 0  # reading: as for payloads
 
     def handed_on(self, s):
         """The bytes of s that go along: "Every caller of it hands this on"; else the payload."""
@@ -82,18 +87,18 @@ def trimmed(s, start, end):
     return start + len(part) - len(left), len(left.rstrip(TRIM))
 
 
-def digest(records, s):
-    """Rules 1 to 7 on the whole input s."""
+def digest(mode, records, s):
+    """Rules 1 to 7 on the whole input s. The mode is `verbose`, 01's digester, or `connect`, which R-3 adds: it changes the CONNECT line of rule 3 alone."""
     e = len(s) - len(s.lstrip(b" "))  # rule 1
     if len(s) - e >= 2 and CRLF in s[e:]:
         e = s.index(CRLF, e)
     buf = s[e:]
-    for rule in (notices, successes, prompts, errors):
+    for rule in (notices, partial(successes, mode), prompts, errors):
         a = rule(records, buf)
         if a is not None:
             return moved(a, e)
     if buf.startswith(CRLF) and len(buf) > 4:  # rule 6
-        a = digest(records, buf[2:])
+        a = digest(mode, records, buf[2:])
         if a.kind != "none":
             return moved(a, e + 2)
     return Answer("none", None, 0, 0, e)  # rule 7
@@ -101,7 +106,7 @@ def digest(records, s):
 
 def moved(a, d):
     """An answer about the bytes from d on, as one about the whole."""
-    return Answer(a.kind, a.number, a.place + d, a.length, a.consumed + d, a.digits_at + d, a.digits)
+    return Answer(a.kind, a.number, a.place + d, a.length, a.consumed + d, a.digits_at + d, a.digits, a.text_at + d, a.text)
 
 
 def notices(records, buf):
@@ -143,14 +148,37 @@ def line_in(text, buf):
     return None if at < 0 else (at, at + len(line))
 
 
-def successes(records, buf):
-    """Rule 3: CS records in table order, then OK, else CONNECT."""
-    texts = [text for mark, _, text in records if mark == b"CS"] + [b"OK", b"CONNECT"]
-    for text in texts:
+def connect_line(mode, buf):
+    """The first CONNECT line: its place, its end, its text's place and length; or None. In the mode that R-3 adds it is "CRLF, `CONNECT`, then CRLF, or a space
+    and everything through the next CRLF". Reading: one line with two endings, so the first occurrence is the least place of either; the next CRLF may begin
+    where the space ends."""
+    if mode == "verbose":
+        found = line_in(b"CONNECT", buf)
+        return found and found + (0, 0)
+    at = buf.find(CRLF + b"CONNECT")
+    while at >= 0:
+        end = at + len(CRLF + b"CONNECT")
+        if buf[end:end + 2] == CRLF:
+            return at, end + 2, 0, 0
+        if buf[end:end + 1] == b" " and CRLF in buf[end + 1:]:
+            stop = buf.index(CRLF, end + 1)
+            return at, stop + 2, end + 1, stop - (end + 1)  # "from that space to that CRLF and without either": not trimmed
+        at = buf.find(CRLF + b"CONNECT", at + 1)
+    return None
+
+
+def successes(mode, records, buf):
+    """Rule 3: CS records in table order, then OK ("OK still ranks before it", R-3), else CONNECT."""
+    for text in [text for mark, _, text in records if mark == b"CS"] + [b"OK"]:
         found = line_in(text, buf)
         if found:
             place, length = trimmed(buf, 0, found[0])
             return Answer("ok", None, place, length, found[1])
+    found = connect_line(mode, buf)
+    if found:
+        at, end, text_at, text = found
+        place, length = trimmed(buf, 0, at)
+        return Answer("ok", None, place, length, end, 0, 0, text_at, text)
     return None
 
 
@@ -223,9 +251,11 @@ class Refused(Exception):
 
 
 class World:
-    """The end, slot and queue by value, and the three memories."""
+    """The end, slot and queue by value, and the three memories; the mode, which each advance and write is told. Reading: R-3 has no word of the slot, so a
+    CONNECT line's text, which is a part of the digest's input, is kept nowhere here."""
 
-    def __init__(self, table, buf, slot_mem, queue_mem):
+    def __init__(self, mode, table, buf, slot_mem, queue_mem):
+        self.mode = mode
         self.table, self.buf, self.slot_mem, self.queue_mem = table, bytearray(buf), bytearray(slot_mem), bytearray(queue_mem)
         self.end = 0
         self.signalled, self.kind, self.number, self.length, self.slot_lost = False, "ok", None, 0, 0
@@ -327,7 +357,7 @@ class World:
         """"digest what is in the buffer, deliver, move the rest to the front, until the digest consumes 0 or nothing is left\""""
         while self.end > 0:
             held = bytes(self.buf[:self.end])
-            a = digest(records, held)
+            a = digest(self.mode, records, held)
             if a.kind == "notice":
                 self.put(a.number, a.handed_on(held))
             else:
@@ -491,16 +521,17 @@ def scripted(w, ops):
     return said + " " + state(w)
 
 
-def digest_case(table, data):
+def digest_case(mode, table, data):
     """A digest case: refusal 1, refusal 2, or the answer."""
     if len(data) > LONGEST:
         return "refused 1"
     records = read_table(table)
     if isinstance(records, int):
         return "refused 2 %d" % records
-    a = digest(records, data)
+    a = digest(mode, records, data)
     said = "%s %s %d %d %d" % (a.kind, dashed(a.number), a.place, a.length, a.consumed)
-    return said + (" digits %d %d" % (a.digits_at, a.digits) if a.digits else "")
+    said += " digits %d %d" % (a.digits_at, a.digits) if a.digits else ""
+    return said + (" text %d %d" % (a.text_at, a.text) if a.text else "")
 
 
 def started(w, text):
@@ -515,20 +546,22 @@ def started(w, text):
 
 
 def answer(line):
-    """The answer to a line: a comma in the first field tells its form, else the number of fields."""
+    """The answer to a line. A first field that is a mode's word names it, none is `verbose`; behind it a comma in the first field tells the form, else the
+    number of fields."""
     if len(line) > LINE:
         raise BadLine
     fields = line.split(" ")
-    if "," in fields[0]:
+    mode = fields.pop(0) if fields[0] in MODES else "verbose"
+    if fields and "," in fields[0]:
         if len(fields) != 6:
             raise BadLine
-        w = World(*[data_of(f) for f in fields[1:5]])
+        w = World(mode, *[data_of(f) for f in fields[1:5]])
         started(w, fields[0])
         return scripted(w, fields[5])
     if len(fields) == 5:
-        return scripted(World(*[data_of(f) for f in fields[:4]]), fields[4])
+        return scripted(World(mode, *[data_of(f) for f in fields[:4]]), fields[4])
     if len(fields) == 2:
-        return digest_case(data_of(fields[0]), data_of(fields[1]))
+        return digest_case(mode, data_of(fields[0]), data_of(fields[1]))
     raise BadLine
 
 

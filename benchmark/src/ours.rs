@@ -6,10 +6,10 @@ use crate::{BUFFER, QUEUE, SLOT};
 use std::hint::black_box;
 
 extern "C" {
-    fn wx_digest(table: *const u8, table_len: usize, input: *const u8, input_len: usize, out: *mut [u64; 7]) -> u32;
+    fn wx_digest(digester: u32, table: *const u8, table_len: usize, input: *const u8, input_len: usize, out: *mut [u64; 9]) -> u32;
     fn wx_slot_new(state: *mut [u64; 9]);
-    fn wx_slot_signal(state: *mut [u64; 9], answer: *const [u64; 7], payload: *const u8, payload_len: usize, mem: *mut u8, mem_len: usize) -> u32;
-    fn wx_slot_lookup(state: *const [u64; 9], mem: *const u8, mem_len: usize, out: *mut [u64; 7]) -> u32;
+    fn wx_slot_signal(state: *mut [u64; 9], answer: *const [u64; 9], payload: *const u8, payload_len: usize, mem: *mut u8, mem_len: usize) -> u32;
+    fn wx_slot_lookup(state: *const [u64; 9], mem: *const u8, mem_len: usize, out: *mut [u64; 9]) -> u32;
     fn wx_slot_reset(state: *mut [u64; 9], mem: *const u8, mem_len: usize) -> u32;
     fn wx_queue_new(state: *mut [u64; 9]);
     fn wx_ingress_clear(state: *mut [u64; 9]);
@@ -17,6 +17,7 @@ extern "C" {
         state: *mut [u64; 9],
         piece: *const u8,
         piece_len: usize,
+        digester: u32,
         table: *const u8,
         table_len: usize,
         buf: *mut u8,
@@ -25,21 +26,24 @@ extern "C" {
         slot_mem_len: usize,
         queue_mem: *mut u8,
         queue_mem_len: usize,
-        out: *mut [u64; 7],
+        out: *mut [u64; 9],
     ) -> u32;
 }
 
+/// `WX_VERBOSE`: the digester that hears what the crate hears.
+const VERBOSE: u32 = 0;
+
 /// The refusal's number, 0 for none; the answer stands in `out`.
 #[inline]
-pub fn digest(table: &[u8], input: &[u8], out: &mut [u64; 7]) -> u32 {
-    // SAFETY: each pointer and length is a slice's own, and `out` is a lent array of seven.
-    unsafe { wx_digest(table.as_ptr(), table.len(), input.as_ptr(), input.len(), out) }
+pub fn digest(table: &[u8], input: &[u8], out: &mut [u64; 9]) -> u32 {
+    // SAFETY: each pointer and length is a slice's own, and `out` is a lent array of nine.
+    unsafe { wx_digest(VERBOSE, table.as_ptr(), table.len(), input.as_ptr(), input.len(), out) }
 }
 
 /// A digest, ready to be called.
 pub fn digesting(table: Vec<u8>, input: &'static [u8]) -> Box<dyn FnMut()> {
     Box::new(move || {
-        let mut out = [0; 7];
+        let mut out = [0; 9];
         black_box(digest(&table, black_box(input), &mut out));
         black_box(out);
     })
@@ -47,10 +51,10 @@ pub fn digesting(table: Vec<u8>, input: &'static [u8]) -> Box<dyn FnMut()> {
 
 /// What is heard in the input, in the crate's types.
 pub fn heard(table: &[u8], input: &[u8]) -> Heard {
-    let mut out = [0; 7];
+    let mut out = [0; 9];
     let refusal = digest(table, input, &mut out);
     assert_eq!(refusal, 0, "our digest refused a workload");
-    // The crate tells no digits.
+    // The crate tells no digits, and this digester no text.
     let [kind, number, place, len, consumed, ..] = out;
     let (kind, number) = in_its_type(kind, number);
     Heard { kind, number, place: place as usize, len: len as usize, consumed: consumed as usize }
@@ -106,13 +110,14 @@ impl Ears for Ingress {
 
     #[inline]
     fn write(&mut self, piece: &[u8]) -> usize {
-        let mut out = [0; 7];
+        let mut out = [0; 9];
         // SAFETY: each pointer and length is a slice's own; the lent memories are four different vectors.
         let refusal = unsafe {
             wx_ingress_write(
                 &mut self.state,
                 piece.as_ptr(),
                 piece.len(),
+                VERBOSE,
                 self.table.as_ptr(),
                 self.table.len(),
                 self.buf.as_mut_ptr(),
@@ -130,7 +135,7 @@ impl Ears for Ingress {
 
     #[inline]
     fn signal(&mut self, payload: &[u8]) {
-        let answer = [1, 0, 0, payload.len() as u64, 0, 0, 0];
+        let answer = [1, 0, 0, payload.len() as u64, 0, 0, 0, 0, 0];
         // SAFETY: as above.
         let refusal = unsafe { wx_slot_signal(&mut self.state, &answer, payload.as_ptr(), payload.len(), self.slot_mem.as_mut_ptr(), self.slot_mem.len()) };
         assert_eq!(refusal, 0, "our slot refused a signal");
@@ -144,7 +149,7 @@ impl Ears for Ingress {
     }
 
     fn held(&mut self) -> Held {
-        let mut out = [0; 7];
+        let mut out = [0; 9];
         // SAFETY: as above.
         let refusal = unsafe { wx_slot_lookup(&self.state, self.slot_mem.as_ptr(), self.slot_mem.len(), &mut out) };
         assert_eq!(refusal, 0, "our slot refused a look");

@@ -12,7 +12,7 @@
 #define TABLE "UR\7+UUSORD"
 
 /* A caller's arrays are of this length: where one of these changes, so does the version. */
-#if WX_VERSION != 2u || WX_NUMBERS != 9 || WX_OUT != 7
+#if WX_VERSION != 3u || WX_NUMBERS != 9 || WX_OUT != 9
 #error "an array has changed: raise WX_VERSION and wx_version, and write the new lengths here"
 #endif
 
@@ -49,7 +49,20 @@ static void reset_to_was(uint64_t *numbers, size_t n)
         numbers[i] = WAS;
 }
 
+/* The digesters, and numbers that no digester has. */
+static const uint32_t digesters[] = {WX_VERBOSE, WX_CONNECT, 2, UINT32_MAX};
+#define DIGESTERS (sizeof digesters / sizeof digesters[0])
+
+/* Which of them answer so: all, WX_CONNECT alone, or all but that. */
+enum whose { ALL, CONNECT, VERBOSE };
+
+static int answers_so(enum whose whose, uint32_t digester)
+{
+    return whose == ALL || (whose == CONNECT) == (digester == WX_CONNECT);
+}
+
 static const struct example {
+    enum whose whose;
     const char *table;
     size_t table_len;
     const char *input;
@@ -58,11 +71,17 @@ static const struct example {
     const char *payload;
     uint64_t consumed, digits_place;
     const char *digits;
+    uint64_t text_place;
+    const char *text;
 } examples[] = {
 #define EXAMPLE(table, input, kind, number, payload, consumed) \
-    {table, sizeof table - 1, input, sizeof input - 1, kind, number, payload, consumed, 0, ""}
+    {ALL, table, sizeof table - 1, input, sizeof input - 1, kind, number, payload, consumed, 0, "", 0, ""}
 #define NUMERIC(input, kind, number, consumed, digits_place, digits) \
-    {"", 0, input, sizeof input - 1, kind, number, "", consumed, digits_place, digits}
+    {ALL, "", 0, input, sizeof input - 1, kind, number, "", consumed, digits_place, digits, 0, ""}
+#define TEXT(input, payload, consumed, text_place, text) \
+    {CONNECT, "", 0, input, sizeof input - 1, WX_OK, 0, payload, consumed, 0, "", text_place, text}
+#define WITHOUT(input, kind, payload, consumed) \
+    {VERBOSE, "", 0, input, sizeof input - 1, kind, 0, payload, consumed, 0, "", 0, ""}
     EXAMPLE("", "", WX_NONE, 0, "", 0),
     EXAMPLE("", "   ", WX_NONE, 0, "", 3),
     EXAMPLE("", "\r\nOK\r\n", WX_OK, 0, "", 6),
@@ -82,6 +101,30 @@ static const struct example {
     EXAMPLE(TABLE, "\r\nRING\r\n\r\n+UUSORD: 0,4\r\n", WX_NOTICE, 0, "+UUSORD: 0,4", 24),
     EXAMPLE(TABLE, "\r\n+UUSO", WX_NONE, 0, "", 0),
     EXAMPLE(TABLE, "\r\n+UUSORD: >", WX_PROMPT, '>', "", 12),
+    /* a longer CONNECT line, heard and not heard */
+    TEXT("\r\nCONNECT 9600\r\n", "", 16, 10, "9600"),
+    WITHOUT("\r\nCONNECT 9600\r\n", WX_NONE, "", 0),
+    TEXT("ATD1\r\r\nCONNECT 9600\r\n", "", 21, 15, "9600"),
+    WITHOUT("ATD1\r\r\nCONNECT 9600\r\n", WX_NONE, "", 5),
+    TEXT("\r\nCONNECT  9600 \r\n", "", 18, 10, " 9600 "),
+    TEXT("\r\nCONNECT a\rb\nc\r\r\n", "", 18, 10, "a\rb\nc\r"),
+    TEXT("\r\nCONNECT \r\n", "", 12, 0, ""),
+    WITHOUT("\r\nCONNECT \r\n", WX_NONE, "", 0),
+    /* the first of either */
+    TEXT("\r\nCONNECT 1\r\nCONNECT\r\n", "", 13, 10, "1"),
+    WITHOUT("\r\nCONNECT 1\r\nCONNECT\r\n", WX_OK, "CONNECT 1", 22),
+    TEXT("\r\nCONNECT 9600\r\n\r\nCONNECT\r\n", "", 16, 10, "9600"),
+    EXAMPLE("", "\r\nCONNECT\r\n\r\nCONNECT 9600\r\n", WX_OK, 0, "", 11),
+    /* before an error, and behind OK and a custom success */
+    TEXT("\r\nERROR\r\n\r\nCONNECT 1\r\n", "ERROR", 22, 19, "1"),
+    WITHOUT("\r\nERROR\r\n\r\nCONNECT 1\r\n", WX_ERROR, "", 9),
+    EXAMPLE("", "\r\nCONNECT 9600\r\n\r\nOK\r\n", WX_OK, 0, "CONNECT 9600", 22),
+    EXAMPLE("CS\5READY", "\r\nCONNECT 1\r\n\r\nREADY\r\n", WX_OK, 0, "CONNECT 1", 22),
+    /* no CONNECT line, or none that is finished */
+    EXAMPLE("", "\r\nCONNECT\t9600\r\n", WX_NONE, 0, "", 0),
+    EXAMPLE("", "\r\nCONNECT9600\r\n", WX_NONE, 0, "", 0),
+    EXAMPLE("", "\r\nCONNECT 9600\r", WX_NONE, 0, "", 0),
+    EXAMPLE("", "\r\nCONNECT >", WX_PROMPT, '>', "", 11),
 };
 
 /* wx_payload gives what a digest has named. */
@@ -98,54 +141,62 @@ static void part_of(const struct example *e, uint64_t place, uint64_t len, const
     same_bytes("payload", input + part[0], expected, part[1]);
 }
 
-static void digest(void)
+static void digest_one(const struct example *e, uint32_t digester)
 {
     uint64_t out[WX_OUT];
-    for (size_t i = 0; i < sizeof examples / sizeof examples[0]; i++) {
-        const struct example *e = &examples[i];
-        reset_to_was(out, WX_OUT);
-        same("digest", wx_digest((const uint8_t *)e->table, e->table_len, (const uint8_t *)e->input, e->input_len, out), WX_DONE);
-        same("digest, kind", out[0], e->kind);
-        same("digest, number", out[1], e->number);
-        same("digest, payload's length", out[3], strlen(e->payload));
-        same("digest, consumed", out[4], e->consumed);
-        same("digest, digits' place", out[5], e->digits_place);
-        same("digest, digits' length", out[6], strlen(e->digits));
-        part_of(e, out[2], out[3], e->payload);
-        part_of(e, out[5], out[6], e->digits);
-    }
+    reset_to_was(out, WX_OUT);
+    same("digest", wx_digest(digester, (const uint8_t *)e->table, e->table_len, (const uint8_t *)e->input, e->input_len, out), WX_DONE);
+    same("digest, kind", out[0], e->kind);
+    same("digest, number", out[1], e->number);
+    same("digest, payload's length", out[3], strlen(e->payload));
+    same("digest, consumed", out[4], e->consumed);
+    same("digest, digits' place", out[5], e->digits_place);
+    same("digest, digits' length", out[6], strlen(e->digits));
+    same("digest, text's place", out[7], e->text_place);
+    same("digest, text's length", out[8], strlen(e->text));
+    part_of(e, out[2], out[3], e->payload);
+    part_of(e, out[5], out[6], e->digits);
+    part_of(e, out[7], out[8], e->text);
 }
 
-static void digest_refusals(void)
+static void digest(void)
+{
+    for (size_t i = 0; i < sizeof examples / sizeof examples[0]; i++)
+        for (size_t d = 0; d < DIGESTERS; d++)
+            if (answers_so(examples[i].whose, digesters[d]))
+                digest_one(&examples[i], digesters[d]);
+}
+
+static void digest_refusals(uint32_t digester)
 {
     static const uint8_t longest[WX_LONGEST + 1];
     static const uint8_t faulty[] = "UR\4RINGUR\1 ", input[] = "\r\nOK\r\n";
     uint64_t out[WX_OUT];
     reset_to_was(out, WX_OUT);
-    same("4,097 bytes", wx_digest(faulty, sizeof faulty - 1, longest, sizeof longest, out), WX_TOO_LONG);
-    OUT("4,097 bytes", WAS, WAS, WAS, WAS, WAS, WAS, WAS);
-    same("a faulty table", wx_digest(faulty, sizeof faulty - 1, input, sizeof input - 1, out), WX_BAD_TABLE);
-    OUT("a faulty table", 1, WAS, WAS, WAS, WAS, WAS, WAS);
-    same("4,096 bytes", wx_digest(faulty, 0, longest, WX_LONGEST, out), WX_DONE);
-    OUT("4,096 bytes", WX_NONE, 0, 0, 0, 0, 0, 0);
+    same("4,097 bytes", wx_digest(digester, faulty, sizeof faulty - 1, longest, sizeof longest, out), WX_TOO_LONG);
+    OUT("4,097 bytes", WAS, WAS, WAS, WAS, WAS, WAS, WAS, WAS, WAS);
+    same("a faulty table", wx_digest(digester, faulty, sizeof faulty - 1, input, sizeof input - 1, out), WX_BAD_TABLE);
+    OUT("a faulty table", 1, WAS, WAS, WAS, WAS, WAS, WAS, WAS, WAS);
+    same("4,096 bytes", wx_digest(digester, faulty, 0, longest, WX_LONGEST, out), WX_DONE);
+    OUT("4,096 bytes", WX_NONE, 0, 0, 0, 0, 0, 0, 0, 0);
     reset_to_was(out, WX_OUT);
     wx_payload(input, 6, 2, 5, out);
-    OUT("a part that doesn't fit", 0, 0, WAS, WAS, WAS, WAS, WAS);
+    OUT("a part that doesn't fit", 0, 0, WAS, WAS, WAS, WAS, WAS, WAS, WAS);
     wx_payload(input, 6, SIZE_MAX, SIZE_MAX, out);
-    OUT("a part past all memory", 0, 0, WAS, WAS, WAS, WAS, WAS);
+    OUT("a part past all memory", 0, 0, WAS, WAS, WAS, WAS, WAS, WAS, WAS);
     wx_payload(input, 6, 2, 4, out);
-    OUT("a part that just fits", 2, 4, WAS, WAS, WAS, WAS, WAS);
+    OUT("a part that just fits", 2, 4, WAS, WAS, WAS, WAS, WAS, WAS, WAS);
 }
 
 /* The deepest retry; the test gives it the stack that the header says. */
-static void deepest(void)
+static void deepest(uint32_t digester)
 {
     static uint8_t crlfs[WX_LONGEST];
     uint64_t out[WX_OUT];
     for (size_t i = 0; i < WX_LONGEST; i++)
         crlfs[i] = i % 2 == 0 ? '\r' : '\n';
-    same("2,048 CRLFs", wx_digest(crlfs, 0, crlfs, WX_LONGEST, out), WX_DONE);
-    OUT("2,048 CRLFs", WX_NONE, 0, 0, 0, 0, 0, 0);
+    same("2,048 CRLFs", wx_digest(digester, crlfs, 0, crlfs, WX_LONGEST, out), WX_DONE);
+    OUT("2,048 CRLFs", WX_NONE, 0, 0, 0, 0, 0, 0, 0, 0);
 }
 
 static void table_check(void)
@@ -154,13 +205,13 @@ static void table_check(void)
     uint64_t out[WX_OUT];
     reset_to_was(out, WX_OUT);
     same("the empty table", wx_table_check(good, 0, out), WX_DONE);
-    OUT("the empty table", 0, WAS, WAS, WAS, WAS, WAS, WAS);
+    OUT("the empty table", 0, WAS, WAS, WAS, WAS, WAS, WAS, WAS, WAS);
     same("a table of two", wx_table_check(good, sizeof good - 1, out), WX_DONE);
-    OUT("a table of two", 2, WAS, WAS, WAS, WAS, WAS, WAS);
+    OUT("a table of two", 2, WAS, WAS, WAS, WAS, WAS, WAS, WAS, WAS);
     same("the header's example", wx_table_check((const uint8_t *)"UR\7+UUSORD" "CS\7SHUT OK" "CP$\5SEND:", 29, out), WX_DONE);
-    OUT("the header's example", 3, WAS, WAS, WAS, WAS, WAS, WAS);
+    OUT("the header's example", 3, WAS, WAS, WAS, WAS, WAS, WAS, WAS, WAS);
     same("an empty text", wx_table_check(faulty, sizeof faulty - 1, out), WX_BAD_TABLE);
-    OUT("an empty text", 1, WAS, WAS, WAS, WAS, WAS, WAS);
+    OUT("an empty text", 1, WAS, WAS, WAS, WAS, WAS, WAS, WAS, WAS);
 }
 
 static void slot(void)
@@ -172,7 +223,7 @@ static void slot(void)
     wx_slot_new(state);
     STATE("a new slot", WAS, 0, WX_OK, 0, 0, 0, WAS, WAS, WAS);
     same("a look at a free slot", wx_slot_lookup(state, mem, sizeof mem, out), WX_DONE);
-    OUT("a look at a free slot", 0, WAS, WAS, WAS, WAS, WAS, WAS);
+    OUT("a look at a free slot", 0, WAS, WAS, WAS, WAS, WAS, WAS, WAS, WAS);
 
     static const uint64_t ok[WX_OUT] = {WX_OK, 0, 2, 3, 9}, cme[WX_OUT] = {WX_CME, 10, 0, 0, 9}, none[WX_OUT] = {WX_NONE};
     same("a signal", wx_slot_signal(state, ok, (const uint8_t *)"xyz", 3, mem, sizeof mem), WX_DONE);
@@ -182,14 +233,14 @@ static void slot(void)
     same("a signal of None", wx_slot_signal(state, none, (const uint8_t *)"", 0, mem, sizeof mem), WX_DONE);
     STATE("a signal that is lost", WAS, 1, WX_OK, 0, 3, 1, WAS, WAS, WAS);
     same("a look", wx_slot_lookup(state, mem, sizeof mem, out), WX_DONE);
-    OUT("a look", 1, WX_OK, 0, 3, WAS, WAS, WAS);
+    OUT("a look", 1, WX_OK, 0, 3, WAS, WAS, WAS, WAS, WAS);
     reset_to_was(out, WX_OUT);
     wx_slot_payload(state, mem, sizeof mem, out);
-    OUT("the stored payload", 0, 3, WAS, WAS, WAS, WAS, WAS);
+    OUT("the stored payload", 0, 3, WAS, WAS, WAS, WAS, WAS, WAS, WAS);
     same("a reset", wx_slot_reset(state, mem, sizeof mem), WX_DONE);
     STATE("a reset", WAS, 0, WX_OK, 0, 3, 1, WAS, WAS, WAS);
     wx_slot_payload(state, mem, sizeof mem, out);
-    OUT("a free slot's payload", 0, 0, WAS, WAS, WAS, WAS, WAS);
+    OUT("a free slot's payload", 0, 0, WAS, WAS, WAS, WAS, WAS, WAS, WAS);
     same("a long Ok", wx_slot_signal(state, ok, (const uint8_t *)"12345", 5, mem, sizeof mem), WX_DONE);
     STATE("a long Ok", WAS, 1, WX_CAPACITY, 0, 0, 1, WAS, WAS, WAS);
     same_bytes("a long Ok, memory", mem, "xyzd", 4);
@@ -197,12 +248,12 @@ static void slot(void)
     state[WX_LEN] = 5;
     reset_to_was(out, WX_OUT);
     same("a length past the memory, look", wx_slot_lookup(state, mem, sizeof mem, out), WX_BAD_STATE);
-    OUT("a length past the memory, look", WAS, WAS, WAS, WAS, WAS, WAS, WAS);
+    OUT("a length past the memory, look", WAS, WAS, WAS, WAS, WAS, WAS, WAS, WAS, WAS);
     same("a length past the memory, reset", wx_slot_reset(state, mem, sizeof mem), WX_BAD_STATE);
     same("a length past the memory, signal", wx_slot_signal(state, ok, (const uint8_t *)"x", 1, mem, sizeof mem), WX_BAD_STATE);
     STATE("a length past the memory", WAS, 1, WX_CAPACITY, 0, 5, 1, WAS, WAS, WAS);
     wx_slot_payload(state, mem, sizeof mem, out);
-    OUT("a length past the memory, payload", 0, 0, WAS, WAS, WAS, WAS, WAS);
+    OUT("a length past the memory, payload", 0, 0, WAS, WAS, WAS, WAS, WAS, WAS, WAS);
 
     /* numbers out of plain form: what a call doesn't change stays as it stood */
     state[WX_SIGNALLED] = 7, state[WX_HELD] = 99, state[WX_NUMBER] = UINT64_MAX, state[WX_LEN] = 3, state[WX_SLOT_LOST] = UINT64_MAX;
@@ -222,7 +273,7 @@ static void slot_digits(void)
         const char *mem;
     } cases[] = {{3, 0, "abcdef"}, {4, 4, "0010ef"}, {6, 4, "0010ef"}};
     /* what stands behind the number isn't used */
-    static const uint64_t cme[WX_OUT] = {WX_CME, 10, WAS, WAS, WAS, WAS, WAS}, cms[WX_OUT] = {WX_CMS, 7};
+    static const uint64_t cme[WX_OUT] = {WX_CME, 10, WAS, WAS, WAS, WAS, WAS, WAS, WAS}, cms[WX_OUT] = {WX_CMS, 7};
     for (size_t i = 0; i < sizeof cases / sizeof cases[0]; i++) {
         const size_t mem_len = cases[i].mem_len;
         uint64_t state[WX_NUMBERS], out[WX_OUT];
@@ -234,10 +285,10 @@ static void slot_digits(void)
         STATE("digits", WAS, 1, WX_CME, 10, cases[i].len, 0, WAS, WAS, WAS);
         same_bytes("digits, memory", mem, cases[i].mem, sizeof mem);
         same("digits, look", wx_slot_lookup(state, mem, mem_len, out), WX_DONE);
-        OUT("digits, look", 1, WX_CME, 10, cases[i].len, WAS, WAS, WAS);
+        OUT("digits, look", 1, WX_CME, 10, cases[i].len, WAS, WAS, WAS, WAS, WAS);
         reset_to_was(out, WX_OUT);
         wx_slot_payload(state, mem, mem_len, out);
-        OUT("digits, payload", 0, cases[i].len, WAS, WAS, WAS, WAS, WAS);
+        OUT("digits, payload", 0, cases[i].len, WAS, WAS, WAS, WAS, WAS, WAS, WAS);
         same("digits that are lost", wx_slot_signal(state, cms, (const uint8_t *)"07", 2, mem, mem_len), WX_DONE);
         STATE("digits that are lost", WAS, 1, WX_CME, 10, cases[i].len, 1, WAS, WAS, WAS);
         same_bytes("digits that are lost, memory", mem, cases[i].mem, sizeof mem);
@@ -281,10 +332,10 @@ static void queue(void)
     same("a long notice", wx_queue_put(state, mem, sizeof mem, 6, longer, sizeof longer), WX_DONE);
     STATE("a long notice", WAS, WAS, WAS, WAS, WAS, WAS, 0, 1, 1);
     same("a take", wx_queue_take(state, mem, sizeof mem, out), WX_DONE);
-    OUT("a take", 1, 5, 4, 4, WAS, WAS, WAS);
+    OUT("a take", 1, 5, 4, 4, WAS, WAS, WAS, WAS, WAS);
     reset_to_was(out, WX_OUT);
     same("an empty queue", wx_queue_take(state, mem, sizeof mem, out), WX_DONE);
-    OUT("an empty queue", 0, WAS, WAS, WAS, WAS, WAS, WAS);
+    OUT("an empty queue", 0, WAS, WAS, WAS, WAS, WAS, WAS, WAS, WAS);
     STATE("an empty queue", WAS, WAS, WAS, WAS, WAS, WAS, 0, 0, 1);
     state[WX_START] = 1;
     same("a start past the ring, take", wx_queue_take(state, mem, sizeof mem, out), WX_BAD_STATE);
@@ -300,7 +351,7 @@ static void ingress(void)
     uint64_t state[WX_NUMBERS], out[WX_OUT];
     uint8_t buf[64] = {0}, slot_mem[32] = {0}, queue_mem[WX_RECORD] = {0};
 #define MEMORIES buf, sizeof buf, slot_mem, sizeof slot_mem, queue_mem, sizeof queue_mem, out
-#define WITH_TABLE table, sizeof table - 1
+#define WITH_TABLE WX_VERBOSE, table, sizeof table - 1
     reset_to_was(state, WX_NUMBERS);
     wx_slot_new(state);
     wx_queue_new(state);
@@ -308,17 +359,17 @@ static void ingress(void)
     STATE("a first state", 0, 0, WX_OK, 0, 0, 0, 0, 0, 0);
     reset_to_was(out, WX_OUT);
     same("a write", wx_ingress_write(state, answer, sizeof answer - 1, WITH_TABLE, MEMORIES), WX_DONE);
-    OUT("a write", sizeof answer - 1, WAS, WAS, WAS, WAS, WAS, WAS);
+    OUT("a write", sizeof answer - 1, WAS, WAS, WAS, WAS, WAS, WAS, WAS, WAS);
     STATE("a write", 0, 1, WX_OK, 0, 11, 0, 0, 0, 0);
     same_bytes("a write, the slot's memory", slot_mem, "+CSQ: 17,99", 11);
 
     same("a full queue", wx_ingress_write(state, notices, sizeof notices - 1, WITH_TABLE, MEMORIES), WX_FULL);
-    OUT("a full queue", sizeof notices - 1, WAS, WAS, WAS, WAS, WAS, WAS);
+    OUT("a full queue", sizeof notices - 1, WAS, WAS, WAS, WAS, WAS, WAS, WAS, WAS);
     STATE("a full queue", 14, 1, WX_OK, 0, 11, 0, 0, 1, 0);
     same_bytes("a full queue, the buffer", buf, "\r\n+UUSORD: 2\r\n", 14);
     same("still full", wx_ingress_advance(state, 0, WITH_TABLE, MEMORIES), WX_FULL);
     same("the first notice", wx_queue_take(state, queue_mem, sizeof queue_mem, out), WX_DONE);
-    OUT("the first notice", 1, 0, 4, 10, WAS, WAS, WAS);
+    OUT("the first notice", 1, 0, 4, 10, WAS, WAS, WAS, WAS, WAS);
     same_bytes("the first notice", queue_mem + 4, "+UUSORD: 1", 10);
     same("going on", wx_ingress_advance(state, 0, WITH_TABLE, MEMORIES), WX_DONE);
     STATE("going on", 0, 1, WX_OK, 0, 11, 0, 0, 1, 0);
@@ -332,9 +383,9 @@ static void ingress(void)
     same("a buffer of 4,097 bytes",
          wx_ingress_write(state, answer, 1, WITH_TABLE, too_long, sizeof too_long, slot_mem, sizeof slot_mem, queue_mem, sizeof queue_mem, out),
          WX_TOO_LONG);
-    OUT("refused", WAS, WAS, WAS, WAS, WAS, WAS, WAS);
-    same("a faulty table", wx_ingress_write(state, answer, 1, faulty, 2, MEMORIES), WX_BAD_TABLE);
-    OUT("a faulty table", 0, WAS, WAS, WAS, WAS, WAS, WAS);
+    OUT("refused", WAS, WAS, WAS, WAS, WAS, WAS, WAS, WAS, WAS);
+    same("a faulty table", wx_ingress_write(state, answer, 1, WX_VERBOSE, faulty, 2, MEMORIES), WX_BAD_TABLE);
+    OUT("a faulty table", 0, WAS, WAS, WAS, WAS, WAS, WAS, WAS, WAS);
     STATE("refused", 4, 1, WX_OK, 0, 11, 0, 0, 1, 0);
     state[WX_END] = 65;
     same("an end past the buffer", wx_ingress_advance(state, 0, WITH_TABLE, MEMORIES), WX_BAD_STATE);
@@ -363,11 +414,52 @@ static void ingress_digits(void)
         wx_queue_new(state);
         wx_ingress_clear(state);
         reset_to_was(out, WX_OUT);
-        same("digits handed on", wx_ingress_write(state, piece, strlen(cases[i].piece), piece, 0, MEMORIES), WX_DONE);
-        OUT("digits handed on", strlen(cases[i].piece), WAS, WAS, WAS, WAS, WAS, WAS);
+        same("digits handed on", wx_ingress_write(state, piece, strlen(cases[i].piece), WX_VERBOSE, piece, 0, MEMORIES), WX_DONE);
+        OUT("digits handed on", strlen(cases[i].piece), WAS, WAS, WAS, WAS, WAS, WAS, WAS, WAS);
         STATE("digits handed on", 0, 1, cases[i].kind, cases[i].number, cases[i].len, 0, 0, 0, 0);
         same_bytes("digits handed on, the slot's memory", slot_mem, cases[i].mem, sizeof slot_mem);
     }
+}
+
+/* A longer CONNECT line frees a waiting client where the digester hears it, by an advance and by a write; its text goes nowhere. */
+static void ingress_connect(void)
+{
+    static const struct {
+        enum whose whose;
+        const char *piece;
+        uint64_t end, signalled, kind, len;
+        const char *mem;
+    } cases[] = {
+        {CONNECT, "\r\nCONNECT 9600\r\n", 0, 1, WX_OK, 0, "abcdef"},
+        {VERBOSE, "\r\nCONNECT 9600\r\n", 16, 0, WX_OK, 0, "abcdef"},
+        {CONNECT, "\r\nERROR\r\n\r\nCONNECT 1\r\n", 0, 1, WX_OK, 5, "ERRORf"},
+        {VERBOSE, "\r\nERROR\r\n\r\nCONNECT 1\r\n", 13, 1, WX_ERROR, 0, "abcdef"},
+    };
+    for (size_t i = 0; i < sizeof cases / sizeof cases[0]; i++)
+        for (size_t n = 0; n < 2 * DIGESTERS; n++) {
+            const uint32_t digester = digesters[n / 2];
+            const uint8_t *piece = (const uint8_t *)cases[i].piece;
+            const size_t len = strlen(cases[i].piece);
+            uint64_t state[WX_NUMBERS], out[WX_OUT];
+            uint8_t buf[64], slot_mem[] = {'a', 'b', 'c', 'd', 'e', 'f'}, queue_mem[WX_RECORD];
+            if (!answers_so(cases[i].whose, digester))
+                continue;
+            wx_slot_new(state);
+            wx_queue_new(state);
+            wx_ingress_clear(state);
+            reset_to_was(out, WX_OUT);
+            if (n % 2 == 0) {
+                same("CONNECT, a write", wx_ingress_write(state, piece, len, digester, piece, 0, MEMORIES), WX_DONE);
+                OUT("CONNECT, a write", len, WAS, WAS, WAS, WAS, WAS, WAS, WAS, WAS);
+            } else {
+                memcpy(buf, piece, len);
+                same("CONNECT, an advance", wx_ingress_advance(state, len, digester, piece, 0, MEMORIES), WX_DONE);
+                OUT("CONNECT, an advance", WAS, WAS, WAS, WAS, WAS, WAS, WAS, WAS, WAS);
+            }
+            STATE("CONNECT", cases[i].end, cases[i].signalled, cases[i].kind, 0, cases[i].len, 0, 0, 0, 0);
+            same_bytes("CONNECT, the buffer", buf, cases[i].piece + len - cases[i].end, cases[i].end);
+            same_bytes("CONNECT, the slot's memory", slot_mem, cases[i].mem, sizeof slot_mem);
+        }
 }
 
 /* What the header says of a cut: the same bytes, whole and cut behind the @. */
@@ -380,7 +472,7 @@ static void cut(void)
     wx_slot_new(state);
     wx_queue_new(state);
     wx_ingress_clear(state);
-#define WRITE(what, piece, n) same(what, wx_ingress_write(state, piece, n, (const uint8_t *)"", 0, MEMORIES), WX_DONE)
+#define WRITE(what, piece, n) same(what, wx_ingress_write(state, piece, n, WX_VERBOSE, (const uint8_t *)"", 0, MEMORIES), WX_DONE)
     WRITE("a whole answer", answer, len);
     STATE("a whole answer", 0, 1, WX_OK, 0, 25, 0, 0, 0, 0);
     same_bytes("a whole answer", slot_mem, "+CGDCONT: 1,\"IP\",\"me@apn\"", 25);
@@ -397,14 +489,17 @@ int main(void)
     same("the version", wx_version(), WX_VERSION);
     table_check();
     digest();
-    digest_refusals();
-    deepest();
+    for (size_t d = 0; d < DIGESTERS; d++) {
+        digest_refusals(digesters[d]);
+        deepest(digesters[d]);
+    }
     slot();
     slot_digits();
     slot_bytes();
     queue();
     ingress();
     ingress_digits();
+    ingress_connect();
     cut();
     if (differences == 0)
         puts("exports: every function of walumbeex.h answered as document 01 says");

@@ -1,10 +1,11 @@
 /* hear: prints what a modem says, as it says it.
  *
- *     [QUIET=MS] hear [NOTICE ..] < DEVICE        such as: hear RING +CREG < /dev/ttyUSB0
+ *     [QUIET=MS] [DIGESTER=NAME] hear [NOTICE ..] < DEVICE        such as: hear RING +CREG < /dev/ttyUSB0
  *
  * The device is read as it is set; `stty -F DEVICE raw 115200` sets it. A NOTICE is a line that is that text, or the text, `:` and more: +CREG hears
  * "+CREG: 1"; +IPD doesn't hear "+IPD,12:abc". A > or @ is a prompt where for MS milliseconds nothing follows it: 200, which is more than lies between two bytes
- * of a line, also where an adapter gathers them. An error's digits are printed as they came.
+ * of a line, also where an adapter gathers them. An error's digits are printed as they came. NAME is verbose, as without a DIGESTER, or connect: then CONNECT
+ * with text behind it, such as "CONNECT 9600", is an ok too. The text isn't printed: an ingress doesn't hand it on.
  * Status 0: the input came to its end; 1: it could not be read, or the output not be written, or a call was refused; 2: wrong usage. */
 #include "walumbeex.h"
 
@@ -15,7 +16,9 @@
 #include <string.h>
 #include <unistd.h>
 
-#define USAGE "usage: [QUIET=MS] hear [NOTICE ..] < DEVICE   (a NOTICE is a text such as RING or +CREG; MS is 1 to 60000)"
+#define USAGE \
+    "usage: [QUIET=MS] [DIGESTER=NAME] hear [NOTICE ..] < DEVICE   " \
+    "(a NOTICE is a text such as RING or +CREG; MS is 1 to 60000; NAME is verbose or connect)"
 
 /* The memory for an answer. */
 #ifndef ANSWER
@@ -26,6 +29,7 @@
 static uint8_t table[65 * 35], buf[WX_LONGEST], slot_mem[ANSWER], queue_mem[4 * WX_RECORD];
 static size_t table_len;
 static int quiet = 200;
+static uint32_t digester = WX_VERBOSE;
 static uint64_t state[WX_NUMBERS], out[WX_OUT];
 
 /* By WX_HELD's numbers. */
@@ -99,15 +103,15 @@ static void answer(void)
 
 static uint32_t advance(void)
 {
-    return wx_ingress_advance(state, 0, table, table_len, buf, sizeof buf, slot_mem, sizeof slot_mem, queue_mem, sizeof queue_mem, out);
+    return wx_ingress_advance(state, 0, digester, table, table_len, buf, sizeof buf, slot_mem, sizeof slot_mem, queue_mem, sizeof queue_mem, out);
 }
 
 /* Hands a piece over, all of it. The bytes taken are never offered again. */
 static void hear(const uint8_t *piece, size_t n)
 {
     while (n > 0) {
-        uint32_t refusal =
-            wx_ingress_write(state, piece, n, table, table_len, buf, sizeof buf, slot_mem, sizeof slot_mem, queue_mem, sizeof queue_mem, out);
+        uint32_t refusal = wx_ingress_write(state, piece, n, digester, table, table_len, buf, sizeof buf, slot_mem, sizeof slot_mem, queue_mem,
+                                            sizeof queue_mem, out);
         size_t taken = refusal == WX_DONE || refusal == WX_FULL ? out[0] : 0;
         piece += taken;
         n -= taken;
@@ -183,6 +187,13 @@ int main(int words, char **word)
             fprintf(stderr, "hear: QUIET is \"%s\"; " USAGE "\n", getenv("QUIET"));
             return 2;
         }
+    }
+    if (getenv("DIGESTER") != NULL && strcmp(getenv("DIGESTER"), "verbose") != 0) {
+        if (strcmp(getenv("DIGESTER"), "connect") != 0) {
+            fprintf(stderr, "hear: DIGESTER is \"%s\"; " USAGE "\n", getenv("DIGESTER"));
+            return 2;
+        }
+        digester = WX_CONNECT;
     }
     for (int i = 1; i < words; i++) {
         size_t n = strlen(word[i]);

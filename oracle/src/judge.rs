@@ -1,12 +1,13 @@
-//! Compares our answers with the crate's, line by line, counts them, and shrinks the cases in which they differ.
+//! Compares our answers with the crate's, line by line, counts them, and shrinks the cases in which they differ. Each case is asked of our program twice, plain and in
+//! R-3's mode; the crate's one answer is held against both, against the mode's only where no digest met a longer CONNECT line.
 
 use crate::generate;
 use crate::lines;
-use crate::notation::{Case, Op};
-use crate::oracle;
+use crate::notation::{Asked, Case, Mode, Op};
 use crate::origin::Origin;
 use crate::script::SLOT_SIZES;
 use crate::table::{self, Mark};
+use crate::{oracle, tokens};
 use std::collections::BTreeMap;
 use std::fs::{self, File};
 use std::io::{self, BufWriter, Write};
@@ -27,27 +28,61 @@ pub struct Ours {
     pub work: PathBuf,
 }
 
+/// The answers to a case.
+struct Said {
+    /// Ours, plain and in R-3's mode.
+    verbose: String,
+    connect: String,
+    /// The crate's, and who decided it.
+    theirs: String,
+    origin: Origin,
+    /// Did a digest of the crate's meet a longer CONNECT line? Then its answer says nothing about the mode.
+    met_longer: bool,
+}
+
+impl Said {
+    /// Ours in a mode, where there is something to compare it with.
+    fn ours(&self, mode: Mode) -> Option<&str> {
+        match mode {
+            Mode::Verbose => Some(&self.verbose),
+            Mode::Connect => (!self.met_longer).then_some(&self.connect),
+        }
+    }
+}
+
 impl Ours {
     /// Our answers to the cases, and the crate's, worked out while our program runs.
-    fn both(&self, cases: &[Case]) -> io::Result<Vec<(String, String, Origin)>> {
+    fn both(&self, cases: &[Case]) -> io::Result<Vec<Said>> {
         let (asked, said) = (self.work.join("cases"), self.work.join("ours"));
         let mut out = BufWriter::new(File::create(&asked)?);
         for case in cases {
-            writeln!(out, "{case}")?;
+            writeln!(out, "{}\n{}", in_mode(Mode::Verbose, case), in_mode(Mode::Connect, case))?;
         }
         out.flush()?;
         let mut child =
             Command::new(&self.command[0]).args(&self.command[1..]).stdin(File::open(&asked)?).stdout(File::create(&said)?).stderr(Stdio::inherit()).spawn()?;
-        let theirs: Vec<(String, Origin)> = cases.iter().map(oracle::answer_case).collect();
+        let theirs: Vec<(String, Origin, bool)> = cases.iter().map(of_the_crate).collect();
         let status = child.wait()?;
         let ours = String::from_utf8_lossy(&fs::read(&said)?).into_owned();
         let ours: Vec<&str> = ours.lines().collect();
-        if !status.success() || ours.len() != cases.len() {
-            let stopped = cases.get(ours.len()).map_or(String::new(), |case| format!("; the case behind the last answer: {case}"));
-            return Err(io::Error::other(format!("our program ended with {status} and {} answers to {} cases{stopped}", ours.len(), cases.len())));
+        if !status.success() || ours.len() != 2 * cases.len() {
+            let mode = if ours.len() % 2 == 0 { Mode::Verbose } else { Mode::Connect };
+            let stopped = cases.get(ours.len() / 2).map_or(String::new(), |case| format!("; the line behind the last answer: {}", in_mode(mode, case)));
+            return Err(io::Error::other(format!("our program ended with {status} and {} answers to {} lines{stopped}", ours.len(), 2 * cases.len())));
         }
-        Ok(ours.iter().zip(theirs).map(|(ours, (theirs, origin))| ((*ours).to_owned(), theirs, origin)).collect())
+        let of =
+            |(ours, (theirs, origin, met_longer)): (&[&str], _)| Said { verbose: ours[0].to_owned(), connect: ours[1].to_owned(), theirs, origin, met_longer };
+        Ok(ours.chunks(2).zip(theirs).map(of).collect())
     }
+}
+
+fn of_the_crate(case: &Case) -> (String, Origin, bool) {
+    let (said, origin) = oracle::answer_case(case);
+    (said, origin, tokens::met_longer())
+}
+
+fn in_mode(mode: Mode, case: &Case) -> Asked {
+    Asked { mode, case: case.clone() }
 }
 
 /// How two lines compare.
@@ -89,7 +124,7 @@ fn judge(case: &Case, ours: &str, theirs: &str) -> Verdict {
         }
     }
     Verdict::Other(match case {
-        Case::Digest { .. } => in_words(&ours, theirs, &["kind", "number", "place", "length", "consumed", "digits", "digits' place", "digits' length"]),
+        Case::Digest { .. } => in_words(&ours, theirs),
         Case::Ingress { ops, .. } => in_calls(&ours, theirs, ops),
     })
 }
@@ -102,18 +137,18 @@ fn has_long_error(case: &Case) -> bool {
     }
 }
 
-/// The first word in which two lines differ, with both words where these are kinds.
-fn in_words(ours: &str, theirs: &str, names: &[&str]) -> String {
-    let (mut us, mut them) = (ours.split(' '), theirs.split(' '));
-    let kind = ours.split(' ').next().unwrap_or("");
-    for name in names {
-        match (us.next(), them.next()) {
-            (a, b) if a == b => {}
-            (a, b) if *name == "kind" => return format!("digest: ours {}, the Rust {}", a.unwrap_or("nothing"), b.unwrap_or("nothing")),
-            _ => return format!("digest: the {name} of {kind}"),
+/// The first word in which two lines differ, with both words where these are kinds. Behind the five that every answer has, a word names the two numbers behind it.
+fn in_words(ours: &str, theirs: &str) -> String {
+    let (us, them): (Vec<&str>, Vec<&str>) = (ours.split(' ').collect(), theirs.split(' ').collect());
+    let differs = (0..us.len().max(them.len())).find(|&at| us.get(at) != them.get(at)).unwrap_or(0);
+    match ["kind", "number", "place", "length", "consumed"].get(differs) {
+        Some(&"kind") => format!("digest: ours {}, the Rust {}", us[0], them[0]),
+        Some(name) => format!("digest: the {name} of {}", us[0]),
+        None => {
+            let word = 5 + (differs - 5) / 3 * 3;
+            format!("digest: the {} of {}", us.get(word).or(them.get(word)).unwrap_or(&"end"), us[0])
         }
     }
-    "digest: the line's length".to_owned()
 }
 
 /// The first call whose answers differ, else the first part of the last state.
@@ -165,6 +200,7 @@ fn in_short(answer: Option<&str>) -> String {
     }
 }
 
+/// The smallest case so far of a kind of difference.
 struct Found {
     count: u64,
     case: Case,
@@ -172,50 +208,96 @@ struct Found {
     theirs: String,
 }
 
+/// The lines that were compared in one mode.
 #[derive(Default)]
-struct Tally {
-    digests: u64,
-    scripts: u64,
+struct Compared {
+    /// Digests, scripts.
+    lines: [u64; 2],
     /// Digest answers by our kind; calls of scripts by what they answered.
     kinds: BTreeMap<String, u64>,
     calls: BTreeMap<String, u64>,
-    /// Lines by who decided them: digests, scripts.
+    /// Lines by who decided them.
     origins: BTreeMap<char, [u64; 2]>,
+}
+
+impl Compared {
+    fn add(&mut self, case: &Case, ours: &str, theirs: &str, origin: Origin) {
+        let which = which(case);
+        self.lines[which] += 1;
+        self.origins.entry(origin.letter()).or_default()[which] += 1;
+        match case {
+            Case::Digest { .. } => *self.kinds.entry(in_short(Some(ours))).or_default() += 1,
+            Case::Ingress { .. } => calls(theirs).for_each(|call| *self.calls.entry(in_short(Some(call))).or_default() += 1),
+        }
+    }
+
+    fn by(&self, letter: char) -> [u64; 2] {
+        self.origins.get(&letter).copied().unwrap_or_default()
+    }
+
+    fn print(&self) {
+        let (ours, harness, panics) = (self.by('o'), self.by('h'), self.by('p'));
+        println!("  digest lines: {} compared, and {} that the harness refuses (no evidence about the Rust)", self.lines[0] - harness[0], harness[0]);
+        println!("    of those compared, a CS, CE or CP function (ours on both sides) matched in {}", ours[0]);
+        println!("    by kind: {}", in_row(&self.kinds));
+        println!("  ingress lines: {} compared, and {} with a call that the harness refuses", self.lines[1] - harness[1], harness[1]);
+        println!("    of those compared, a CS, CE or CP function matched in {}, and the Rust panicked in {}", ours[1], panics[1]);
+        println!("    calls by answer: {}", in_row(&self.calls));
+    }
+}
+
+/// 0 for a digest, 1 for a script.
+fn which(case: &Case) -> usize {
+    usize::from(matches!(case, Case::Ingress { .. }))
+}
+
+/// The calls' answers of a script's line.
+fn calls(said: &str) -> impl Iterator<Item = &str> {
+    said.split(';').filter(|call| !call.starts_with(' '))
+}
+
+#[derive(Default)]
+struct Tally {
+    verbose: Compared,
+    connect: Compared,
+    /// Cases in which the Rust met a longer CONNECT line, so that the mode's answer has nothing to be compared with.
+    longer: [u64; 2],
     named: BTreeMap<&'static str, u64>,
-    others: BTreeMap<String, Found>,
+    /// By mode and by what differs.
+    others: BTreeMap<(Mode, String), Found>,
 }
 
 impl Tally {
     fn add_all(&mut self, cases: &[Case], ours: &Ours) -> io::Result<()> {
-        for (case, (us, them, origin)) in cases.iter().zip(ours.both(cases)?) {
-            self.add(case, &us, &them, origin);
+        for (case, said) in cases.iter().zip(ours.both(cases)?) {
+            self.longer[which(case)] += u64::from(said.met_longer);
+            for mode in [Mode::Verbose, Mode::Connect] {
+                if let Some(ours) = said.ours(mode) {
+                    self.add(mode, case, ours, &said.theirs, said.origin);
+                }
+            }
         }
         Ok(())
     }
 
-    fn add(&mut self, case: &Case, ours: &str, theirs: &str, origin: Origin) {
-        let is_digest = matches!(case, Case::Digest { .. });
-        self.origins.entry(origin.letter()).or_default()[usize::from(!is_digest)] += 1;
-        if let (_, Some(name)) = turned(ours, is_digest) {
+    fn add(&mut self, mode: Mode, case: &Case, ours: &str, theirs: &str, origin: Origin) {
+        match mode {
+            Mode::Verbose => &mut self.verbose,
+            Mode::Connect => &mut self.connect,
+        }
+        .add(case, ours, theirs, origin);
+        if let (_, Some(name)) = turned(ours, matches!(case, Case::Digest { .. })) {
             *self.named.entry(name).or_default() += 1;
         }
-        if is_digest {
-            self.digests += 1;
-            *self.kinds.entry(in_short(Some(ours))).or_default() += 1;
-        } else {
-            self.scripts += 1;
-            for call in theirs.split(';').filter(|c| !c.starts_with(' ')) {
-                *self.calls.entry(in_short(Some(call))).or_default() += 1;
-                if call == "refused 4" {
-                    *self.named.entry("commit-over-room").or_default() += 1;
-                }
-            }
+        if matches!(case, Case::Ingress { .. }) {
+            calls(theirs).filter(|&call| call == "refused 4").for_each(|_| *self.named.entry("commit-over-room").or_default() += 1);
         }
         match judge(case, ours, theirs) {
             Verdict::Same => {}
             Verdict::Named(name) => *self.named.entry(name).or_default() += 1,
             Verdict::Other(what) => {
-                let found = self.others.entry(what).or_insert_with(|| Found { count: 0, case: case.clone(), ours: ours.to_owned(), theirs: theirs.to_owned() });
+                let first = || Found { count: 0, case: case.clone(), ours: ours.to_owned(), theirs: theirs.to_owned() };
+                let found = self.others.entry((mode, what)).or_insert_with(first);
                 found.count += 1;
                 if size(case) < size(&found.case) {
                     (found.case, found.ours, found.theirs) = (case.clone(), ours.to_owned(), theirs.to_owned());
@@ -226,14 +308,13 @@ impl Tally {
 
     /// Prints the counts, and whether every difference is one of `listed`.
     fn close(&self, listed: &[String]) -> bool {
-        let of = |letter| self.origins.get(&letter).copied().unwrap_or_default();
-        let (ours, harness, panics) = (of('o'), of('h'), of('p'));
-        println!("digest lines: {} compared, and {} that the harness refuses (no evidence about the Rust)", self.digests - harness[0], harness[0]);
-        println!("  of those compared, a CS, CE or CP function (ours on both sides) matched in {}", ours[0]);
-        println!("  by kind: {}", in_row(&self.kinds));
-        println!("ingress lines: {} compared, and {} with a call that the harness refuses", self.scripts - harness[1], harness[1]);
-        println!("  of those compared, a CS, CE or CP function matched in {}, and the Rust panicked in {}", ours[1], panics[1]);
-        println!("  calls by answer: {}", in_row(&self.calls));
+        println!("plain:");
+        self.verbose.print();
+        let [digests, scripts] = self.longer;
+        println!(
+            "the same cases in the mode connect, but for {digests} digests and {scripts} scripts that met a longer CONNECT line, which the Rust doesn't know:"
+        );
+        self.connect.print();
         let mut is_good = true;
         for (name, count) in &self.named {
             let is_listed = listed.iter().any(|l| l == name);
@@ -275,9 +356,9 @@ pub fn run(n: u64, seed: u64, listed: &[String], ours: &Ours) -> io::Result<bool
         tally.add_all(&cases, ours)?;
     }
     let is_good = tally.close(listed);
-    for (what, found) in tally.others.iter().take(MOST_SHOWN) {
-        let (case, us, them) = shrink(what, found, ours)?;
-        println!("difference, {} times: {what}\n  case:     {case}\n  ours:     {us}\n  the Rust: {them}", found.count);
+    for ((mode, what), found) in tally.others.iter().take(MOST_SHOWN) {
+        let (asked, us, them) = shrink(*mode, what, found, ours)?;
+        println!("difference, {} times: {what}\n  case:     {asked}\n  ours:     {us}\n  the Rust: {them}", found.count);
     }
     if tally.others.len() > MOST_SHOWN {
         println!("and {} further kinds of difference", tally.others.len() - MOST_SHOWN);
@@ -285,20 +366,21 @@ pub fn run(n: u64, seed: u64, listed: &[String], ours: &Ours) -> io::Result<bool
     Ok(is_good)
 }
 
-/// The smallest case that still differs in the same way, reached by leaving parts out.
-fn shrink(what: &str, found: &Found, ours: &Ours) -> io::Result<(Case, String, String)> {
+/// The smallest case that still differs in the same way and mode, reached by leaving parts out.
+fn shrink(mode: Mode, what: &str, found: &Found, ours: &Ours) -> io::Result<(Asked, String, String)> {
     let mut best = (found.case.clone(), found.ours.clone(), found.theirs.clone());
     for _ in 0..MOST_ROUNDS {
         let mut tried = smaller(&best.0);
         tried.truncate(MOST_TRIED);
         let said = ours.both(&tried)?;
-        let still = tried.into_iter().zip(said).filter(|(case, (us, them, _))| matches!(judge(case, us, them), Verdict::Other(w) if w == what));
-        match still.min_by_key(|(case, _)| size(case)) {
-            Some((case, (us, them, _))) if size(&case) < size(&best.0) => best = (case, us, them),
+        let compared = tried.into_iter().zip(said).filter_map(|(case, said)| Some((case, said.ours(mode)?.to_owned(), said.theirs)));
+        let still = compared.filter(|(case, us, them)| matches!(judge(case, us, them), Verdict::Other(w) if w == what));
+        match still.min_by_key(|(case, ..)| size(case)) {
+            Some(less) if size(&less.0) < size(&best.0) => best = less,
             _ => break,
         }
     }
-    Ok(best)
+    Ok((in_mode(mode, &best.0), best.1, best.2))
 }
 
 /// Lists with a run left out: halves first, single ones last.

@@ -3,6 +3,7 @@
 pub mod generate;
 pub mod judge;
 pub mod lines;
+pub mod longer;
 pub mod notation;
 pub mod oracle;
 pub mod origin;

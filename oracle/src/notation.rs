@@ -1,9 +1,24 @@
-//! What `generate` writes of the notation that the program `compare` reads: two fields are a digest case, five an ingress case; bytes are plain hex.
+//! What `generate` writes of the notation that the program `compare` reads: two fields are a digest case, five an ingress case, and a mode's word may stand
+//! before them; bytes are plain hex.
 
 use std::fmt;
 
 /// The longest line, without its end.
 pub const LONGEST_LINE: usize = 65_535;
+
+/// Which CONNECT lines the digester is to hear: the bare one of document 01 alone, or those with text too (R-3). The crate has the first only.
+#[derive(Clone, Copy, Debug, PartialEq, Eq, PartialOrd, Ord)]
+pub enum Mode {
+    Verbose,
+    Connect,
+}
+
+/// What a line asks for: a case, in a mode.
+#[derive(Clone, Debug, PartialEq, Eq)]
+pub struct Asked {
+    pub mode: Mode,
+    pub case: Case,
+}
 
 #[derive(Clone, Debug, PartialEq, Eq)]
 pub enum Case {
@@ -31,13 +46,20 @@ pub fn is_idle(line: &[u8]) -> bool {
     line.starts_with(b"#") || line.iter().all(|b| b" \t\r".contains(b))
 }
 
-/// The case that a line tells, or nothing for a line that doesn't read.
-pub fn read(line: &[u8]) -> Option<Case> {
+/// What a line asks for, or nothing for a line that doesn't read.
+pub fn read(line: &[u8]) -> Option<Asked> {
     if line.len() > LONGEST_LINE {
         return None;
     }
     let fields: Vec<&[u8]> = line.split(|&b| b == b' ').collect();
-    match fields[..] {
+    match &fields[..] {
+        [b"connect", fields @ ..] => Some(Asked { mode: Mode::Connect, case: read_case(fields)? }),
+        [b"verbose", fields @ ..] | fields => Some(Asked { mode: Mode::Verbose, case: read_case(fields)? }),
+    }
+}
+
+fn read_case(fields: &[&[u8]]) -> Option<Case> {
+    match *fields {
         [table, input] => Some(Case::Digest { table: bytes(table)?, input: bytes(input)? }),
         [table, buffer, slot, queue, ops] => {
             Some(Case::Ingress { table: bytes(table)?, buffer: bytes(buffer)?, slot: bytes(slot)?, queue: bytes(queue)?, ops: read_ops(ops)? })
@@ -144,6 +166,15 @@ impl fmt::Display for Op {
             Op::Cme(n, None) => write!(f, "E{n}"),
             Op::Cme(n, Some(digits)) => write!(f, "E{n},{}", Hex(digits)),
             Op::Busy => f.write_str("B"),
+        }
+    }
+}
+
+impl fmt::Display for Asked {
+    fn fmt(&self, f: &mut fmt::Formatter<'_>) -> fmt::Result {
+        match self.mode {
+            Mode::Verbose => write!(f, "{}", self.case),
+            Mode::Connect => write!(f, "connect {}", self.case),
         }
     }
 }

@@ -1,6 +1,6 @@
 //! Case in, answer line out.
 
-use crate::notation::{self, Case};
+use crate::notation::{self, Asked, Case, Mode};
 use crate::origin::{self, Origin, LONGEST};
 use crate::{lines, script, table, tokens};
 use atat::Digester;
@@ -9,11 +9,23 @@ use atat::Digester;
 pub fn answer(line: &[u8]) -> (String, Origin) {
     match notation::read(line) {
         None => ("bad line".to_owned(), Origin::Harness),
-        Some(case) => answer_case(&case),
+        Some(asked) => answer_asked(&asked),
     }
 }
 
+/// The crate's answer is the mode's too as long as no digest meets a longer CONNECT line, up to which the crate and the mode have the same bytes before them.
+/// From there on there is nothing to compare.
+fn answer_asked(asked: &Asked) -> (String, Origin) {
+    let said = answer_case(&asked.case);
+    if asked.mode == Mode::Connect && tokens::met_longer() {
+        return ("unsupported".to_owned(), Origin::Harness);
+    }
+    said
+}
+
+/// The crate's answer, in the one mode that it has.
 pub fn answer_case(case: &Case) -> (String, Origin) {
+    tokens::begin();
     match case {
         Case::Digest { table, input } => digest(table, input),
         Case::Ingress { table, buffer, slot, queue, ops } => script::run(table, buffer, slot, queue, ops),

@@ -14,7 +14,7 @@ pub enum Origin {
     Crate,
     /// The crate, but that a CS, CE or CP function, ours on both sides, was what matched somewhere.
     Ours,
-    /// The harness: refusals 1 and 2, a line that doesn't read, a slot memory of a size that isn't supported.
+    /// The harness: refusals 1 and 2, a line that doesn't read, a slot memory of a size that isn't supported, R-3's mode at a longer CONNECT line.
     Harness,
     /// The crate panicked where ours answers.
     Panic,

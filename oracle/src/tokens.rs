@@ -4,8 +4,8 @@
 //! Notices go through the crate's own `try_urc` and `urc_helper`, in table order. Custom successes, errors and prompts are
 //! functions that a user of the crate writes: those here are ours, written by document 01, and no evidence about the crate.
 
-use crate::lines;
 use crate::table::{Mark, Record};
+use crate::{lines, longer};
 use atat::digest::parser::{try_urc, urc_helper};
 use atat::digest::ParseError;
 use atat::{AtDigester, AtatUrc, DigestResult, Digester, Parser};
@@ -17,12 +17,23 @@ thread_local! {
     static MATCHED: Cell<usize> = const { Cell::new(0) };
     static ASKED_US: Cell<bool> = const { Cell::new(false) };
     static IS_QUIET: Cell<bool> = const { Cell::new(false) };
+    static MET_LONGER: Cell<bool> = const { Cell::new(false) };
     static FIRST_DIGITS: RefCell<Option<Vec<u8>>> = const { RefCell::new(None) };
 }
 
 /// The digits of the first answer for the slot since the last call of this: those that a free slot is to store.
 pub fn first_digits() -> Vec<u8> {
     FIRST_DIGITS.take().unwrap_or_default()
+}
+
+/// Before a case of which nothing has been digested yet.
+pub fn begin() {
+    MET_LONGER.set(false);
+}
+
+/// Did a digest since `begin` have a longer CONNECT line before it?
+pub fn met_longer() -> bool {
+    MET_LONGER.get()
 }
 
 /// Lays the table of the next case open.
@@ -138,6 +149,9 @@ impl Digester for Tokens {
     fn digest<'a>(&mut self, buf: &'a [u8]) -> (DigestResult<'a>, usize) {
         if IS_QUIET.get() {
             return (DigestResult::None, 0);
+        }
+        if longer::stands_in(buf) {
+            MET_LONGER.set(true);
         }
         let (answer, consumed) = self.0.digest(buf);
         if !matches!(answer, DigestResult::None | DigestResult::Urc(_)) {

@@ -1,12 +1,13 @@
 //! Prints what a modem says, as it says it.
 //!
-//!     [QUIET=MS] listen DEVICE [NOTICE ..]     such as: listen /dev/ttyUSB0 RING +CREG
-//!     [QUIET=MS] listen - [NOTICE ..]          the same from standard input
+//!     [QUIET=MS] [DIGESTER=NAME] listen DEVICE [NOTICE ..]     such as: listen /dev/ttyUSB0 RING +CREG
+//!     [QUIET=MS] [DIGESTER=NAME] listen - [NOTICE ..]          the same from standard input
 //!
 //! The device is read as it is set; `stty -F DEVICE raw 115200` sets it. A NOTICE is a line that is that text, or the text, `:` and
 //! more: +CREG hears `+CREG: 1`; +IPD doesn't hear `+IPD,12:abc`. A `>` or `@` is a prompt where for MS milliseconds nothing
 //! follows it: 200, which is more than lies between two bytes of a line, also where an adapter gathers them. An error's digits are
-//! printed as they came.
+//! printed as they came. NAME is verbose, as without a DIGESTER, or connect: then CONNECT with text behind it, such as
+//! `CONNECT 9600`, is an ok too. The text isn't printed: an ingress doesn't hand it on.
 //!
 //! Status 0: the input came to its end; 1: it could not be read, or the output not be written, or a call was refused; 2: wrong
 //! usage.
@@ -16,10 +17,11 @@ use std::io::{ErrorKind, Read, Write};
 use std::sync::mpsc::{self, Receiver};
 use std::time::Duration;
 use std::{env, fs, io, process, thread};
-use walumbeex::{Digester, Ingress, Refusal, Response, Table, TableBuilder};
+use walumbeex::{Digester, Ingress, Refusal, Response, TableBuilder};
 
-const USAGE: &str = "usage: [QUIET=MS] listen DEVICE [NOTICE ..]   \
-                     (DEVICE - is standard input; a NOTICE is a text such as RING or +CREG; MS is 1 to 60000)";
+const USAGE: &str = "usage: [QUIET=MS] [DIGESTER=NAME] listen DEVICE [NOTICE ..]   \
+                     (DEVICE - is standard input; a NOTICE is a text such as RING or +CREG; MS is 1 to 60000; \
+                     NAME is verbose or connect)";
 
 /// Prints the notices that wait, oldest first.
 fn notices(ingress: &mut Ingress<'_>) -> Result<(), Box<dyn Error>> {
@@ -147,9 +149,9 @@ fn piece_of(bytes: &[u8]) -> usize {
     (1..bytes.len()).find(|&k| bytes[k - 1] == b'\n' && !ends_as_a_prompt(&bytes[..k])).unwrap_or(bytes.len())
 }
 
-fn listen(source: Box<dyn Read + Send>, table: Table<'_>, quiet: Duration) -> Result<(), Box<dyn Error>> {
+fn listen(source: Box<dyn Read + Send>, digester: Digester<'_>, quiet: Duration) -> Result<(), Box<dyn Error>> {
     let (mut buf, mut slot_mem, mut queue_mem) = ([0; 4096], [0; 4096], [0; 4 * 132]);
-    let mut ingress = Ingress::new(Digester::new(table), &mut buf, &mut slot_mem, &mut queue_mem)?;
+    let mut ingress = Ingress::new(digester, &mut buf, &mut slot_mem, &mut queue_mem)?;
 
     let reads = reads(source);
     let mut failed = None;
@@ -198,6 +200,11 @@ fn main() {
         Ok(ms @ 1..=60000) => Duration::from_millis(ms),
         _ => stop(&format!("QUIET is no number of 1 to 60000; {USAGE}"), 2),
     };
+    let digester: fn(_) -> _ = match env::var("DIGESTER").as_deref().unwrap_or("verbose") {
+        "verbose" => Digester::new,
+        "connect" => Digester::connect,
+        other => stop(&format!("DIGESTER is \"{other}\"; {USAGE}"), 2),
+    };
     // Room for one text more than a table may have, so that one too many is seen to be.
     let mut memory = [0; 65 * 35];
     let mut builder = TableBuilder::new(&mut memory);
@@ -210,7 +217,7 @@ fn main() {
         "-" => Box::new(io::stdin()),
         _ => Box::new(fs::File::open(&device).unwrap_or_else(|e| stop(&format!("{device}: {e}; {USAGE}"), 1))),
     };
-    if let Err(e) = listen(source, builder.finish(), quiet) {
+    if let Err(e) = listen(source, digester(builder.finish()), quiet) {
         stop(&e.to_string(), 1)
     }
 }

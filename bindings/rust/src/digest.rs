@@ -187,7 +187,15 @@ pub(crate) fn part(memory: &[u8], place: u64, len: u64) -> &[u8] {
     place.checked_add(len as usize).and_then(|end| memory.get(place..end)).unwrap_or(&memory[..0])
 }
 
-/// The digester, in the place of atat's `AtDigester`.
+/// Which digester, by the number that the archive has for it.
+#[derive(Debug, Clone, Copy, PartialEq, Eq)]
+enum Which {
+    Verbose = 0,
+    Connect = 1,
+}
+
+/// The digester, in the place of atat's `AtDigester`: [`new`](Digester::new) hears what atat hears,
+/// [`connect`](Digester::connect) text behind `CONNECT` too.
 ///
 /// ```
 /// use walumbeex::{Digester, DigestResult, TableBuilder, Urc};
@@ -205,6 +213,7 @@ pub(crate) fn part(memory: &[u8], place: u64, len: u64) -> &[u8] {
 /// ```
 #[derive(Debug, Clone, Copy, PartialEq, Eq)]
 pub struct Digester<'t> {
+    which: Which,
     table: &'t [u8],
 }
 
@@ -212,14 +221,36 @@ impl<'t> Digester<'t> {
     /// A digester that knows the records of a table.
     #[must_use]
     pub const fn new(table: Table<'t>) -> Self {
-        Self { table: table.as_bytes() }
+        Self::unchecked(table.as_bytes())
     }
 
-    /// A digester over bytes that haven't been checked: each call that uses it checks them, and refuses with 2 where they
-    /// are no good table.
+    /// As [`new`](Digester::new), and it hears a `CONNECT` line with text behind it too, as V.250 lets a modem send it; atat hears
+    /// the bare line alone.
+    ///
+    /// The longer line is CRLF, `CONNECT`, one space and everything through the next CRLF. It is an Ok, as the bare one is, and
+    /// the first of either counts. [`digest_with_text`](Digester::digest_with_text) has its text; through an
+    /// [`Ingress`](crate::Ingress) it frees a client that waits, and the text is gone.
+    ///
+    /// ```
+    /// use walumbeex::{Digester, DigestResult, Table};
+    /// let line = b"\r\nCONNECT 9600\r\n";
+    /// assert_eq!(Digester::connect(Table::empty()).digest(line), Ok((DigestResult::Response(Ok(b"")), 16)));
+    /// assert_eq!(Digester::new(Table::empty()).digest(line), Ok((DigestResult::None, 0)));
+    /// ```
+    #[must_use]
+    pub const fn connect(table: Table<'t>) -> Self {
+        Self { which: Which::Connect, table: table.as_bytes() }
+    }
+
+    /// As [`new`](Digester::new), over bytes that haven't been checked: each call that uses it checks them, and refuses with 2
+    /// where they are no good table.
     #[must_use]
     pub const fn unchecked(table: &'t [u8]) -> Self {
-        Self { table }
+        Self { which: Which::Verbose, table }
+    }
+
+    pub(crate) const fn number(&self) -> u32 {
+        self.which as u32
     }
 
     pub(crate) const fn table(&self) -> &'t [u8] {
@@ -242,9 +273,34 @@ impl<'t> Digester<'t> {
     /// assert_eq!(digester.digest(&[0; 4097]).unwrap_err().number(), 1);
     /// ```
     pub fn digest<'a>(&self, input: &'a [u8]) -> Result<(DigestResult<'a>, usize), Refusal> {
-        let [kind, number, place, len, consumed, digits_place, digits_len] = ffi::digest(self.table, input)?;
+        let (heard, _, consumed) = self.digest_with_text(input)?;
+        Ok((heard, consumed))
+    }
+
+    /// Digests an input once, as [`digest`](Digester::digest) does: what it was, the text behind `CONNECT`, and how many of the
+    /// input's bytes are consumed.
+    ///
+    /// The text is what stands between the space behind `CONNECT` and the line's CRLF, as it came: it isn't trimmed, and a lone
+    /// CR or LF may be in it. It is empty where there is none: for a bare line, for every other answer, and always for a digester
+    /// that isn't made by [`connect`](Digester::connect). A custom success and `OK` rank before `CONNECT`: where one of them is
+    /// there, a longer line before it is in its payload.
+    ///
+    /// ```
+    /// use walumbeex::{Digester, DigestResult, Table};
+    /// let ok = |payload| DigestResult::Response(Ok(payload));
+    /// let digester = Digester::connect(Table::empty());
+    ///
+    /// let heard = digester.digest_with_text(b"ATD1\r\r\nCONNECT 9600\r\n").unwrap();
+    /// assert_eq!(heard, (ok(b""), &b"9600"[..], 21));
+    ///
+    /// let heard = digester.digest_with_text(b"\r\nCONNECT 9600\r\n\r\nOK\r\n").unwrap();
+    /// assert_eq!(heard, (ok(b"CONNECT 9600"), &b""[..], 22));
+    /// ```
+    pub fn digest_with_text<'a>(&self, input: &'a [u8]) -> Result<(DigestResult<'a>, &'a [u8], usize), Refusal> {
+        let [kind, number, place, len, consumed, digits_place, digits_len, text_place, text_len] =
+            ffi::digest(self.number(), self.table, input)?;
         let (payload, digits) = (part(input, place, len), part(input, digits_place, digits_len));
-        Ok((answer(kind, number, payload, digits), consumed as usize))
+        Ok((answer(kind, number, payload, digits), part(input, text_place, text_len), consumed as usize))
     }
 }
 

@@ -11,7 +11,7 @@
 use crate::Refusal;
 
 /// The version of the calls and arrays below: `WX_VERSION` of `include/walumbeex.h`.
-const VERSION: u32 = 2;
+const VERSION: u32 = 3;
 
 /// The places of a state's nine numbers.
 pub(crate) const END: usize = 0;
@@ -24,13 +24,13 @@ pub(crate) const QUEUE_LOST: usize = 8;
 /// A state's nine numbers.
 pub(crate) type State = [u64; 9];
 
-/// The seven numbers that a call may answer.
-const OUT: usize = 7;
+/// The nine numbers that a call may answer.
+const OUT: usize = 9;
 pub(crate) type Out = [u64; OUT];
 
 extern "C" {
     fn wx_table_check(table: *const u8, table_len: usize, out: *mut u64) -> u32;
-    fn wx_digest(table: *const u8, table_len: usize, input: *const u8, input_len: usize, out: *mut u64) -> u32;
+    fn wx_digest(digester: u32, table: *const u8, table_len: usize, input: *const u8, input_len: usize, out: *mut u64) -> u32;
     fn wx_slot_new(state: *mut u64);
     fn wx_slot_signal(
         state: *mut u64,
@@ -49,6 +49,7 @@ extern "C" {
     fn wx_ingress_advance(
         state: *mut u64,
         commit: usize,
+        digester: u32,
         table: *const u8,
         table_len: usize,
         buf: *mut u8,
@@ -63,6 +64,7 @@ extern "C" {
         state: *mut u64,
         piece: *const u8,
         piece_len: usize,
+        digester: u32,
         table: *const u8,
         table_len: usize,
         buf: *mut u8,
@@ -113,12 +115,12 @@ pub(crate) fn table_check(table: &[u8]) -> Result<usize, Refusal> {
     Ok(out[0] as usize)
 }
 
-/// Kind, number, payload's place and length, bytes consumed, digits' place and length.
-pub(crate) fn digest(table: &[u8], input: &[u8]) -> Result<Out, Refusal> {
+/// Kind, number, payload's place and length, bytes consumed, digits' place and length, text's place and length.
+pub(crate) fn digest(digester: u32, table: &[u8], input: &[u8]) -> Result<Out, Refusal> {
     same_version();
     let mut out: Out = [0; OUT];
     // SAFETY: see the head of this file.
-    let number = unsafe { wx_digest(table.as_ptr(), table.len(), input.as_ptr(), input.len(), out.as_mut_ptr()) };
+    let number = unsafe { wx_digest(digester, table.as_ptr(), table.len(), input.as_ptr(), input.len(), out.as_mut_ptr()) };
     refused(number, &out, 0)?;
     Ok(out)
 }
@@ -188,6 +190,7 @@ pub(crate) fn queue_take(state: &mut State, mem: &[u8]) -> Result<Out, Refusal> 
 pub(crate) fn ingress_advance(
     state: &mut State,
     commit: usize,
+    digester: u32,
     table: &[u8],
     buf: &mut [u8],
     slot_mem: &mut [u8],
@@ -199,6 +202,7 @@ pub(crate) fn ingress_advance(
         wx_ingress_advance(
             state.as_mut_ptr(),
             commit,
+            digester,
             table.as_ptr(),
             table.len(),
             buf.as_mut_ptr(),
@@ -217,6 +221,7 @@ pub(crate) fn ingress_advance(
 pub(crate) fn ingress_write(
     state: &mut State,
     piece: &[u8],
+    digester: u32,
     table: &[u8],
     buf: &mut [u8],
     slot_mem: &mut [u8],
@@ -229,6 +234,7 @@ pub(crate) fn ingress_write(
             state.as_mut_ptr(),
             piece.as_ptr(),
             piece.len(),
+            digester,
             table.as_ptr(),
             table.len(),
             buf.as_mut_ptr(),

@@ -23,6 +23,22 @@ use crate::{Digester, MemoryError, NoticeQueue, Refusal, ResponseSlot, LONGEST_I
 /// ingress.res_slot.reset().unwrap();
 /// ```
 ///
+/// # Text behind CONNECT
+///
+/// With [`Digester::connect`] a `CONNECT` line with text behind it is an answer too, and frees a client that waits. The text is
+/// for callers of [`Digester::digest_with_text`]: it is a part of what is digested, here of the buffer, and gone when what is left
+/// moves to the front; the slot doesn't hold it.
+///
+/// ```
+/// use walumbeex::{Digester, Ingress, Response, Table};
+///
+/// let (mut buf, mut answer, mut waiting) = ([0; 256], [0; 128], [0; 132]);
+/// let digester = Digester::connect(Table::empty());
+/// let mut ingress = Ingress::new(digester, &mut buf, &mut answer, &mut waiting).unwrap();
+/// ingress.try_write(b"ATD1\r\r\nCONNECT 9600\r\n").unwrap();
+/// assert_eq!(ingress.res_slot.try_get(), Ok(Some(Response::Ok(b""))));
+/// ```
+///
 /// # Where a piece is cut
 ///
 /// A `>` or an `@` that nothing but blanks follows is a prompt, as it is for atat, and so is a custom prompt's text. A modem
@@ -167,7 +183,8 @@ impl<'a> Ingress<'a> {
     /// 5 where a notice meets a full queue.
     pub fn try_advance(&mut self, commit: usize) -> Result<(), Refusal> {
         let mut state = self.state();
-        let done = ffi::ingress_advance(&mut state, commit, self.digester.table(), self.buf, self.res_slot.mem, self.notices.mem);
+        let (number, table) = (self.digester.number(), self.digester.table());
+        let done = ffi::ingress_advance(&mut state, commit, number, table, self.buf, self.res_slot.mem, self.notices.mem);
         self.put_state(state);
         done
     }
@@ -178,7 +195,8 @@ impl<'a> Ingress<'a> {
     /// Refused with 2, 3 and 5 as [`try_advance`](Ingress::try_advance); refusal 5 carries the bytes taken.
     pub fn try_write(&mut self, piece: &[u8]) -> Result<usize, Refusal> {
         let mut state = self.state();
-        let done = ffi::ingress_write(&mut state, piece, self.digester.table(), self.buf, self.res_slot.mem, self.notices.mem);
+        let (number, table) = (self.digester.number(), self.digester.table());
+        let done = ffi::ingress_write(&mut state, piece, number, table, self.buf, self.res_slot.mem, self.notices.mem);
         self.put_state(state);
         done
     }

@@ -8,7 +8,7 @@
 //!
 //! | atat | here |
 //! |---|---|
-//! | `AtDigester`, `with_custom_success`, .. | [`Digester`], [`TableBuilder`] |
+//! | `AtDigester`, `with_custom_success`, .. | [`Digester`], [`TableBuilder`]; [`Digester::connect`] hears text behind `CONNECT` too |
 //! | `DigestResult`, `InternalError` | [`DigestResult`], [`InternalError`], with an error's digits beside its code |
 //! | `Ingress`, `write_buf`, `try_advance`, `try_write`, `clear` | [`Ingress`], with the same calls |
 //! | `ResponseSlot`, `try_get`, `reset`, `Response` | [`ResponseSlot`] at [`Ingress::res_slot`], [`Response`] |

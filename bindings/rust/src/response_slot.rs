@@ -132,7 +132,7 @@ impl<'m> ResponseSlot<'m> {
     pub fn signal(&mut self, result: &DigestResult<'_>) -> Result<(), Refusal> {
         let (kind, number, bytes) = parts(result);
         // A signal uses no other number of an answer: the bytes come along.
-        ffi::slot_signal(&mut self.state, &[kind, number, 0, 0, 0, 0, 0], bytes, self.mem)
+        ffi::slot_signal(&mut self.state, &[kind, number, 0, 0, 0, 0, 0, 0, 0], bytes, self.mem)
     }
 
     /// Is an answer held?

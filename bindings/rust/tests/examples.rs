@@ -10,8 +10,11 @@ fn err(error: InternalError<'_>) -> DigestResult<'_> {
     DigestResult::Response(Err(error))
 }
 
+/// No input here has text behind CONNECT: either digester hears the same, and tells no text.
 fn heard<'a>(table: Table<'_>, input: &'a [u8]) -> (DigestResult<'a>, usize) {
-    Digester::new(table).digest(input).expect("a good table and a short input aren't refused")
+    let (result, consumed) = Digester::new(table).digest(input).expect("a good table and a short input aren't refused");
+    assert_eq!(Digester::connect(table).digest_with_text(input), Ok((result, &b""[..], consumed)), "{}", input.escape_ascii());
+    (result, consumed)
 }
 
 fn error(input: &[u8]) -> InternalError<'_> {

@@ -35,7 +35,11 @@ fn program() -> Command {
 }
 
 fn listen(words: &[&str], input: &[u8]) -> Output {
-    let mut child = program().args(words).stdin(Stdio::piped()).stdout(Stdio::piped()).stderr(Stdio::piped()).spawn().unwrap();
+    output(program().args(words), input)
+}
+
+fn output(program: &mut Command, input: &[u8]) -> Output {
+    let mut child = program.stdin(Stdio::piped()).stdout(Stdio::piped()).stderr(Stdio::piped()).spawn().unwrap();
     // It may have stopped before it read anything.
     let _ = child.stdin.take().unwrap().write_all(input);
     child.wait_with_output().unwrap()
@@ -53,6 +57,25 @@ fn the_digits_of_an_error_as_they_came() {
     let said = listen(&["-"], b"\r\n+CME ERROR: 0010\r\n\r\n+CMS ERROR:\t7\n\r\nMODEM ERROR:007\n");
     assert_eq!(String::from_utf8_lossy(&said.stdout), "cme error   0010\ncms error   7\nmodem error 007\n");
     assert_eq!((said.stderr.len(), said.status.code()), (0, Some(0)));
+}
+
+#[test]
+fn connect_with_text_behind_it_where_the_digester_hears_it() {
+    let line = b"ATD1\r\r\nCONNECT 9600\r\n";
+    for (digester, heard, left) in [
+        (&["connect"][..], "ok          \n", ""),
+        (&["verbose"], "", "listen: unfinished at the end: \\r\\nCONNECT 9600\\r\\n\n"),
+        (&[], "", "listen: unfinished at the end: \\r\\nCONNECT 9600\\r\\n\n"),
+    ] {
+        let said = output(program().arg("-").envs(digester.iter().map(|name| ("DIGESTER", name))), line);
+        assert_eq!(String::from_utf8_lossy(&said.stdout), heard, "{digester:?}");
+        assert_eq!(String::from_utf8_lossy(&said.stderr), left, "{digester:?}");
+        assert_eq!(said.status.code(), Some(0));
+    }
+    let said = output(program().arg("-").env("DIGESTER", "deaf"), line);
+    let errors = String::from_utf8_lossy(&said.stderr);
+    assert!(errors.starts_with("listen: DIGESTER is \"deaf\"; usage: "), "{errors}");
+    assert_eq!((said.status.code(), said.stdout.len()), (Some(2), 0));
 }
 
 #[test]
@@ -112,14 +135,14 @@ fn output_that_cant_be_written() {
 #[test]
 fn how_to_use_it() {
     let said = listen(&["--help"], b"");
-    assert!(said.stdout.starts_with(b"usage: [QUIET=MS] listen DEVICE"), "{said:?}");
+    assert!(said.stdout.starts_with(b"usage: [QUIET=MS] [DIGESTER=NAME] listen DEVICE"), "{said:?}");
     assert_eq!((said.stderr.len(), said.status.code()), (0, Some(0)));
 }
 
 #[test]
 fn wrong_usage() {
     for (words, status, what) in [
-        (&[][..], 2, "listen: no device was named; usage: [QUIET=MS] listen DEVICE"),
+        (&[][..], 2, "listen: no device was named; usage: [QUIET=MS] [DIGESTER=NAME] listen DEVICE"),
         (&["/no/such/device"], 1, "listen: /no/such/device: "),
         (&["-", "RING", " x"], 2, "listen: notice \" x\": byte 0 of the text"),
         (

@@ -28,7 +28,7 @@ impl Random {
 const TABLES: [&[u8]; 4] =
     [b"", b"UR\x07+UUSORD", b"UR\x04RINGUR\x07+UUSORDCS\x05READYCE\x05FAULTCP$\x05SEND:", b"CE\x02+CUR\x02+CUR\x05+CREG"];
 
-const ITEMS: [&[u8]; 32] = [
+const ITEMS: [&[u8]; 35] = [
     b"\r\nOK\r\n",
     b"\r\nERROR\r\n",
     b"\r\n+CSQ: 17,99\r\n",
@@ -44,6 +44,9 @@ const ITEMS: [&[u8]; 32] = [
     b"\r\nNO DIALTONE\r\n",
     b"\r\nNA\r\n",
     b"\r\nCONNECT\r\n",
+    b"\r\nCONNECT 9600\r\n",
+    b"\r\nCONNECT  a\rb\nc \r\n",
+    b"\r\nCONNECT ",
     b"\r\nCOMMAND NOT SUPPORT\r\n",
     b"\r\n> ",
     b"\r\n@",
@@ -74,6 +77,7 @@ struct Hand<'t> {
     slot_lost: u64,
     queue: VecDeque<(u8, Vec<u8>)>,
     queue_lost: u64,
+    texts: u64,
 }
 
 /// What a slot of so many bytes holds of an error's digits: all or none.
@@ -105,11 +109,22 @@ fn reading(result: DigestResult<'_>, slot_size: usize) -> String {
     format!("{response:?}")
 }
 
+/// Is it the text of the longer CONNECT line that these bytes end in? The line's CRLF is the first behind `CONNECT` and its space.
+fn is_text(text: &[u8], consumed: &[u8]) -> bool {
+    let line = [b"\r\nCONNECT ", text, b"\r\n"].concat();
+    let crlf = line[10..].windows(2).position(|two| two == b"\r\n");
+    consumed.ends_with(&line) && crlf == Some(text.len())
+}
+
 impl Hand<'_> {
     fn advance(&mut self, bytes: &[u8]) -> Result<(), Refusal> {
         self.buf.extend_from_slice(bytes);
         loop {
-            let (result, consumed) = self.digester.digest(&self.buf)?;
+            let (result, text, consumed) = self.digester.digest_with_text(&self.buf)?;
+            if !text.is_empty() {
+                self.texts += 1;
+                assert!(is_text(text, &self.buf[..consumed]) && matches!(result, DigestResult::Response(Ok(_))), "{result:?}");
+            }
             match result {
                 DigestResult::None => {}
                 DigestResult::Urc(urc) => {
@@ -151,6 +166,7 @@ struct Met {
     digits: u64,
     digits_left_out: u64,
     answers_lost: u64,
+    texts: u64,
     notices: u64,
     notices_lost: u64,
     full: u64,
@@ -175,7 +191,8 @@ impl Met {
 
 fn run(seed: u64, met: &mut Met) {
     let mut r = Random(seed);
-    let digester = Digester::new(Table::new(r.one_of(&TABLES)).unwrap());
+    let table = Table::new(r.one_of(&TABLES)).unwrap();
+    let digester = if r.below(2) == 0 { Digester::new(table) } else { Digester::connect(table) };
     let (size, slot_size, queue_size) = (1 + r.below(300), r.below(40), 1 + r.below(3));
     let mut memory = (vec![0; size], vec![0; slot_size], vec![0; queue_size * NOTICE_RECORD + r.below(NOTICE_RECORD)]);
     let mut ingress = Ingress::new(digester, &mut memory.0, &mut memory.1, &mut memory.2).unwrap();
@@ -189,6 +206,7 @@ fn run(seed: u64, met: &mut Met) {
         slot_lost: 0,
         queue: VecDeque::new(),
         queue_lost: 0,
+        texts: 0,
     };
 
     let mut bytes = Vec::new();
@@ -264,6 +282,8 @@ fn run(seed: u64, met: &mut Met) {
         assert_eq!(ingress.notices.len(), hand.queue.len(), "seed {seed}");
         assert_eq!(ingress.notices.lost(), hand.queue_lost, "seed {seed}");
     }
+    assert!(hand.texts == 0 || digester == Digester::connect(table), "seed {seed}");
+    met.texts += hand.texts;
     met.answers_lost += hand.slot_lost;
     met.notices_lost += hand.queue_lost;
 }
@@ -277,7 +297,7 @@ fn pieces_through_the_ingress_are_what_digesting_by_hand_makes_of_them() {
         run(fresh.wrapping_add(n), &mut met);
     }
     println!("fresh seeds from {fresh}: {met:?}");
-    let answers = [met.answers, met.digits, met.digits_left_out, met.answers_lost];
+    let answers = [met.answers, met.digits, met.digits_left_out, met.answers_lost, met.texts];
     let all = [&answers[..], &[met.notices, met.notices_lost, met.full, met.no_room, met.cleared]].concat();
     assert!(all.iter().all(|&n| n > 100), "too few of something: {met:?}");
 }

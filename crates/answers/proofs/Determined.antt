@@ -33,6 +33,9 @@ with-digits-one κs a x y s t = determined
 pub with-payload-one : One calls.with_payload.Reads.Post
 with-payload-one κs a x y s t = determined
 
+pub with-text-one : One calls.with_text.Reads.Post
+with-text-one κs a x y s t = determined
+
 pub carried-one : One calls.carried.Reads.Post
 carried-one κs a x y s t = determined
 

@@ -95,21 +95,33 @@ isNumeric NoDialtone = false
 isNumeric Custom = false
 isNumeric Notice = false
 
--- A payload of length 0, or none, has place 0; so have digits (R-2).
+-- A payload of length 0, or none, has place 0; so have digits (R-2) and a text (R-3).
 abbrev pub placed : ℕ → ℕ → ℕ
 placed zero p = 0
 placed (suc n) p = p
 
--- How answers are made: a kind, with the number n where the kind has one, the payload p, and, where it is a numeric error, the digits q as they came (R-2).
-abbrev pub made : Kind → ℕ → Span → Span → ℕ → Answer
-made k n p q c = record { kind = k; number = stored (numbered k n); place = placed (p .len) (p .start); len = p .len; «digits_place» = placed (q .len) (q .start); «digits_len» = q .len; consumed = c }
+-- How answers are made: a kind, with the number n where the kind has one, the payload p, where it is a numeric error the digits q as they came (R-2),
+-- and of a CONNECT line the text t (R-3).
+abbrev pub made : Kind → ℕ → Span → Span → Span → ℕ → Answer
+made k n p q t c =
+    record {
+      kind = k;
+      number = stored (numbered k n);
+      place = placed (p .len) (p .start);
+      len = p .len;
+      «digits_place» = placed (q .len) (q .start);
+      «digits_len» = q .len;
+      «text_place» = placed (t .len) (t .start);
+      «text_len» = t .len;
+      consumed = c;
+    }
 
 abbrev nowhere : Span
 nowhere = record { start = 0; len = 0 }
 
 -- Bare: a kind, and what is consumed;
 abbrev pub bare : Kind → ℕ → Answer
-bare k c = record { kind = k; number = 0; place = 0; len = 0; «digits_place» = 0; «digits_len» = 0; consumed = c }
+bare k c = record { kind = k; number = 0; place = 0; len = 0; «digits_place» = 0; «digits_len» = 0; «text_place» = 0; «text_len» = 0; consumed = c }
 
 -- None;
 abbrev pub nothing : ℕ → Answer
@@ -117,15 +129,19 @@ nothing c = bare None c
 
 -- with its number;
 abbrev pub withNumber : Kind → ℕ → ℕ → Answer
-withNumber k n c = made k n nowhere nowhere c
+withNumber k n c = made k n nowhere nowhere nowhere c
 
 -- with its digits too (R-2);
 abbrev pub withDigits : Kind → ℕ → Span → ℕ → Answer
-withDigits k n q c = made k n nowhere q c
+withDigits k n q c = made k n nowhere q nowhere c
 
--- with its payload too.
+-- with its payload too;
 abbrev pub withPayload : Kind → ℕ → Span → ℕ → Answer
-withPayload k n p c = made k n p nowhere c
+withPayload k n p c = made k n p nowhere nowhere c
+
+-- an Ok with its payload and its text (R-3).
+abbrev pub withText : Span → Span → ℕ → Answer
+withText p t c = made Ok 0 p nowhere t c
 
 -- the part of the input that goes along with the answer: a numeric error's digits (R-2), else the payload
 abbrev pub carried : Answer → Span
@@ -133,7 +149,18 @@ carried a = if isNumeric (a .kind) then record { start = a .«digits_place»; le
 
 -- the same answer seen from d bytes further to the front
 unfoldable pub shift : ℕ → Answer → Answer
-shift d a = record { kind = a .kind; number = a .number; place = placed (a .len) (a .place + d); len = a .len; «digits_place» = placed (a .«digits_len») (a .«digits_place» + d); «digits_len» = a .«digits_len»; consumed = a .consumed + d }
+shift d a =
+    record {
+      kind = a .kind;
+      number = a .number;
+      place = placed (a .len) (a .place + d);
+      len = a .len;
+      «digits_place» = placed (a .«digits_len») (a .«digits_place» + d);
+      «digits_len» = a .«digits_len»;
+      «text_place» = placed (a .«text_len») (a .«text_place» + d);
+      «text_len» = a .«text_len»;
+      consumed = a .consumed + d;
+    }
 
 -- the bytes that an input may have, and so a place or a count
 abbrev pub longest : ℕ
@@ -142,10 +169,11 @@ longest = 4096
 -- `shift` where places, count and d are those of an input; else the answer as it is
 unfoldable pub shiftWithin : ℕ → Answer → Answer
 unfolding shift
-shiftWithin d a = if leb (a .place) longest && (leb (a .«digits_place») longest && (leb (a .consumed) longest && leb d longest)) then shift d a else a
+shiftWithin d a = if leb (a .place) longest && (leb (a .«digits_place») longest && (leb (a .«text_place») longest && (leb (a .consumed) longest && leb d longest))) then shift d a else a
 
--- Payload and digits lie within what is consumed, and that within the n bytes of the input.
+-- Payload, digits and text lie within what is consumed, and that within the n bytes of the input.
 pub record Within (n : ℕ) (a : Answer) : Type 0 where
   pub payload : a .place + a .len ≤ a .consumed
   pub digits : a .«digits_place» + a .«digits_len» ≤ a .consumed
+  pub text : a .«text_place» + a .«text_len» ≤ a .consumed
   pub all : a .consumed ≤ n

@@ -1,7 +1,7 @@
-// What was heard, as the digester says it and the slot keeps it: a kind, a number, where its payload and its digits stand, the bytes consumed.
-// An answer is made here, by one of five makers, and moved here; nobody else writes down what it consists of.
+// What was heard, as the digester says it and the slot keeps it: a kind, a number, where its payload, its digits and its text stand, the bytes consumed.
+// An answer is made here, by one of six makers, and moved here; nobody else writes down what it consists of.
 ghost use mathlib.Core.Path.{_≡_};
-ghost use Rattle.answers.specs.Answer.{hasNumber, numbered, stored, isFound, isNotice, isNumeric, placed, bare, nothing, made, withNumber, withDigits, withPayload, carried, shiftWithin};
+ghost use Rattle.answers.specs.Answer.{hasNumber, numbered, stored, isFound, isNotice, isNumeric, placed, bare, nothing, made, withNumber, withDigits, withPayload, withText, carried, shiftWithin};
 use text::Span;
 
 // What was heard. Custom is a custom error; a custom success is an Ok.
@@ -22,8 +22,8 @@ pub enum Kind {
     Notice,
 }
 
-// An answer: its kind, its number (0 where the kind has none), the place and length of its payload and, of a numeric error, of its digits as they came (R-2),
-// both in the caller's input, the bytes consumed.
+// An answer: its kind, its number (0 where the kind has none), the bytes consumed; and, in the caller's input, the place and length of its payload, of a
+// numeric error's digits as they came (R-2), and of the text of a CONNECT line (R-3).
 pub struct Answer {
     pub kind: Kind,
     pub number: u32,
@@ -31,6 +31,8 @@ pub struct Answer {
     pub len: usize,
     pub digits_place: usize,
     pub digits_len: usize,
+    pub text_place: usize,
+    pub text_len: usize,
     pub consumed: usize,
 }
 
@@ -133,7 +135,7 @@ pub fn is_numeric(kind: Kind) -> bool
     }
 }
 
-// A payload of length 0 has place 0, and so have digits.
+// A payload of length 0 has place 0, and so have digits and a text.
 fn placed_at(len: usize, place: usize) -> usize
     ensures { λ r. ⌜ r ≡ placed len place ⌝ }
 {
@@ -154,6 +156,8 @@ pub fn bare(kind: Kind, consumed: usize) -> Answer
         len: 0,
         digits_place: 0,
         digits_len: 0,
+        text_place: 0,
+        text_len: 0,
         consumed: consumed,
     }
 }
@@ -165,12 +169,12 @@ pub fn nothing(consumed: usize) -> Answer
     bare(Kind::None, consumed)
 }
 
-// What has neither payload nor digits.
+// A part that isn't there.
 const NOWHERE: Span = Span { start: 0, len: 0 };
 
-// A kind with its number, where it has one, its payload and its digits.
-fn made(kind: Kind, n: u32, payload: Span, digits: Span, consumed: usize) -> Answer
-    ensures { λ r. ⌜ r ≡ made kind n payload digits consumed ⌝ }
+// A kind with its number, where it has one, its payload, its digits and its text.
+fn made(kind: Kind, n: u32, payload: Span, digits: Span, text: Span, consumed: usize) -> Answer
+    ensures { λ r. ⌜ r ≡ made kind n payload digits text consumed ⌝ }
 {
     Answer {
         kind: kind,
@@ -179,6 +183,8 @@ fn made(kind: Kind, n: u32, payload: Span, digits: Span, consumed: usize) -> Ans
         len: payload.len,
         digits_place: placed_at(digits.len, digits.start),
         digits_len: digits.len,
+        text_place: placed_at(text.len, text.start),
+        text_len: text.len,
         consumed: consumed,
     }
 }
@@ -187,21 +193,28 @@ fn made(kind: Kind, n: u32, payload: Span, digits: Span, consumed: usize) -> Ans
 pub fn with_number(kind: Kind, n: u32, consumed: usize) -> Answer
     ensures { λ r. ⌜ r ≡ withNumber kind n consumed ⌝ }
 {
-    made(kind, n, NOWHERE, NOWHERE, consumed)
+    made(kind, n, NOWHERE, NOWHERE, NOWHERE, consumed)
 }
 
 // The same with the digits of a numeric error (R-2).
 pub fn with_digits(kind: Kind, n: u32, digits: Span, consumed: usize) -> Answer
     ensures { λ r. ⌜ r ≡ withDigits kind n digits consumed ⌝ }
 {
-    made(kind, n, NOWHERE, digits, consumed)
+    made(kind, n, NOWHERE, digits, NOWHERE, consumed)
 }
 
 // The same with a payload.
 pub fn with_payload(kind: Kind, n: u32, payload: Span, consumed: usize) -> Answer
     ensures { λ r. ⌜ r ≡ withPayload kind n payload consumed ⌝ }
 {
-    made(kind, n, payload, NOWHERE, consumed)
+    made(kind, n, payload, NOWHERE, NOWHERE, consumed)
+}
+
+// An Ok with its payload and the text of its CONNECT line (R-3).
+pub fn with_text(payload: Span, text: Span, consumed: usize) -> Answer
+    ensures { λ r. ⌜ r ≡ withText payload text consumed ⌝ }
+{
+    made(Kind::Ok, 0, payload, NOWHERE, text, consumed)
 }
 
 // The part of the input that goes along with the answer: a numeric error's digits (R-2), else the payload.
@@ -229,7 +242,8 @@ pub fn shifted(a: Answer, d: usize) -> Answer
     ensures { λ r. ⌜ r ≡ shiftWithin d a ⌝ }
 {
     let inside = (a.place <= LONGEST)
-        & ((a.digits_place <= LONGEST) & ((a.consumed <= LONGEST) & (d <= LONGEST)));
+        & ((a.digits_place <= LONGEST)
+            & ((a.text_place <= LONGEST) & ((a.consumed <= LONGEST) & (d <= LONGEST))));
     if !inside {
         return a;
     }
@@ -242,6 +256,8 @@ pub fn shifted(a: Answer, d: usize) -> Answer
         len: a.len,
         digits_place: placed_at(a.digits_len, a.digits_place + d),
         digits_len: a.digits_len,
+        text_place: placed_at(a.text_len, a.text_place + d),
+        text_len: a.text_len,
         consumed: consumed,
     }
 }

@@ -2,6 +2,7 @@
 // so the tests run this under a limit of 1 MiB.
 use digest::Digested;
 use libc::STDOUT_FILENO;
+use lines::Digester;
 
 // CR at each even place, LF at each odd one.
 fn byte_at(i: usize) -> u8 {
@@ -23,7 +24,7 @@ fn fill(buf: &mut [u8]) {
 fn main() {
     let mut buf = io::buffer();
     fill(&mut buf);
-    match digest::digest(b"", &buf) {
+    match digest::digest(Digester::Verbose, b"", &buf) {
         Digested::Is(a) => {
             if answers::is_found(a) {
                 io::write_all(STDOUT_FILENO, b"4096 bytes of CRLF: found something, ");

@@ -1,4 +1,5 @@
--- R-2 added the digits and changed nothing else (`as-before`): without them an answer is what the rules gave before, kind, number, payload and bytes consumed.
+-- R-2 added the digits and R-3 the text, and neither changed anything else of document 01's digester (`as-before`): without them an answer is what the rules gave
+-- before, kind, number, payload and bytes consumed.
 use mathlib.Core.Path.{_≡_, refl, ap, _∙_}
 use mathlib.Core.Bool.{Bool, true, false}
 use mathlib.Core.List.{List, [], _∷_}
@@ -7,11 +8,13 @@ use lib.ListN.{length, drop}
 use Rattle.outcome.specs.Outcome.{if_then_else_}
 use Rattle.outcome.specs.Laws.{ways}
 use Rattle.text.specs.Text.{stands, findIn}
+use Rattle.text.specs.Laws.{found-at}
 use Rattle.text.specs.declared.Found.{Found}
 use Rattle.text.specs.declared.Found.the-variants.{At, Nothing}
 use Rattle.table.specs.Table.{Token, Entry, ofMark}
 use Rattle.table.specs.declared.Mark.the-variants as mark
-use Rattle.lines.specs.Lines.{fixedText}
+use Rattle.lines.specs.Lines.{fixedText, connectPlace}
+use Rattle.lines.specs.declared.Digester.the-variants as digester
 use Rattle.lines.specs.declared.Fixed.{Fixed}
 use Rattle.lines.specs.declared.Fixed.the-variants as fixed
 use Rattle.parser.specs.Parser.{numericError, promptFrom, customPrompt, noticeAt}
@@ -25,18 +28,23 @@ use Rattle.items.specs.declared.Occurs.{Occurs}
 use Rattle.items.specs.declared.Occurs.the-variants as occurs
 use Rattle.items.specs.declared.Tried.{Tried}
 use Rattle.items.specs.declared.Tried.the-variants as tries
-use Rattle.items.specs.Rules.{orElse, firstOf, skipped, heard, notices, firstCustom, kindOf, success, customSuccess, lineSuccess, successLines, successes, promptTried, customPrompts, prompts, customError, heads, numericTried, numericErrors, errorLines, lineTried, lineErrors, notAllowed, errors, tried}
+use Rattle.items.specs.Rules.{orElse, firstOf, skipped, heard, notices, firstCustom, kindOf, success, customSuccess, lineSuccess, firstConnect, connected, connectSuccess, successes, promptTried, customPrompts, prompts, customError, heads, numericTried, numericErrors, errorLines, lineTried, lineErrors, notAllowed, errors, tried}
+use Rattle.items.specs.Laws.{or-next}
+use Rattle.items.specs.Connect.{connect-bare}
 use Rattle.digest.specs.Digest.{retries, again, after, digestBy, digestIn}
 
--- an answer without its digits
+-- an answer without its digits and its text
 abbrev plain : Answer → Answer
-plain a = record { kind = a .kind; number = a .number; place = a .place; len = a .len; «digits_place» = 0; «digits_len» = 0; consumed = a .consumed }
+plain a = record { kind = a .kind; number = a .number; place = a .place; len = a .len; «digits_place» = 0; «digits_len» = 0; «text_place» = 0; «text_len» = 0; consumed = a .consumed }
 
 abbrev plainly : Tried → Tried
 plainly (tries.Done a) = tries.Done (plain a)
 plainly tries.Next = tries.Next
 
--- The rules as they were: a numeric error was answered with its number alone; whatever stands above that rule was as it is.
+-- The rules as they were: CONNECT was a line like OK, and a numeric error was answered with its number alone; the other rules were as they are.
+abbrev successesBefore : List Entry → List ℕ → ℕ → Tried
+successesBefore l s e = orElse (customSuccess (firstCustom l s e) s e) (firstOf (λ x. lineSuccess s e x (findIn (fixedText x) s e)) (fixed.Ok ∷ fixed.Connect ∷ []))
+
 abbrev numericBefore : Fixed → Numeric → Tried
 numericBefore h (numeric.Is d) = tries.Done (withNumber (kindOf h) (d .code) (d .end))
 numericBefore h numeric.Nothing = tries.Next
@@ -44,7 +52,7 @@ numericBefore h numeric.Nothing = tries.Next
 abbrev triedBefore : List Token → List ℕ → ℕ → Tried
 triedBefore ts s e =
     orElse (notices (ofMark mark.Notice 0 ts) s e)
-    (orElse (successes (ofMark mark.Success 0 ts) s e)
+    (orElse (successesBefore (ofMark mark.Success 0 ts) s e)
     (orElse (prompts (ofMark mark.Prompt 0 ts) s e)
     (orElse (customError (firstCustom (ofMark mark.Error 0 ts) s e))
     (orElse (firstOf (λ h. numericBefore h (numericError (fixedText h) s e)) heads) (orElse (lineErrors s e) (notAllowed s e))))))
@@ -86,14 +94,20 @@ module _ (s : List ℕ) (e : ℕ) where
   line-success-plain l (At k) = refl
   line-success-plain l Nothing = refl
 
-  successes-plain : (l : List Entry) → plainly (successes l s e) ≡ successes l s e
-  unfolding successes
-  successes-plain l =
-      either-plain (customSuccess (firstCustom l s e) s e) (firstOf line successLines) _ _ (custom-success-plain (firstCustom l s e))
-      (first-plain line line (λ x. line-success-plain x (findIn (fixedText x) s e)) successLines)
+  -- for document 01's digester CONNECT is the bare line
+  connect-plain : plainly (connectSuccess digester.Verbose s e (firstConnect digester.Verbose s e)) ≡ lineSuccess s e fixed.Connect (findIn (fixedText fixed.Connect) s e)
+  unfolding firstConnect connectPlace
+  connect-plain = go (findIn (fixedText fixed.Connect) s e) refl
     where
-      line : Fixed → Tried
-      line x = lineSuccess s e x (findIn (fixedText x) s e)
+      go : (r : Found) → findIn (fixedText fixed.Connect) s e ≡ r → plainly (connectSuccess digester.Verbose s e r) ≡ lineSuccess s e fixed.Connect r
+      go (At k) q = unfold connectSuccess connected lineSuccess success in rw (connect-bare digester.Verbose s k (found-at (fixedText fixed.Connect) s e k q .here))
+      go Nothing q = unfold connectSuccess lineSuccess in refl
+
+  successes-plain : (l : List Entry) → plainly (successes digester.Verbose l s e) ≡ successesBefore l s e
+  unfolding successes firstOf
+  successes-plain l =
+      either-plain (customSuccess (firstCustom l s e) s e) _ _ _ (custom-success-plain (firstCustom l s e))
+      (either-plain (lineSuccess s e fixed.Ok (findIn (fixedText fixed.Ok) s e)) _ _ _ (line-success-plain fixed.Ok (findIn (fixedText fixed.Ok) s e)) (connect-plain ∙ or-next (lineSuccess s e fixed.Connect (findIn (fixedText fixed.Connect) s e))))
 
   prompt-plain : (b : Bool) (c : ℕ) → plainly (promptTried b c s) ≡ promptTried b c s
   unfolding promptTried
@@ -137,11 +151,11 @@ module _ (s : List ℕ) (e : ℕ) where
       (either-plain (numericErrors s e) _ _ _ (first-plain (λ h. numericTried h (numericError (fixedText h) s e)) (λ h. numericBefore h (numericError (fixedText h) s e)) (λ h. numeric-plain h (numericError (fixedText h) s e)) heads)
       (either-plain (lineErrors s e) (notAllowed s e) _ _ (first-plain (λ x. lineTried x (findIn (fixedText x) s e)) (λ x. lineTried x (findIn (fixedText x) s e)) (λ x. line-plain x (findIn (fixedText x) s e)) errorLines) na-plain))
 
-  tried-plain : (ts : List Token) → plainly (tried ts s e) ≡ triedBefore ts s e
+  tried-plain : (ts : List Token) → plainly (tried digester.Verbose ts s e) ≡ triedBefore ts s e
   unfolding tried
   tried-plain ts =
       either-plain (notices (ofMark mark.Notice 0 ts) s e) _ _ _ (notices-plain (ofMark mark.Notice 0 ts))
-      (either-plain (successes (ofMark mark.Success 0 ts) s e) _ _ _ (successes-plain (ofMark mark.Success 0 ts))
+      (either-plain (successes digester.Verbose (ofMark mark.Success 0 ts) s e) _ _ _ (successes-plain (ofMark mark.Success 0 ts))
       (either-plain (prompts (ofMark mark.Prompt 0 ts) s e) (errors (ofMark mark.Error 0 ts) s e) _ _ (prompts-plain (ofMark mark.Prompt 0 ts)) (errors-plain (ofMark mark.Error 0 ts))))
 
 -- the retry
@@ -162,13 +176,13 @@ after-plain s f g e tries.Next p = go (retries s e)
     go true = again-plain e (f (drop (e + 2) s)) ∙ ap (again e) p
     go false = refl
 
-by-plain : (n : ℕ) (ts : List Token) (s : List ℕ) → plain (digestBy n ts s) ≡ beforeBy n ts s
+by-plain : (n : ℕ) (ts : List Token) (s : List ℕ) → plain (digestBy n digester.Verbose ts s) ≡ beforeBy n ts s
 unfolding digestBy beforeBy
 by-plain zero ts s = refl
 by-plain (suc n) ts s =
     let e = skipped s in
-    after-plain s (digestBy n ts) (beforeBy n ts) e (tried ts s e) (by-plain n ts (drop (e + 2) s)) ∙ ap (after s (beforeBy n ts) e) (tried-plain s e ts)
+    after-plain s (digestBy n digester.Verbose ts) (beforeBy n ts) e (tried digester.Verbose ts s e) (by-plain n ts (drop (e + 2) s)) ∙ ap (after s (beforeBy n ts) e) (tried-plain s e ts)
 
-pub as-before : (ts : List Token) (s : List ℕ) → plain (digestIn ts s) ≡ beforeBy (suc (length s)) ts s
+pub as-before : (ts : List Token) (s : List ℕ) → plain (digestIn digester.Verbose ts s) ≡ beforeBy (suc (length s)) ts s
 unfolding digestIn
 as-before ts s = by-plain (suc (length s)) ts s

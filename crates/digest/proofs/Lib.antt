@@ -1,2 +1,3 @@
 mod Before
 mod Determined
+mod Without

@@ -8,6 +8,7 @@ use Rattle.outcome.specs.Outcome.{Outcome, answered, refused, if_then_else_}
 use Rattle.text.specs.Text.{stands}
 use Rattle.table.specs.Table.{Token, tokens, ruling}
 use Rattle.lines.specs.Lines.{crlf}
+use Rattle.lines.specs.declared.Digester.{Digester}
 use Rattle.answers.specs.declared.Answer.{Answer}
 use Rattle.answers.specs.Answer.{isFound, nothing, shift}
 use Rattle.items.specs.declared.Tried.{Tried}
@@ -32,25 +33,25 @@ after s f e (Done a) = a
 after s f e Next = let r = again e (f (drop (e + 2) s)) in if retries s e then r else nothing e
 
 -- with fuel, of which one more than the input's length is enough
-unfoldable pub digestBy : ℕ → List Token → List ℕ → Answer
+unfoldable pub digestBy : ℕ → Digester → List Token → List ℕ → Answer
 unfolding after tried skipped
-digestBy zero ts s = nothing 0
-digestBy (suc n) ts s = let e = skipped s in after s (digestBy n ts) e (tried ts s e)
+digestBy zero d ts s = nothing 0
+digestBy (suc n) d ts s = let e = skipped s in after s (digestBy n d ts) e (tried d ts s e)
 
--- rules 1 to 7, under a table's tokens
-unfoldable pub digestIn : List Token → List ℕ → Answer
+-- rules 1 to 7, by the digester that the caller chose, under a table's tokens
+unfoldable pub digestIn : Digester → List Token → List ℕ → Answer
 unfolding digestBy
-digestIn ts s = digestBy (suc (length s)) ts s
+digestIn d ts s = digestBy (suc (length s)) d ts s
 
 -- Refusal 1: the input is over 4,096 bytes. Refusal 2: the table breaks a rule; answers the first faulty record's number.
-unfoldable pub underTable : Outcome ℕ → List ℕ → List ℕ → Outcome Answer
+unfoldable pub underTable : Outcome ℕ → Digester → List ℕ → List ℕ → Outcome Answer
 unfolding digestIn
-underTable (answered n) t s = answered (digestIn (tokens t) s)
-underTable (refused n values) t s = refused n values
+underTable (answered n) d t s = answered (digestIn d (tokens t) s)
+underTable (refused n values) d t s = refused n values
 
-unfoldable pub digest : List ℕ → List ℕ → Outcome Answer
+unfoldable pub digest : Digester → List ℕ → List ℕ → Outcome Answer
 unfolding underTable
-digest t s = if ltb 4096 (length s) then refused 1 [] else underTable (ruling t) t s
+digest d t s = if ltb 4096 (length s) then refused 1 [] else underTable (ruling t) d t s
 
 -- document 01's number and values for each case of the digest's answer
 abbrev pub outcome : Digested → Outcome Answer
@@ -59,6 +60,6 @@ outcome says.TooLong = refused 1 []
 outcome (says.BadTable k) = refused 2 (k ∷ [])
 
 -- under a table that isn't asked about: its records as they lie; an input over 4,096 bytes is None, 0
-unfoldable pub digestUnchecked : List ℕ → List ℕ → Answer
+unfoldable pub digestUnchecked : Digester → List ℕ → List ℕ → Answer
 unfolding digestIn
-digestUnchecked t s = if ltb 4096 (length s) then nothing 0 else digestIn (tokens t) s
+digestUnchecked d t s = if ltb 4096 (length s) then nothing 0 else digestIn d (tokens t) s

@@ -9,6 +9,7 @@ use Rattle.text.specs.Text.{isBlank, past, keep, trimmed, stands, findIn, partO
 use Rattle.outcome.specs.Outcome.{Outcome, answered, refused}
 use Rattle.table.specs.Table.{ruling, tokens, ofMark}
 use Rattle.parser.specs.Parser.{numericError, promptFrom, customPrompt, noticeAt}
+use Rattle.lines.specs.declared.Digester.the-variants as digester
 use Rattle.answers.specs.declared.Kind.{Kind}
 use Rattle.answers.specs.declared.Kind.the-variants.{None, Ok, Prompt, Cme, Cms, NotAllowed, Notice}
 use Rattle.answers.specs.declared.Answer.{Answer}
@@ -39,7 +40,7 @@ saidOf s (answered a) = answered (said s a)
 saidOf s (refused n values) = refused n values
 
 abbrev given : Known → Outcome Said
-given x = saidOf (bytes (x .input)) (digest (x .table) (bytes (x .input)))
+given x = saidOf (bytes (x .input)) (digest digester.Verbose (x .table) (bytes (x .input)))
 
 abbrev expected : Known → Outcome Said
 expected x = answered (record { kind = x .kind; number = x .number; payload = bytes (x .payload); consumed = x .consumed })

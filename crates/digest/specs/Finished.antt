@@ -11,11 +11,12 @@ use Rattle.text.specs.Text.{isBlank, stands}
 use Rattle.text.specs.declared.Blanks.the-variants as blanks
 use Rattle.table.specs.Table.{Token, ofMark}
 use Rattle.table.specs.declared.Mark.the-variants as mark
-use Rattle.lines.specs.Lines.{crlf, fixedText}
+use Rattle.lines.specs.Lines.{hearsText, crlf, fixedText}
 use Rattle.parser.specs.Parser.{lineEnding, isDigit, value, wrapped, breaksOff}
+use Rattle.lines.specs.declared.Digester.{Digester}
 use Rattle.lines.specs.declared.Fixed.{Fixed}
 use Rattle.lines.specs.declared.Fixed.the-variants as fixed
-use Rattle.items.specs.Rules.{successLines, heads, errorLines}
+use Rattle.items.specs.Rules.{heads, errorLines}
 
 -- something in the list has the property
 abbrev pub Some : {A : Type 0} → (A → Type 0) → List A → Type 0
@@ -77,28 +78,38 @@ pub record EndsIn (x u : List ℕ) : Type 0 where
 
 -- the nine fixed lines of rules 3 and 5
 abbrev pub nine : List Fixed
-nine = successLines ++ (errorLines ++ (fixed.Na ∷ []))
+nine = fixed.Ok ∷ fixed.Connect ∷ (errorLines ++ (fixed.Na ∷ []))
 
 -- u begins with the line t, n bytes long
 abbrev pub Line : List ℕ → List ℕ → ℕ → Type 0
 Line t u n = (stands t u 0 ≡ true) × (n ≡ length t)
 
+-- R-3: a CONNECT line with text, n bytes long: CRLF, `CONNECT`, a space and everything through the next CRLF, at q.
+pub record TextLine (u : List ℕ) (n : ℕ) : Type 0 where
+  pub q : ℕ
+  pub head : stands (fixedText fixed.ConnectText) u 0 ≡ true
+  pub behind : 10 ≤ q
+  pub here : stands crlf u q ≡ true
+  pub first : Nowhere crlf u 10 q
+  pub ended : n ≡ q + 2
+
 -- An item that stands from a line start on, n bytes long; a prompt takes all there is.
-pub data Item (ts : List Token) (u : List ℕ) (n : ℕ) : Type 0 where
-  notice : Some (λ x. NoticeEnded (x .text) u n) (ofMark mark.Notice 0 ts) → Item ts u n
-  line : Some (λ l. Line (fixedText l) u n) nine → Item ts u n
-  customSuccess : Some (λ x. Line (wrapped (x .text)) u n) (ofMark mark.Success 0 ts) → Item ts u n
-  customError : Some (λ x. Line (wrapped (x .text)) u n) (ofMark mark.Error 0 ts) → Item ts u n
-  numeric : Some (λ h. NumericEnded (fixedText h) u n) heads → Item ts u n
-  prompt : FirstAlone 62 u ⊎ FirstAlone 64 u → n ≡ length u → Item ts u n
-  customPrompt : Some (λ x. EndsIn (x .text) u) (ofMark mark.Prompt 0 ts) → n ≡ length u → Item ts u n
+pub data Item (d : Digester) (ts : List Token) (u : List ℕ) (n : ℕ) : Type 0 where
+  notice : Some (λ x. NoticeEnded (x .text) u n) (ofMark mark.Notice 0 ts) → Item d ts u n
+  line : Some (λ l. Line (fixedText l) u n) nine → Item d ts u n
+  text : hearsText d ≡ true → TextLine u n → Item d ts u n
+  customSuccess : Some (λ x. Line (wrapped (x .text)) u n) (ofMark mark.Success 0 ts) → Item d ts u n
+  customError : Some (λ x. Line (wrapped (x .text)) u n) (ofMark mark.Error 0 ts) → Item d ts u n
+  numeric : Some (λ h. NumericEnded (fixedText h) u n) heads → Item d ts u n
+  prompt : FirstAlone 62 u ⊎ FirstAlone 64 u → n ≡ length u → Item d ts u n
+  customPrompt : Some (λ x. EndsIn (x .text) u) (ofMark mark.Prompt 0 ts) → n ≡ length u → Item d ts u n
 
 -- The line start p of s holds a finished item, n bytes long; where a notice is unfinished, the start holds none.
-pub record Holds (ts : List Token) (s : List ℕ) (p n : ℕ) : Type 0 where
+pub record Holds (d : Digester) (ts : List Token) (s : List ℕ) (p n : ℕ) : Type 0 where
   pub start : LineStart s p
-  pub item : Item ts (drop p s) n
+  pub item : Item d ts (drop p s) n
   pub finished : Some (λ x. Unfinished (x .text) (drop p s)) (ofMark mark.Notice 0 ts) → ⊥
 
 -- no line start of the input holds a finished item
-abbrev pub NothingFinished : List Token → List ℕ → Type 0
-NothingFinished ts s = (p n : ℕ) → Holds ts s p n → ⊥
+abbrev pub NothingFinished : Digester → List Token → List ℕ → Type 0
+NothingFinished d ts s = (p n : ℕ) → Holds d ts s p n → ⊥

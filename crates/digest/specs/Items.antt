@@ -10,14 +10,16 @@ use lib.ListN.{length, getD, drop, length-append, length-drop, List·getD-append
 use lib.Seq.{getD-append-add, getD-drop}
 use Rattle.text.specs.Bytes.{bytes}
 use Rattle.text.specs.Logic.{false-true, order}
-use Rattle.text.specs.Text.{stands}
-use Rattle.text.specs.Laws.{stands-drop, stands-front, stands-fits, stands-byte, stands-getD, stands-room}
+use Rattle.text.specs.Text.{stands, findIn}
+use Rattle.text.specs.declared.Found.the-variants.{At}
+use Rattle.text.specs.Laws.{found-at, find-is, stands-drop, stands-front, stands-fits, stands-byte, stands-getD, stands-room}
 use Rattle.outcome.specs.Outcome.{if_then_else_}
 use Rattle.table.specs.Table.{isText, Token, Entry, ofMark}
 use Rattle.table.specs.Laws.{Texts, EntryTexts, mark-texts, text-some, text-byte}
 use Rattle.table.specs.declared.Mark.the-variants as mark
 use Rattle.lines.specs.Lines.{crlf, fixedText}
 use Rattle.parser.specs.Parser.{lineEnding, customPrompt, wrapped, breaksOff}
+use Rattle.lines.specs.declared.Digester.{Digester}
 use Rattle.lines.specs.declared.Fixed.{Fixed}
 use Rattle.lines.specs.declared.Fixed.the-variants as fixed
 use Rattle.parser.specs.declared.Notice.{Notice}
@@ -27,7 +29,7 @@ use Rattle.items.specs.declared.Tried.the-variants as tries
 use Rattle.outcome.specs.Outcome.{if_then_else_}
 use Rattle.items.specs.Rules.{orElse, customSuccess, customError, heads}
 use Rattle.items.specs.Laws.{wrapped-length}
-use Rattle.digest.specs.Finished.{Some, NoticeEnd, crlfEnd, colon, NoticeEnded, Unfinished, NumericEnded, FirstAlone, EndsIn, nine, Line, Item}
+use Rattle.digest.specs.Finished.{Some, NoticeEnd, crlfEnd, colon, NoticeEnded, Unfinished, NumericEnded, FirstAlone, EndsIn, nine, Line, TextLine, Item}
 use Rattle.digest.specs.Finished as items
 
 -- `Some`
@@ -144,6 +146,7 @@ opens fixed.Na = record { rest = bytes "NA\r\n"; front = refl; long = omega arit
 opens fixed.Cme = record { rest = bytes "+CME ERROR:"; front = refl; long = omega arith }
 opens fixed.Cms = record { rest = bytes "+CMS ERROR:"; front = refl; long = omega arith }
 opens fixed.Modem = record { rest = bytes "MODEM ERROR:"; front = refl; long = omega arith }
+opens fixed.ConnectText = record { rest = bytes "CONNECT "; front = refl; long = omega arith }
 
 -- A line ends in LF.
 abbrev pub Last : List ℕ → Type 0
@@ -161,6 +164,32 @@ wrapped-last x =
 pub stands-here : (t s : List ℕ) (k : ℕ) → stands t s k ≡ stands t (drop k s) 0
 stands-here t s k = ap (stands t s) (sym (add-zero k)) ∙ sym (stands-drop t s k 0)
 
+-- a CONNECT line with text (R-3), by its head and the first CRLF behind that
+module _ (s : List ℕ) (k : ℕ) where
+  pub texted-told : stands (fixedText fixed.ConnectText) s k ≡ true → (q : ℕ) → findIn crlf s (k + 10) ≡ At q → TextLine (drop k s) (q + 2 - k)
+  texted-told h q f =
+      let w = found-at crlf s (k + 10) q f in
+      let i : k + (q - k) ≡ q = omega (arith, w .after) in
+      record {
+        q = q - k;
+        head = sym (stands-here (fixedText fixed.ConnectText) s k) ∙ h;
+        behind = omega (arith, w .after);
+        here = stands-drop crlf s k (q - k) ∙ ap (stands crlf s) i ∙ w .here;
+        first = λ j a b. stands-drop crlf s k j ∙ w .first (k + j) (omega arith) (omega (arith, w .after));
+        ended = omega (arith, w .after);
+      }
+
+  pub texted-is : (n : ℕ) (w : TextLine (drop k s) n) → findIn crlf s (k + 10) ≡ At (k + w .q)
+  texted-is n w =
+      find-is crlf s (k + 10) (At (k + w .q)) (record {
+        after = omega (arith, w .behind);
+        here = sym (stands-drop crlf s k (w .q)) ∙ w .here;
+        first =
+            λ j a b.
+            let i : k + (j - k) ≡ j = omega arith in
+            ap (stands crlf s) (sym i) ∙ sym (stands-drop crlf s k (j - k)) ∙ w .first (j - k) (omega arith) (omega arith);
+      })
+
 -- an ended notice ends in LF
 pub notice-lf : (x u : List ℕ) (n : ℕ) → NoticeEnded x u n → (n ≤ length u) × ((length x + 3 ≤ n) × (getD u (n - 1) 0 ≡ 10))
 notice-lf x u n w = go (w .ended)
@@ -175,7 +204,7 @@ notice-lf x u n w = go (w .ended)
         let i : n - 1 ≡ q + 1 = omega arith in
         (omega arith, (omega (arith, w .opened), ap (λ (k : ℕ). getD u k 0) i ∙ crlf-lf u q h))
 
-module _ (ts : List Token) (good : Texts ts) where
+module _ (d : Digester) (ts : List Token) (good : Texts ts) where
   -- what an item takes
   prompt-byte : (c : ℕ) (u : List ℕ) → FirstAlone c u → 1 ≤ length u
   prompt-byte c u w = omega (arith, stands-fits (c ∷ []) u (w .q) (omega arith) (w .here))
@@ -195,12 +224,16 @@ module _ (ts : List Token) (good : Texts ts) where
   numbers-long : (u : List ℕ) (n : ℕ) → Some (λ h. NumericEnded (fixedText h) u n) heads → 3 ≤ length u
   numbers-long u n h = some-any (λ x. NumericEnded (fixedText x) u n) (3 ≤ length u) (λ x v. text-long (fixedText x) u (opens x) (v .head)) heads h
 
+  texted-long : (u : List ℕ) (n : ℕ) → TextLine u n → 3 ≤ length u
+  texted-long u n h = text-long (fixedText fixed.ConnectText) u (opens fixed.ConnectText) (h .head)
+
   notice-room : (l : List Entry) (u : List ℕ) (n : ℕ) → Some (λ x. NoticeEnded (x .text) u n) l → 3 ≤ length u
   notice-room l u n h = some-any (λ x. NoticeEnded (x .text) u n) (3 ≤ length u) (λ x v. let b = notice-lf (x .text) u n v in omega (arith, b .0, b .1 .0)) l h
 
-  pub item-some : (u : List ℕ) (n : ℕ) → Item ts u n → 1 ≤ length u
+  pub item-some : (u : List ℕ) (n : ℕ) → Item d ts u n → 1 ≤ length u
   item-some u n (items.notice h) = omega (arith, notice-room (ofMark mark.Notice 0 ts) u n h)
   item-some u n (items.line h) = omega (arith, line-long nine u n h)
+  item-some u n (items.text z h) = omega (arith, texted-long u n h)
   item-some u n (items.customSuccess h) = omega (arith, custom-long (ofMark mark.Success 0 ts) u n h)
   item-some u n (items.customError h) = omega (arith, custom-long (ofMark mark.Error 0 ts) u n h)
   item-some u n (items.numeric h) = omega (arith, numbers-long u n h)
@@ -208,9 +241,10 @@ module _ (ts : List Token) (good : Texts ts) where
   item-some u n (items.prompt (inr h) g) = prompt-byte 64 u h
   item-some u n (items.customPrompt h g) = some-texts (λ x. EndsIn (x .text) u) (1 ≤ length u) (λ x t v. text-place (x .text) u t v) (ofMark mark.Prompt 0 ts) (mark-texts mark.Prompt 0 ts good) h
 
-  pub item-size : (u : List ℕ) (n : ℕ) → Item ts u n → 1 ≤ n
+  pub item-size : (u : List ℕ) (n : ℕ) → Item d ts u n → 1 ≤ n
   item-size u n (items.notice h) = some-any (λ x. NoticeEnded (x .text) u n) (1 ≤ n) (λ x v. omega (arith, notice-lf (x .text) u n v)) (ofMark mark.Notice 0 ts) h
   item-size u n (items.line h) = some-any (λ l. Line (fixedText l) u n) (1 ≤ n) (λ l v. omega (arith, opens l .long, v .1)) nine h
+  item-size u n (items.text z h) = omega (arith, h .ended)
   item-size u n (items.customSuccess h) = some-any (λ x. Line (wrapped (x .text)) u n) (1 ≤ n) (λ x v. omega (arith, v .1, wrapped-length (x .text))) (ofMark mark.Success 0 ts) h
   item-size u n (items.customError h) = some-any (λ x. Line (wrapped (x .text)) u n) (1 ≤ n) (λ x v. omega (arith, v .1, wrapped-length (x .text))) (ofMark mark.Error 0 ts) h
   item-size u n (items.numeric h) = some-any (λ x. NumericEnded (fixedText x) u n) (1 ≤ n) (λ x v. omega (arith, v .ended)) heads h
@@ -223,9 +257,10 @@ module _ (ts : List Token) (good : Texts ts) where
   byte-behind u (suc zero) b h e f g = absurd (g (sym e ∙ crlf-lf u 0 h))
   byte-behind u (suc (suc q)) b h e f g = omega arith
 
-  pub item-long : (u : List ℕ) (n : ℕ) → stands crlf u 0 ≡ true → Item ts u n → 3 ≤ length u
+  pub item-long : (u : List ℕ) (n : ℕ) → stands crlf u 0 ≡ true → Item d ts u n → 3 ≤ length u
   item-long u n c (items.notice h) = notice-room (ofMark mark.Notice 0 ts) u n h
   item-long u n c (items.line h) = line-long nine u n h
+  item-long u n c (items.text z h) = texted-long u n h
   item-long u n c (items.customSuccess h) = custom-long (ofMark mark.Success 0 ts) u n h
   item-long u n c (items.customError h) = custom-long (ofMark mark.Error 0 ts) u n h
   item-long u n c (items.numeric h) = numbers-long u n h
@@ -256,9 +291,10 @@ module _ (ts : List Token) (good : Texts ts) where
   no-crlf-custom : (u : List ℕ) → ((j : ℕ) → stands crlf u j ≡ false) → (l : List Entry) (n : ℕ) → Some (λ x. Line (wrapped (x .text)) u n) l → ⊥
   no-crlf-custom u h l n g = some-any (λ x. Line (wrapped (x .text)) u n) ⊥ (λ x v. no-crlf-line u h (wrapped (x .text)) (x .text ++ crlf) refl (v .0)) l g
 
-  pub no-crlf-item : (u : List ℕ) → ((j : ℕ) → stands crlf u j ≡ false) → (n : ℕ) → Item ts u n → (FirstAlone 62 u ⊎ FirstAlone 64 u) ⊎ Some (λ x. EndsIn (x .text) u) (ofMark mark.Prompt 0 ts)
+  pub no-crlf-item : (u : List ℕ) → ((j : ℕ) → stands crlf u j ≡ false) → (n : ℕ) → Item d ts u n → (FirstAlone 62 u ⊎ FirstAlone 64 u) ⊎ Some (λ x. EndsIn (x .text) u) (ofMark mark.Prompt 0 ts)
   no-crlf-item u h n (items.notice g) = absurd (some-any (λ x. NoticeEnded (x .text) u n) ⊥ (λ x v. no-crlf-notice u h (x .text) n v) (ofMark mark.Notice 0 ts) g)
   no-crlf-item u h n (items.line g) = absurd (some-any (λ l. Line (fixedText l) u n) ⊥ (λ l v. no-crlf-line u h (fixedText l) (opens l .rest) (opens l .front) (v .0)) nine g)
+  no-crlf-item u h n (items.text y g) = absurd (false-true (g .here) (h (g .q)))
   no-crlf-item u h n (items.customSuccess g) = absurd (no-crlf-custom u h (ofMark mark.Success 0 ts) n g)
   no-crlf-item u h n (items.customError g) = absurd (no-crlf-custom u h (ofMark mark.Error 0 ts) n g)
   no-crlf-item u h n (items.numeric g) = absurd (some-any (λ x. NumericEnded (fixedText x) u n) ⊥ (λ x v. no-crlf-line u h (fixedText x) (opens x .rest) (opens x .front) (v .head)) heads g)

@@ -13,6 +13,7 @@ use Rattle.table.specs.Table.{Token, Entry, ofMark}
 use Rattle.table.specs.Laws.{NumbersBelow}
 use Rattle.table.specs.declared.Mark.the-variants as mark
 use Rattle.lines.specs.Lines.{fixedText}
+use Rattle.lines.specs.declared.Digester.{Digester}
 use Rattle.lines.specs.declared.Fixed.{Fixed}
 use Rattle.lines.specs.declared.Fixed.the-variants as fixed
 use Rattle.parser.specs.Parser.{numericError, promptFrom, customPrompt, noticeAt}
@@ -26,7 +27,7 @@ use Rattle.items.specs.declared.Occurs.{Occurs}
 use Rattle.items.specs.declared.Occurs.the-variants as occurs
 use Rattle.items.specs.declared.Tried.{Tried}
 use Rattle.items.specs.declared.Tried.the-variants as tries
-use Rattle.items.specs.Rules.{skipped, heard, notices, firstCustom, kindOf, success, customSuccess, lineSuccess, successLines, successes, promptTried, customPrompts, prompts, customError, heads, numericTried, numericErrors, errorLines, lineTried, lineErrors, notAllowed, errors, tried}
+use Rattle.items.specs.Rules.{skipped, heard, notices, firstCustom, kindOf, success, customSuccess, lineSuccess, connectAt, firstConnect, connected, connectSuccess, successes, promptTried, customPrompts, prompts, customError, heads, numericTried, numericErrors, errorLines, lineTried, lineErrors, notAllowed, errors, tried}
 use Rattle.digest.specs.Digest.{retries, again, after, digestIn}
 use Rattle.digest.specs.Step.{TriedHas, either-has, first-has, by-length, rest-shorter, digest-step}
 
@@ -50,6 +51,7 @@ kind-other fixed.Na = refl
 kind-other fixed.Cme = refl
 kind-other fixed.Cms = refl
 kind-other fixed.Modem = refl
+kind-other fixed.ConnectText = refl
 
 module _ (k : ℕ) (s : List ℕ) (e : ℕ) where
   heard-below : (n : ℕ) → n < k → (r : Notice) → TriedHas (Below k) (heard r n s e)
@@ -72,6 +74,16 @@ module _ (k : ℕ) (s : List ℕ) (e : ℕ) where
   unfolding lineSuccess success
   line-success-below l (At p) = other false refl
   line-success-below l Nothing = tt
+
+  connected-below : (p : ℕ) (r : Found) → TriedHas (Below k) (connected s e p r)
+  unfolding connected
+  connected-below p (At end) = other false refl
+  connected-below p Nothing = tt
+
+  connect-below : (d : Digester) (r : Found) → TriedHas (Below k) (connectSuccess d s e r)
+  unfolding connectSuccess
+  connect-below d (At p) = connected-below p (connectAt d s p)
+  connect-below d Nothing = tt
 
   prompt-below : (b : Bool) (c : ℕ) → TriedHas (Below k) (promptTried b c s)
   unfolding promptTried
@@ -101,13 +113,13 @@ module _ (k : ℕ) (s : List ℕ) (e : ℕ) where
   unfolding notAllowed
   na-below = ways (TriedHas (Below k)) (stands (fixedText fixed.Na) s e) (λ q. other false refl) (λ q. tt)
 
-  tried-below : (ts : List Token) → NumbersBelow k (ofMark mark.Notice 0 ts) → TriedHas (Below k) (tried ts s e)
+  tried-below : (d : Digester) (ts : List Token) → NumbersBelow k (ofMark mark.Notice 0 ts) → TriedHas (Below k) (tried d ts s e)
   unfolding tried successes prompts errors numericErrors lineErrors
-  tried-below ts w =
+  tried-below d ts w =
       either-has (Below k) (notices (ofMark mark.Notice 0 ts) s e) _ (notices-below (ofMark mark.Notice 0 ts) w)
-      (either-has (Below k) (successes (ofMark mark.Success 0 ts) s e) _
+      (either-has (Below k) (successes d (ofMark mark.Success 0 ts) s e) _
       (either-has (Below k) (customSuccess (firstCustom (ofMark mark.Success 0 ts) s e) s e) _ (custom-success-below (firstCustom (ofMark mark.Success 0 ts) s e))
-      (first-has (Below k) (λ x. lineSuccess s e x (findIn (fixedText x) s e)) (λ x. line-success-below x (findIn (fixedText x) s e)) successLines))
+      (either-has (Below k) (lineSuccess s e fixed.Ok (findIn (fixedText fixed.Ok) s e)) _ (line-success-below fixed.Ok (findIn (fixedText fixed.Ok) s e)) (connect-below d (firstConnect d s e))))
       (either-has (Below k) (prompts (ofMark mark.Prompt 0 ts) s e) _
       (either-has (Below k) (customPrompts (ofMark mark.Prompt 0 ts) s e) _ (custom-prompts-below (ofMark mark.Prompt 0 ts))
       (either-has (Below k) (promptTried (promptFrom 62 s e) 62 s) _ (prompt-below (promptFrom 62 s e) 62) (prompt-below (promptFrom 64 s e) 64)))
@@ -125,10 +137,10 @@ unfolding after
 after-below k s f e (tries.Done a) w g = w
 after-below k s f e tries.Next w g = ways (Below k) (retries s e) (λ q. again-below k e (f (drop (e + 2) s)) (g q)) (λ q. other false refl)
 
-pub digest-below : (k : ℕ) (ts : List Token) → NumbersBelow k (ofMark mark.Notice 0 ts) → (s : List ℕ) → Below k (digestIn ts s)
-digest-below k ts w = by-length (λ s. Below k (digestIn ts s)) one
+pub digest-below : (k : ℕ) (d : Digester) (ts : List Token) → NumbersBelow k (ofMark mark.Notice 0 ts) → (s : List ℕ) → Below k (digestIn d ts s)
+digest-below k d ts w = by-length (λ s. Below k (digestIn d ts s)) one
   where
-    one : (s : List ℕ) → ((l : List ℕ) → length l < length s → Below k (digestIn ts l)) → Below k (digestIn ts s)
+    one : (s : List ℕ) → ((l : List ℕ) → length l < length s → Below k (digestIn d ts l)) → Below k (digestIn d ts s)
     one s ih =
         let e = skipped s in
-        rw (digest-step ts s) (after-below k s (digestIn ts) e (tried ts s e) (tried-below k s e ts w) (λ q. ih (drop (e + 2) s) (rest-shorter s e q)))
+        rw (digest-step d ts s) (after-below k s (digestIn d ts) e (tried d ts s e) (tried-below k s e d ts w) (λ q. ih (drop (e + 2) s) (rest-shorter s e q)))

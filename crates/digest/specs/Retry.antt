@@ -17,6 +17,7 @@ use Rattle.text.specs.declared.Found.the-variants.{At, Nothing}
 use Rattle.table.specs.Table.{Token}
 use Rattle.table.specs.Laws.{Texts}
 use Rattle.lines.specs.Lines.{crlf}
+use Rattle.lines.specs.declared.Digester.{Digester}
 use Rattle.answers.specs.Answer.{isFound, nothing}
 use Rattle.items.specs.Rules.{skipped}
 use Rattle.digest.specs.Digest.{digestIn}
@@ -74,13 +75,13 @@ module _ (s : List ℕ) where
       go Nothing q = skipped-bare (λ j. found-none crlf (drop (skipped s) s) 0 q j (omega arith))
 
 -- After None with e, the rest gives None with 0.
-pub none-rest : (ts : List Token) → Texts ts → (s : List ℕ) → isFound (digestIn ts s) ≡ false → digestIn ts (drop (skipped s) s) ≡ nothing 0
-none-rest ts good s h =
+pub none-rest : (d : Digester) (ts : List Token) → Texts ts → (s : List ℕ) → isFound (digestIn d ts s) ≡ false → digestIn d ts (drop (skipped s) s) ≡ nothing 0
+none-rest d ts good s h =
     let v = drop (skipped s) s in
-    none-is ts good v (not-true-false (isFound (digestIn ts v)) (λ f.
-    let w = sound ts good v f in
+    none-is d ts good v (not-true-false (isFound (digestIn d ts v)) (λ f.
+    let w = sound d ts good v f in
     let i : drop (w .p) v ≡ drop (skipped s + w .p) s = drop-drop (w .p) (skipped s) s in
     false-true
-    (complete ts good s (skipped s + w .p) (w .n) (record { start = rest-start s (w .p) (w .holds .start); item = rw i at (w .holds .item); finished = rw i at (w .holds .finished) }))
+    (complete d ts good s (skipped s + w .p) (w .n) (record { start = rest-start s (w .p) (w .holds .start); item = rw i at (w .holds .item); finished = rw i at (w .holds .finished) }))
     h))
     ∙ ap nothing (skipped-again s)

@@ -1,5 +1,5 @@
 -- Where no rule answers, no item stands where buf begins (`nothing-here`).
-use mathlib.Core.Path.{_≡_, refl, ap, _∙_}
+use mathlib.Core.Path.{_≡_, refl, sym, ap, _∙_}
 use mathlib.Core.Logic.{inl, inr, ⊎-elim}
 use mathlib.Core.Bool.{Bool, true}
 use mathlib.Core.List.{List, [], _∷_, _++_}
@@ -15,8 +15,9 @@ use Rattle.text.specs.declared.Found.the-variants.{At, Nothing}
 use Rattle.table.specs.Table.{Token, Entry, ofMark}
 use Rattle.table.specs.Laws.{Texts, EntryTexts, mark-texts}
 use Rattle.table.specs.declared.Mark.the-variants as mark
-use Rattle.lines.specs.Lines.{fixedText}
+use Rattle.lines.specs.Lines.{hearsText, fixedText}
 use Rattle.parser.specs.Parser.{value, atFound, numericAt, numericError, promptFrom, customPrompt, wrapped, noticeAt}
+use Rattle.lines.specs.declared.Digester.{Digester}
 use Rattle.lines.specs.declared.Fixed.{Fixed}
 use Rattle.lines.specs.declared.Fixed.the-variants as fixed
 use Rattle.parser.specs.declared.Digits.{Digits}
@@ -28,24 +29,28 @@ use Rattle.items.specs.declared.Tried.{Tried}
 use Rattle.items.specs.declared.Tried.the-variants as tries
 use Rattle.answers.specs.declared.Answer.{Answer}
 use Rattle.answers.specs.Answer.{bare, withDigits}
-use Rattle.items.specs.Rules.{firstOf, heard, notices, firstCustom, kindOf, success, customSuccess, lineSuccess, successLines, successes, promptTried, customPrompts, prompts, customError, heads, numericTried, numericErrors, errorLines, lineTried, lineErrors, notAllowed, errors, tried}
+use Rattle.items.specs.Rules.{firstOf, heard, notices, firstCustom, kindOf, success, customSuccess, lineSuccess, throughCrlf, connectAt, firstConnect, connectSuccess, successes, promptTried, customPrompts, prompts, customError, heads, numericTried, numericErrors, errorLines, lineTried, lineErrors, notAllowed, errors, tried}
+use Rattle.items.specs.Connect.{connect-bare, connect-text, connect-none}
 use Rattle.items.specs.Laws.{next-both, done-next}
 use Rattle.level.specs.Levels.{occurs-none, success-nowhere, error-nowhere, line-success-nowhere, line-nowhere, prompt-nowhere}
 use Rattle.parser.specs.Moved.{prompt-moved, custom-moved, shiftNumeric, numeric-moved}
-use Rattle.digest.specs.Finished.{Some, NoticeEnded, NumericEnded, FirstAlone, EndsIn, nine, Line, Item}
+use Rattle.digest.specs.Finished.{Some, NoticeEnded, NumericEnded, FirstAlone, EndsIn, nine, Line, TextLine, Item}
 use Rattle.digest.specs.Finished as items
 use Rattle.digest.specs.Position.{alone-is, ends-is, numeric-is}
-use Rattle.digest.specs.Items.{some-map, some-any, some-split, stands-here}
+use Rattle.digest.specs.Items.{some-map, some-any, some-split, stands-here, texted-is}
 use Rattle.digest.specs.Sound.{notice-front}
 
-module _ (ts : List Token) (good : Texts ts) (s : List ℕ) (e : ℕ) where
+found-nothing : {k : ℕ} → At k ≡ Nothing → ⊥
+found-nothing h = let z : _≡_ {A = ℕ} 0 1 = cc in omega arith
+
+module _ (d : Digester) (ts : List Token) (good : Texts ts) (s : List ℕ) (e : ℕ) where
   -- where no rule answers, no item stands where buf begins
   no-notice : (n : ℕ) (l : List Entry) → notices l s e ≡ tries.Next → Some (λ x. NoticeEnded (x .text) (drop e s) n) l → ⊥
   unfolding notices
   no-notice n [] h g = g
   no-notice n (x ∷ l) h (inl w) =
       let b = next-both (heard (noticeAt (x .text) s e) (x .number) s e) (notices l s e) h .0 in
-      done-next _ (ap (λ (r : Notice). heard r (x .number) s e) (notice-front ts good s e (x .text) n w) ∙ (unfold heard in refl)) b
+      done-next _ (ap (λ (r : Notice). heard r (x .number) s e) (notice-front d ts good s e (x .text) n w) ∙ (unfold heard in refl)) b
   no-notice n (x ∷ l) h (inr w) = no-notice n l (next-both (heard (noticeAt (x .text) s e) (x .number) s e) (notices l s e) h .1) w
 
   no-text : (t : List ℕ) → findIn t s e ≡ Nothing → stands t (drop e s) 0 ≡ true → ⊥
@@ -72,9 +77,9 @@ module _ (ts : List Token) (good : Texts ts) (s : List ℕ) (e : ℕ) where
   unfolding numericError
   no-numeric n h g w =
       let q : findIn (fixedText h) s e ≡ At e = find-here (fixedText h) s e (stands-here (fixedText h) s e ∙ w .head) in
-      let d : Digits = record { code = value 0 (drop (w .a) (drop e s)); start = e + w .a; stop = e + w .b; end = e + n } in
-      let r : numericAt (fixedText h) s e ≡ numeric.Is d = numeric-moved (fixedText h) s e ∙ ap (shiftNumeric e) (numeric-is (fixedText h) (drop e s) n w) ∙ (unfold shiftNumeric in refl) in
-      let a : Answer = withDigits (kindOf h) (d .code) (record { start = d .start; len = d .stop - d .start }) (d .end) in
+      let ds : Digits = record { code = value 0 (drop (w .a) (drop e s)); start = e + w .a; stop = e + w .b; end = e + n } in
+      let r : numericAt (fixedText h) s e ≡ numeric.Is ds = numeric-moved (fixedText h) s e ∙ ap (shiftNumeric e) (numeric-is (fixedText h) (drop e s) n w) ∙ (unfold shiftNumeric in refl) in
+      let a : Answer = withDigits (kindOf h) (ds .code) (record { start = ds .start; len = ds .stop - ds .start }) (ds .end) in
       let i : numericTried h (atFound (fixedText h) s (findIn (fixedText h) s e)) ≡ tries.Done a = ap (λ (f : Found). numericTried h (atFound (fixedText h) s f)) q ∙ (unfold atFound in ap (numericTried h) r) ∙ (unfold numericTried in refl) in
       done-next a i g
 
@@ -93,7 +98,8 @@ module _ (ts : List Token) (good : Texts ts) (s : List ℕ) (e : ℕ) where
   pub record Silent : Type 0 where
     pub heardNone : notices (ofMark mark.Notice 0 ts) s e ≡ tries.Next
     pub customOk : firstCustom (ofMark mark.Success 0 ts) s e ≡ occurs.Nothing
-    pub success : firstOf (λ l. lineSuccess s e l (findIn (fixedText l) s e)) successLines ≡ tries.Next
+    pub success : lineSuccess s e fixed.Ok (findIn (fixedText fixed.Ok) s e) ≡ tries.Next
+    pub connect : connectSuccess d s e (firstConnect d s e) ≡ tries.Next
     pub customs : customPrompts (ofMark mark.Prompt 0 ts) s e ≡ tries.Next
     pub greater : promptTried (promptFrom 62 s e) 62 s ≡ tries.Next
     pub atSign : promptTried (promptFrom 64 s e) 64 s ≡ tries.Next
@@ -102,13 +108,14 @@ module _ (ts : List Token) (good : Texts ts) (s : List ℕ) (e : ℕ) where
     pub error : firstOf (λ l. lineTried l (findIn (fixedText l) s e)) errorLines ≡ tries.Next
     pub na : notAllowed s e ≡ tries.Next
 
-  pub silent : tried ts s e ≡ tries.Next → Silent
+  pub silent : tried d ts s e ≡ tries.Next → Silent
   unfolding tried successes prompts errors numericErrors lineErrors
   silent h =
       let a = next-both (notices (ofMark mark.Notice 0 ts) s e) _ h in
-      let b = next-both (successes (ofMark mark.Success 0 ts) s e) _ (a .1) in
+      let b = next-both (successes d (ofMark mark.Success 0 ts) s e) _ (a .1) in
       let c = next-both (prompts (ofMark mark.Prompt 0 ts) s e) (errors (ofMark mark.Error 0 ts) s e) (b .1) in
-      let d = next-both (customSuccess (firstCustom (ofMark mark.Success 0 ts) s e) s e) _ (b .0) in
+      let o = next-both (customSuccess (firstCustom (ofMark mark.Success 0 ts) s e) s e) _ (b .0) in
+      let f = next-both (lineSuccess s e fixed.Ok (findIn (fixedText fixed.Ok) s e)) _ (o .1) in
       let g = next-both (customPrompts (ofMark mark.Prompt 0 ts) s e) _ (c .0) in
       let i = next-both (promptTried (promptFrom 62 s e) 62 s) _ (g .1) in
       let j = next-both (customError (firstCustom (ofMark mark.Error 0 ts) s e)) _ (c .1) in
@@ -116,8 +123,9 @@ module _ (ts : List Token) (good : Texts ts) (s : List ℕ) (e : ℕ) where
       let n = next-both (lineErrors s e) _ (k .1) in
       record {
         heardNone = a .0;
-        customOk = success-nowhere s e (firstCustom (ofMark mark.Success 0 ts) s e) (d .0);
-        success = d .1;
+        customOk = success-nowhere s e (firstCustom (ofMark mark.Success 0 ts) s e) (o .0);
+        success = f .0;
+        connect = f .1;
         customs = g .0;
         greater = i .0;
         atSign = i .1;
@@ -128,24 +136,36 @@ module _ (ts : List Token) (good : Texts ts) (s : List ℕ) (e : ℕ) where
       }
 
   module _ (w : Silent) (inside : e ≤ length s) where
+    -- no CONNECT line stands there, neither the bare one nor one with text
+    no-connect : connectAt d s e ≡ Nothing
+    no-connect = connect-none d s e (w .connect) e (omega arith)
+
+    no-bare : stands (fixedText fixed.Connect) (drop e s) 0 ≡ true → ⊥
+    no-bare h = found-nothing (sym (connect-bare d s e (stands-here (fixedText fixed.Connect) s e ∙ h)) ∙ no-connect)
+
+    no-texted : (n : ℕ) → hearsText d ≡ true → TextLine (drop e s) n → ⊥
+    unfolding throughCrlf
+    no-texted n h v =
+        let c : connectAt d s e ≡ At (e + v .q + 2) = connect-text d s e h (stands-here (fixedText fixed.ConnectText) s e ∙ v .head) ∙ ap throughCrlf (texted-is s e n v) in
+        found-nothing (sym c ∙ no-connect)
+
     no-fixed : (n : ℕ) → Some (λ l. Line (fixedText l) (drop e s) n) nine → ⊥
-    no-fixed n h =
+    no-fixed n (inl h) = no-text (fixedText fixed.Ok) (line-success-nowhere s e fixed.Ok (findIn (fixedText fixed.Ok) s e) (w .success)) (h .0)
+    no-fixed n (inr (inl h)) = no-bare (h .0)
+    no-fixed n (inr (inr h)) =
         let P : Fixed → Type 0 = λ l. Line (fixedText l) (drop e s) n in
-        ⊎-elim
-        (λ (q : Some P successLines). none-of _ P (λ l y v. no-text (fixedText l) (line-success-nowhere s e l (findIn (fixedText l) s e) y) (v .0)) successLines (w .success) q)
-        (λ (q : Some P (errorLines ++ (fixed.Na ∷ []))).
         ⊎-elim
         (λ (r : Some P errorLines). none-of _ P (λ l y v. no-text (fixedText l) (line-nowhere l (findIn (fixedText l) s e) y) (v .0)) errorLines (w .error) r)
         (λ (r : Some P (fixed.Na ∷ [])). some-any (λ l. Line (fixedText fixed.Na) (drop e s) n) ⊥ (λ l v. no-head (w .na) (v .0)) (fixed.Na ∷ []) r)
-        (some-split P errorLines (fixed.Na ∷ []) q))
-        (some-split P successLines (errorLines ++ (fixed.Na ∷ [])) h)
+        (some-split P errorLines (fixed.Na ∷ []) h)
 
     pub no-alone : (c : ℕ) → promptTried (promptFrom c s e) c s ≡ tries.Next → FirstAlone c (drop e s) → ⊥
     no-alone c h v = no-prompt (promptFrom c s e) c h (prompt-moved c s e inside ∙ alone-is c (drop e s) v)
 
-    pub nothing-here : (n : ℕ) → Item ts (drop e s) n → ⊥
+    pub nothing-here : (n : ℕ) → Item d ts (drop e s) n → ⊥
     nothing-here n (items.notice h) = no-notice n (ofMark mark.Notice 0 ts) (w .heardNone) h
     nothing-here n (items.line h) = no-fixed n h
+    nothing-here n (items.text z h) = no-texted n z h
     nothing-here n (items.customSuccess h) = no-custom (ofMark mark.Success 0 ts) (w .customOk) (some-map (λ x. Line (wrapped (x .text)) (drop e s) n) (λ x. stands (wrapped (x .text)) (drop e s) 0 ≡ true) (λ x v. v .0) (ofMark mark.Success 0 ts) h)
     nothing-here n (items.customError h) = no-custom (ofMark mark.Error 0 ts) (w .customBad) (some-map (λ x. Line (wrapped (x .text)) (drop e s) n) (λ x. stands (wrapped (x .text)) (drop e s) 0 ≡ true) (λ x v. v .0) (ofMark mark.Error 0 ts) h)
     nothing-here n (items.numeric h) = none-of _ (λ x. NumericEnded (fixedText x) (drop e s) n) (no-numeric n) heads (w .number) h

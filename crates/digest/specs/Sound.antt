@@ -1,4 +1,4 @@
--- Each rule answers an item: it stands where buf begins or at a CRLF, and ends at the consumed count; a numeric error's digits are told (`tried-sound`).
+-- Each rule answers an item: it stands where buf begins or at a CRLF, and ends at the consumed count; a numeric error's digits and a CONNECT line's text are told (`tried-sound`).
 use mathlib.Core.Path.{_≡_, refl, sym, ap, _∙_}
 use mathlib.Core.Logic.{_⊎_, inl, inr, ⊎-elim}
 use mathlib.Core.Bool.{Bool, true, false}
@@ -10,7 +10,8 @@ use lib.Seq.{drop-drop, getD-drop}
 use borrow.Author.Tests.{lt-ltb, ltb-true}
 use Rattle.text.specs.Logic.{false-true, not-true-false, order}
 use Rattle.text.specs.Text.{stands, findIn}
-use Rattle.text.specs.Laws.{found-at, stands-front, stands-fits, stands-getD}
+use Rattle.text.specs.Bytes.{bytes}
+use Rattle.text.specs.Laws.{FoundAt, found-at, stands-drop, stands-front, stands-fits, stands-getD}
 use Rattle.text.specs.declared.Found.{Found}
 use Rattle.text.specs.declared.Found.the-variants.{At, Nothing}
 use Rattle.outcome.specs.Outcome.{if_then_else_}
@@ -20,6 +21,7 @@ use Rattle.table.specs.declared.Mark.the-variants as mark
 use Rattle.lines.specs.Lines.{crlf, fixedText}
 use Rattle.parser.specs.Parser.{isDigit, value, lineEnding, atFound, numericAt, numericError, promptFrom, customPrompt, wrapped, noticeAt}
 use Rattle.parser.specs.Laws.{ending-fits}
+use Rattle.lines.specs.declared.Digester.{Digester}
 use Rattle.lines.specs.declared.Fixed.{Fixed}
 use Rattle.lines.specs.declared.Fixed.the-variants as fixed
 use Rattle.parser.specs.declared.Digits.{Digits}
@@ -34,16 +36,17 @@ use Rattle.items.specs.declared.Occurs.the-variants as occurs
 use Rattle.items.specs.declared.Tried.{Tried}
 use Rattle.items.specs.declared.Tried.the-variants as tries
 use Rattle.outcome.specs.Outcome.{if_then_else_}
-use Rattle.answers.specs.Answer.{hasNumber, stored, kindFound, isFound, isNumeric, placed, bare, nothing, withNumber, withDigits, withPayload}
+use Rattle.answers.specs.Answer.{hasNumber, stored, kindFound, isFound, isNumeric, placed, bare, nothing, withNumber, withDigits, withPayload, withText}
 use Rattle.answers.specs.Laws.{numbered-some, placed-some}
-use Rattle.items.specs.Rules.{orElse, firstOf, trimmedPart, heard, notices, occursOr, firstCustom, kindOf, success, customSuccess, lineSuccess, successLines, successes, promptTried, customPrompts, prompts, customError, heads, numericTried, numericErrors, errorLines, lineTried, lineErrors, notAllowed, errors, tried}
+use Rattle.items.specs.Rules.{orElse, firstOf, trimmedPart, heard, notices, occursOr, firstCustom, kindOf, success, customSuccess, lineSuccess, connectAt, firstConnect, connected, connectSuccess, successes, promptTried, customPrompts, prompts, customError, heads, numericTried, numericErrors, errorLines, lineTried, lineErrors, notAllowed, errors, tried}
+use Rattle.items.specs.Connect.{TextAt, connect-told}
 use Rattle.items.specs.Laws.{next-both, done-next, wrapped-length}
 use Rattle.parser.specs.Moved.{ending-moved, shiftNotice, notice-moved, prompt-moved, custom-moved, shiftNumeric, numeric-moved}
 use Rattle.digest.specs.Finished.{Some, NoticeEnded, Unfinished, NumericEnded, FirstAlone, EndsIn, nine, Line, Item}
 use Rattle.digest.specs.Finished as items
 use Rattle.digest.specs.Position.{ended-is, unfinished-is, ended-told, unfinished-told, alone-told, ends-told, digit-blank, NumericRead, numeric-told}
-use Rattle.digest.specs.Heard.{DigitRun, DigitsOf}
-use Rattle.digest.specs.Items.{some-map, some-any, some-either, some-left, some-right, done-one, lf-finished, ending-lf, Opens, opens, Last, wrapped-opens, wrapped-last, notice-lf, stands-here}
+use Rattle.digest.specs.Heard.{DigitRun, DigitsOf, TextOf}
+use Rattle.digest.specs.Items.{some-map, some-any, some-either, some-left, some-right, done-one, lf-finished, ending-lf, crlf-lf, Opens, opens, Last, wrapped-opens, wrapped-last, notice-lf, stands-here, texted-told}
 
 -- The digits, seen from d bytes further to the front (R-2).
 module _ (s : List ℕ) (d : ℕ) where
@@ -75,34 +78,49 @@ module _ (s : List ℕ) (d : ℕ) where
       digits-some : (x : Answer) → DigitsOf (drop d s) x → isNumeric (x .kind) ≡ true → 0 < x .«digits_len»
       digits-some x v h = ltb-true 0 (x .«digits_len») (sym (v .some) ∙ h)
 
--- a kind that is found and has no digits, and an answer with none
-abbrev Plain : Answer → Type 0
-Plain a = (isFound a ≡ true) × ((isNumeric (a .kind) ≡ false) × (a .«digits_len» ≡ 0))
-
-plain-digits : (s : List ℕ) (a : Answer) → Plain a → DigitsOf s a
-plain-digits s a w =
+-- The text, seen from m bytes further to the front (R-3).
+pub text-on : (d : Digester) (s : List ℕ) (m : ℕ) (r a : Answer) → TextOf d (drop m s) r → a .kind ≡ r .kind → a .«text_len» ≡ r .«text_len» → a .«text_place» ≡ m + r .«text_place» → a .consumed ≡ m + r .consumed → TextOf d s a
+text-on d s m r a w k l p c =
+    let h : m + (r .«text_place» - 10) ≡ a .«text_place» - 10 = omega (arith, p, w .head .0) in
+    let o : m + (r .«text_place» + r .«text_len») ≡ a .«text_place» + a .«text_len» = omega (arith, p, l) in
     record {
-      some = rw (w .1 .0, w .1 .1);
-      run = λ h. absurd (false-true h (w .1 .0));
-      code = λ h g. absurd (false-true h (w .1 .0));
+      hears = w .hears;
+      ok = k ∙ w .ok;
+      head = (omega (arith, p, w .head .0), ap (stands (fixedText fixed.ConnectText) s) (sym h) ∙ sym (stands-drop (fixedText fixed.ConnectText) s m (r .«text_place» - 10)) ∙ w .head .1);
+      inside =
+          λ j g f.
+          let i : m + (j - m) ≡ j = omega (arith, p) in
+          ap (stands crlf s) (sym i) ∙ sym (stands-drop crlf s m (j - m)) ∙ w .inside (j - m) (omega (arith, p)) (omega (arith, p, l));
+      ended = (ap (stands crlf s) (sym o) ∙ sym (stands-drop crlf s m (r .«text_place» + r .«text_len»)) ∙ w .ended .0, omega (arith, o, c, w .ended .1, w .head .0));
     }
 
+-- a kind that is found and has no digits, and an answer with neither digits nor text
+abbrev Plain : Answer → Type 0
+Plain a = (isFound a ≡ true) × ((isNumeric (a .kind) ≡ false) × ((a .«digits_len» ≡ 0) × (a .«text_len» ≡ 0)))
+
+no-digits : (s : List ℕ) (a : Answer) → isNumeric (a .kind) ≡ false → a .«digits_len» ≡ 0 → DigitsOf s a
+no-digits s a h l = record { some = rw (h, l); run = λ g. absurd (false-true g h); code = λ g n. absurd (false-true g h) }
+
+no-text : (d : Digester) (s : List ℕ) (a : Answer) → a .«text_len» ≡ 0 → 0 < a .«text_len» → TextOf d s a
+no-text d s a l h = absurd (omega (arith, l, h))
+
 -- What a rule's answer tells: an item was found at p, either where buf begins or at a CRLF; or a notice is unfinished where buf begins.
-pub record Hit (ts : List Token) (s : List ℕ) (e : ℕ) (a : Answer) : Type 0 where
+pub record Hit (d : Digester) (ts : List Token) (s : List ℕ) (e : ℕ) (a : Answer) : Type 0 where
   pub p : ℕ
   pub n : ℕ
   pub at : (p ≡ e) ⊎ (stands crlf s p ≡ true)
-  pub item : Item ts (drop p s) n
+  pub item : Item d ts (drop p s) n
   pub ends : p + n ≡ a .consumed
   pub found : isFound a ≡ true
   pub digits : DigitsOf s a
+  pub text : 0 < a .«text_len» → TextOf d s a
   pub finished : Some (λ x. Unfinished (x .text) (drop p s)) (ofMark mark.Notice 0 ts) → ⊥
 
 abbrev pub Broken : List Token → List ℕ → ℕ → Type 0
 Broken ts s e = Some (λ x. Unfinished (x .text) (drop e s)) (ofMark mark.Notice 0 ts)
 
-abbrev pub Sound : List Token → List ℕ → ℕ → Answer → Type 0
-Sound ts s e a = Hit ts s e a ⊎ ((a ≡ nothing e) × Broken ts s e)
+abbrev pub Sound : Digester → List Token → List ℕ → ℕ → Answer → Type 0
+Sound d ts s e a = Hit d ts s e a ⊎ ((a ≡ nothing e) × Broken ts s e)
 
 -- the kind of a fixed text is found
 kind-found : (l : Fixed) → kindFound (kindOf l) ≡ true
@@ -118,6 +136,7 @@ kind-found fixed.Na = refl
 kind-found fixed.Cme = refl
 kind-found fixed.Cms = refl
 kind-found fixed.Modem = refl
+kind-found fixed.ConnectText = refl
 
 -- whichever text of a list answered, it did so by itself
 first-some : (f : Fixed → Tried) (ls : List Fixed) (a : Answer) → firstOf f ls ≡ tries.Done a → Some (λ l. f l ≡ tries.Done a) ls
@@ -132,9 +151,9 @@ record LineAt (s : List ℕ) (a : Answer) (l : Fixed) : Type 0 where
   ends : a .consumed ≡ k + length (fixedText l)
   plain : isNumeric (kindOf l) ≡ false → Plain a
 
-module _ (ts : List Token) (good : Texts ts) (s : List ℕ) (e : ℕ) where
+module _ (d : Digester) (ts : List Token) (good : Texts ts) (s : List ℕ) (e : ℕ) where
   -- a line at k
-  line-hit : (t : List ℕ) → Opens t → Last t → (k : ℕ) → stands t s k ≡ true → (n : ℕ) → n ≡ length t → Item ts (drop k s) n → (a : Answer) → a .consumed ≡ k + n → Plain a → Hit ts s e a
+  line-hit : (t : List ℕ) → Opens t → Last t → (k : ℕ) → stands t s k ≡ true → (n : ℕ) → n ≡ length t → Item d ts (drop k s) n → (a : Answer) → a .consumed ≡ k + n → Plain a → Hit d ts s e a
   line-hit t w z k h n f i a c g =
       let u = drop k s in
       let v : stands t u 0 ≡ true = sym (stands-here t s k) ∙ h in
@@ -148,7 +167,8 @@ module _ (ts : List Token) (good : Texts ts) (s : List ℕ) (e : ℕ) where
         item = i;
         ends = sym c;
         found = g .0;
-        digits = plain-digits s a g;
+        digits = no-digits s a (g .1 .0) (g .1 .1 .0);
+        text = no-text d s a (g .1 .1 .1);
         finished = lf-finished u (0 + (length t - 1)) (omega arith) (omega arith) b (ofMark mark.Notice 0 ts) (mark-texts mark.Notice 0 ts good);
       }
 
@@ -157,7 +177,7 @@ module _ (ts : List Token) (good : Texts ts) (s : List ℕ) (e : ℕ) where
   Lasts [] = Unit {0}
   Lasts (l ∷ ls) = (Last (fixedText l) × (isNumeric (kindOf l) ≡ false)) × Lasts ls
 
-  lines-hit : (ls : List Fixed) → Lasts ls → ((u : List ℕ) (n : ℕ) → Some (λ l. Line (fixedText l) u n) ls → Some (λ l. Line (fixedText l) u n) nine) → (a : Answer) → Some (LineAt s a) ls → Hit ts s e a
+  lines-hit : (ls : List Fixed) → Lasts ls → ((u : List ℕ) (n : ℕ) → Some (λ l. Line (fixedText l) u n) ls → Some (λ l. Line (fixedText l) u n) nine) → (a : Answer) → Some (LineAt s a) ls → Hit d ts s e a
   lines-hit [] z i a h = absurd h
   lines-hit (l ∷ ls) z i a (inl h) =
       let t = fixedText l in
@@ -168,14 +188,14 @@ module _ (ts : List Token) (good : Texts ts) (s : List ℕ) (e : ℕ) where
   unfolding lineSuccess success
   success-at a l (At k) q h =
       let z : withPayload kind.Ok 0 (trimmedPart s e k) (k + length (fixedText l)) ≡ a = cc in
-      record { k = k; here = found-at (fixedText l) s e k q .here; ends = ap (λ (x : Answer). x .consumed) (sym z); plain = λ n. rw (sym z) (refl, (refl, refl)) }
+      record { k = k; here = found-at (fixedText l) s e k q .here; ends = ap (λ (x : Answer). x .consumed) (sym z); plain = λ n. rw (sym z) (refl, (refl, (refl, refl))) }
   success-at a l Nothing q h = absurd (done-next a h refl)
 
   line-at : (a : Answer) (l : Fixed) (r : Found) → findIn (fixedText l) s e ≡ r → lineTried l r ≡ tries.Done a → LineAt s a l
   unfolding lineTried
   line-at a l (At k) q h =
       let z : bare (kindOf l) (k + length (fixedText l)) ≡ a = cc in
-      record { k = k; here = found-at (fixedText l) s e k q .here; ends = ap (λ (x : Answer). x .consumed) (sym z); plain = λ n. rw (sym z) (kind-found l, (n, refl)) }
+      record { k = k; here = found-at (fixedText l) s e k q .here; ends = ap (λ (x : Answer). x .consumed) (sym z); plain = λ n. rw (sym z) (kind-found l, (n, (refl, refl))) }
   line-at a l Nothing q h = absurd (done-next a h refl)
 
   na-at : (a : Answer) → notAllowed s e ≡ tries.Done a → LineAt s a fixed.Na
@@ -183,7 +203,7 @@ module _ (ts : List Token) (good : Texts ts) (s : List ℕ) (e : ℕ) where
   na-at a h = go (stands (fixedText fixed.Na) s e) refl h
     where
       go : (b : Bool) → stands (fixedText fixed.Na) s e ≡ b → (if b then tries.Done (bare kind.NotAllowed (e + 6)) else tries.Next) ≡ tries.Done a → LineAt s a fixed.Na
-      go true q g = let z : bare kind.NotAllowed (e + 6) ≡ a = cc in record { k = e; here = q; ends = ap (λ (x : Answer). x .consumed) (sym z); plain = λ n. rw (sym z) (refl, (refl, refl)) }
+      go true q g = let z : bare kind.NotAllowed (e + 6) ≡ a = cc in record { k = e; here = q; ends = ap (λ (x : Answer). x .consumed) (sym z); plain = λ n. rw (sym z) (refl, (refl, (refl, refl))) }
       go false q g = absurd (done-next a g refl)
 
   -- where a custom line occurs
@@ -203,36 +223,36 @@ module _ (ts : List Token) (good : Texts ts) (s : List ℕ) (e : ℕ) where
   custom-some [] n len k h = let z : _≡_ {A = ℕ} 0 1 = cc in absurd (omega arith)
   custom-some (x ∷ l) n len k h = custom-at x l (findIn (wrapped (x .text)) s e) refl (firstCustom l s e) (λ m b j g. custom-some l m b j g) n len k h
 
-  custom-hit : (l : List Entry) (len k : ℕ) → Some (CustomAt len k) l → (Some (λ x. Line (wrapped (x .text)) (drop k s) (len + 4)) l → Item ts (drop k s) (len + 4)) → (a : Answer) → a .consumed ≡ k + (len + 4) → Plain a → Hit ts s e a
+  custom-hit : (l : List Entry) (len k : ℕ) → Some (CustomAt len k) l → (Some (λ x. Line (wrapped (x .text)) (drop k s) (len + 4)) l → Item d ts (drop k s) (len + 4)) → (a : Answer) → a .consumed ≡ k + (len + 4) → Plain a → Hit d ts s e a
   custom-hit l len k h mk a c g =
       let i = mk (some-map (CustomAt len k) (λ x. Line (wrapped (x .text)) (drop k s) (len + 4)) (λ x v. (sym (stands-here (wrapped (x .text)) s k) ∙ v .0, omega (arith, v .1, wrapped-length (x .text)))) l h) in
-      some-any (CustomAt len k) (Hit ts s e a) (λ x v. line-hit (wrapped (x .text)) (wrapped-opens (x .text)) (wrapped-last (x .text)) k (v .0) (len + 4) (omega (arith, v .1, wrapped-length (x .text))) i a c g) l h
+      some-any (CustomAt len k) (Hit d ts s e a) (λ x v. line-hit (wrapped (x .text)) (wrapped-opens (x .text)) (wrapped-last (x .text)) k (v .0) (len + 4) (omega (arith, v .1, wrapped-length (x .text))) i a c g) l h
 
-  custom-success-sound : (r : Occurs) → firstCustom (ofMark mark.Success 0 ts) s e ≡ r → (a : Answer) → customSuccess r s e ≡ tries.Done a → Hit ts s e a
+  custom-success-sound : (r : Occurs) → firstCustom (ofMark mark.Success 0 ts) s e ≡ r → (a : Answer) → customSuccess r s e ≡ tries.Done a → Hit d ts s e a
   unfolding customSuccess success
   custom-success-sound (occurs.At n len k) q a h =
       let z : withPayload kind.Ok 0 (trimmedPart s e k) (k + (len + 4)) ≡ a = cc in
-      custom-hit (ofMark mark.Success 0 ts) len k (custom-some (ofMark mark.Success 0 ts) n len k q) items.customSuccess a (ap (λ (x : Answer). x .consumed) (sym z)) (rw (sym z) (refl, (refl, refl)))
+      custom-hit (ofMark mark.Success 0 ts) len k (custom-some (ofMark mark.Success 0 ts) n len k q) items.customSuccess a (ap (λ (x : Answer). x .consumed) (sym z)) (rw (sym z) (refl, (refl, (refl, refl))))
   custom-success-sound occurs.Nothing q a h = absurd (done-next a h refl)
 
-  custom-error-sound : (r : Occurs) → firstCustom (ofMark mark.Error 0 ts) s e ≡ r → (a : Answer) → customError r ≡ tries.Done a → Hit ts s e a
+  custom-error-sound : (r : Occurs) → firstCustom (ofMark mark.Error 0 ts) s e ≡ r → (a : Answer) → customError r ≡ tries.Done a → Hit d ts s e a
   unfolding customError
   custom-error-sound (occurs.At n len k) q a h =
       let z : withPayload kind.Custom n (record { start = k + 2; len = len }) (k + (len + 4)) ≡ a = cc in
-      custom-hit (ofMark mark.Error 0 ts) len k (custom-some (ofMark mark.Error 0 ts) n len k q) items.customError a (ap (λ (x : Answer). x .consumed) (sym z)) (rw (sym z) (refl, (refl, refl)))
+      custom-hit (ofMark mark.Error 0 ts) len k (custom-some (ofMark mark.Error 0 ts) n len k q) items.customError a (ap (λ (x : Answer). x .consumed) (sym z)) (rw (sym z) (refl, (refl, (refl, refl))))
   custom-error-sound occurs.Nothing q a h = absurd (done-next a h refl)
 
   -- numeric errors, with their digits
-  numeric-digits : (h : Fixed) → isNumeric (kindOf h) ≡ true → getD (fixedText h) (length (fixedText h) - 1) 0 ≡ 58 → (u : List ℕ) (d : Digits) → NumericRead (fixedText h) u d → DigitsOf u (withDigits (kindOf h) (d .code) (record { start = d .start; len = d .stop - d .start }) (d .end))
-  numeric-digits h n z u d t =
+  numeric-digits : (h : Fixed) → isNumeric (kindOf h) ≡ true → getD (fixedText h) (length (fixedText h) - 1) 0 ≡ 58 → (u : List ℕ) (ds : Digits) → NumericRead (fixedText h) u ds → DigitsOf u (withDigits (kindOf h) (ds .code) (record { start = ds .start; len = ds .stop - ds .start }) (ds .end))
+  numeric-digits h n z u ds t =
       let w = t .numeric in
       let p = t .start in
       let q = t .stop in
-      let l : 0 < d .stop - d .start = omega (arith, w .digits .0) in
-      let f : d .start ≡ placed (d .stop - d .start) (d .start) = placed-some (d .stop - d .start) (d .start) (λ o. omega arith) in
-      let b : d .start + (d .stop - d .start) ≡ w .b = omega (arith, w .digits .0) in
+      let l : 0 < ds .stop - ds .start = omega (arith, w .digits .0) in
+      let f : ds .start ≡ placed (ds .stop - ds .start) (ds .start) = placed-some (ds .stop - ds .start) (ds .start) (λ o. omega arith) in
+      let b : ds .start + (ds .stop - ds .start) ≡ w .b = omega (arith, w .digits .0) in
       record {
-        some = n ∙ sym (lt-ltb 0 (d .stop - d .start) l);
+        some = n ∙ sym (lt-ltb 0 (ds .stop - ds .start) l);
         run =
             λ o.
             rw (sym f)
@@ -241,11 +261,11 @@ module _ (ts : List Token) (good : Texts ts) (s : List ℕ) (e : ℕ) where
               digits = λ j g k. w .digits .1 j (omega (arith, p)) (omega (arith, b));
               ended = rw b (w .ended);
             });
-        code = λ o g. sym (ap stored (numbered-some (kindOf h) (d .code) g)) ∙ t .code ∙ ap (λ (j : ℕ). value 0 (take (d .stop - d .start) (drop j u))) f;
+        code = λ o g. sym (ap stored (numbered-some (kindOf h) (ds .code) g)) ∙ t .code ∙ ap (λ (j : ℕ). value 0 (take (ds .stop - ds .start) (drop j u))) f;
       }
     where
       -- before the digits stands a run blank, or the head's colon
-      front : (w : NumericEnded (fixedText h) u (d .end)) → isDigit (getD u (w .a - 1) 0) ≡ false
+      front : (w : NumericEnded (fixedText h) u (ds .end)) → isDigit (getD u (w .a - 1) 0) ≡ false
       front w =
           ⊎-elim
           (λ (g : length (fixedText h) < w .a).
@@ -260,52 +280,53 @@ module _ (ts : List Token) (good : Texts ts) (s : List ℕ) (e : ℕ) where
   Heads [] = Unit {0}
   Heads (h ∷ hs) = ((isNumeric (kindOf h) ≡ true) × (getD (fixedText h) (length (fixedText h) - 1) 0 ≡ 58)) × Heads hs
 
-  numeric-hit : (h : Fixed) → isNumeric (kindOf h) ≡ true → getD (fixedText h) (length (fixedText h) - 1) 0 ≡ 58 → (k : ℕ) (d : Digits) → NumericRead (fixedText h) (drop k s) d → Some (λ x. NumericEnded (fixedText x) (drop k s) (d .end)) heads → (a : Answer) → a ≡ withDigits (kindOf h) (d .code) (record { start = k + d .start; len = k + d .stop - (k + d .start) }) (k + d .end) → Hit ts s e a
-  numeric-hit h v z k d t i a g =
+  numeric-hit : (h : Fixed) → isNumeric (kindOf h) ≡ true → getD (fixedText h) (length (fixedText h) - 1) 0 ≡ 58 → (k : ℕ) (ds : Digits) → NumericRead (fixedText h) (drop k s) ds → Some (λ x. NumericEnded (fixedText x) (drop k s) (ds .end)) heads → (a : Answer) → a ≡ withDigits (kindOf h) (ds .code) (record { start = k + ds .start; len = k + ds .stop - (k + ds .start) }) (k + ds .end) → Hit d ts s e a
+  numeric-hit h v z k ds t i a g =
       let u = drop k s in
       let w = t .numeric in
       let m = ending-fits u (w .b) (w .ended .0) in
       let o = opens h in
       let l = o .long in
-      let f : k + d .stop - (k + d .start) ≡ d .stop - d .start = omega arith in
-      let r : Answer = withDigits (kindOf h) (d .code) (record { start = d .start; len = d .stop - d .start }) (d .end) in
+      let f : k + ds .stop - (k + ds .start) ≡ ds .stop - ds .start = omega arith in
+      let r : Answer = withDigits (kindOf h) (ds .code) (record { start = ds .start; len = ds .stop - ds .start }) (ds .end) in
       record {
         p = k;
-        n = d .end;
+        n = ds .end;
         at = inr (stands-front crlf (o .rest) s k (rw (o .front) at (stands-here (fixedText h) s k ∙ w .head)));
         item = items.numeric i;
         ends = ap (λ (x : Answer). x .consumed) (sym g);
         found = ap isFound g ∙ kind-found h;
         digits =
-            digits-on s k r a (numeric-digits h v z u d t) (ap (λ (x : Answer). x .kind) g) (ap (λ (x : Answer). x .number) g) (ap (λ (x : Answer). x .«digits_len») g ∙ f)
+            digits-on s k r a (numeric-digits h v z u ds t) (ap (λ (x : Answer). x .kind) g) (ap (λ (x : Answer). x .number) g) (ap (λ (x : Answer). x .«digits_len») g ∙ f)
             (λ q.
-            let y : k + d .start ≡ placed (k + d .stop - (k + d .start)) (k + d .start) = placed-some (k + d .stop - (k + d .start)) (k + d .start) (λ n. omega arith) in
-            let x : d .start ≡ placed (d .stop - d .start) (d .start) = placed-some (d .stop - d .start) (d .start) (λ n. omega arith) in
+            let y : k + ds .start ≡ placed (k + ds .stop - (k + ds .start)) (k + ds .start) = placed-some (k + ds .stop - (k + ds .start)) (k + ds .start) (λ n. omega arith) in
+            let x : ds .start ≡ placed (ds .stop - ds .start) (ds .start) = placed-some (ds .stop - ds .start) (ds .start) (λ n. omega arith) in
             ap (λ (c : Answer). c .«digits_place») g ∙ sym y ∙ ap (λ (j : ℕ). k + j) x)
             (ap (λ (x : Answer). x .consumed) g);
+        text = no-text d s a (ap (λ (x : Answer). x .«text_len») g);
         finished =
             lf-finished u (w .b + lineEnding u (w .b) - 1) (omega (arith, w .spaces .0, w .digits .0, w .ended .0)) (omega (arith, w .ended .0)) (ending-lf u (w .b) (w .ended .0)) (ofMark mark.Notice 0 ts)
             (mark-texts mark.Notice 0 ts good);
       }
 
-  numeric-sound : (h : Fixed) → isNumeric (kindOf h) ≡ true → getD (fixedText h) (length (fixedText h) - 1) 0 ≡ 58 → ((u : List ℕ) (n : ℕ) → NumericEnded (fixedText h) u n → Some (λ x. NumericEnded (fixedText x) u n) heads) → (a : Answer) → numericTried h (numericError (fixedText h) s e) ≡ tries.Done a → Hit ts s e a
+  numeric-sound : (h : Fixed) → isNumeric (kindOf h) ≡ true → getD (fixedText h) (length (fixedText h) - 1) 0 ≡ 58 → ((u : List ℕ) (n : ℕ) → NumericEnded (fixedText h) u n → Some (λ x. NumericEnded (fixedText x) u n) heads) → (a : Answer) → numericTried h (numericError (fixedText h) s e) ≡ tries.Done a → Hit d ts s e a
   unfolding numericError
   numeric-sound h v z i a g = at-place (findIn (fixedText h) s e) g
     where
-      at-end : (k : ℕ) (q : Numeric) → numericAt (fixedText h) (drop k s) 0 ≡ q → numericTried h (shiftNumeric k q) ≡ tries.Done a → Hit ts s e a
-      at-end k (numeric.Is d) p j =
+      at-end : (k : ℕ) (q : Numeric) → numericAt (fixedText h) (drop k s) 0 ≡ q → numericTried h (shiftNumeric k q) ≡ tries.Done a → Hit d ts s e a
+      at-end k (numeric.Is ds) p j =
           unfold shiftNumeric numericTried in
-          let t = numeric-told (fixedText h) (drop k s) d p in
-          numeric-hit h v z k d t (i (drop k s) (d .end) (t .numeric)) a cc
+          let t = numeric-told (fixedText h) (drop k s) ds p in
+          numeric-hit h v z k ds t (i (drop k s) (ds .end) (t .numeric)) a cc
       at-end k numeric.Nothing p j = absurd (done-next a j (unfold shiftNumeric numericTried in refl))
 
-      at-place : (q : Found) → numericTried h (atFound (fixedText h) s q) ≡ tries.Done a → Hit ts s e a
+      at-place : (q : Found) → numericTried h (atFound (fixedText h) s q) ≡ tries.Done a → Hit d ts s e a
       at-place (At k) j =
           let y : numericTried h (numericAt (fixedText h) s k) ≡ tries.Done a = unfold atFound in j in
           at-end k (numericAt (fixedText h) (drop k s) 0) refl (rw (numeric-moved (fixedText h) s k) at y)
       at-place Nothing j = absurd (done-next a j (unfold atFound numericTried in refl))
 
-  numerics-of : (ls : List Fixed) → Heads ls → ((u : List ℕ) (n : ℕ) → Some (λ x. NumericEnded (fixedText x) u n) ls → Some (λ x. NumericEnded (fixedText x) u n) heads) → (a : Answer) → Some (λ h. numericTried h (numericError (fixedText h) s e) ≡ tries.Done a) ls → Hit ts s e a
+  numerics-of : (ls : List Fixed) → Heads ls → ((u : List ℕ) (n : ℕ) → Some (λ x. NumericEnded (fixedText x) u n) ls → Some (λ x. NumericEnded (fixedText x) u n) heads) → (a : Answer) → Some (λ h. numericTried h (numericError (fixedText h) s e) ≡ tries.Done a) ls → Hit d ts s e a
   numerics-of [] z i a h = absurd h
   numerics-of (x ∷ ls) z i a (inl h) = numeric-sound x (z .0 .0) (z .0 .1) (λ u n v. i u n (inl v)) a h
   numerics-of (x ∷ ls) z i a (inr h) = numerics-of ls (z .1) (λ u n v. i u n (inr v)) a h
@@ -331,7 +352,7 @@ module _ (ts : List Token) (good : Texts ts) (s : List ℕ) (e : ℕ) where
       let z : withPayload kind.Notice (x .number) (trimmedPart s e (e + n)) (e + n) ≡ a = cc in
       let c : a .consumed ≡ e + n = ap (λ (y : Answer). y .consumed) (sym z) in
       let i : a .consumed - e ≡ n = omega arith in
-      inl (rw i (ended-told (x .text) (drop e s) n p), (omega arith, rw (sym z) (refl, (refl, refl))))
+      inl (rw i (ended-told (x .text) (drop e s) n p), (omega arith, rw (sym z) (refl, (refl, (refl, refl)))))
   one-heard x a notice.Unfinished p h =
       let z : nothing e ≡ a = cc in
       inr (unfinished-told (x .text) (drop e s) p, sym z)
@@ -346,14 +367,14 @@ module _ (ts : List Token) (good : Texts ts) (s : List ℕ) (e : ℕ) where
       (λ (q : (heard (noticeAt (x .text) s e) (x .number) s e ≡ tries.Next) × (notices l s e ≡ tries.Done a)). inr (notices-some l a (q .1)))
       (done-one (heard (noticeAt (x .text) s e) (x .number) s e) (notices l s e) a h)
 
-  notices-sound : (a : Answer) → notices (ofMark mark.Notice 0 ts) s e ≡ tries.Done a → Sound ts s e a
+  notices-sound : (a : Answer) → notices (ofMark mark.Notice 0 ts) s e ≡ tries.Done a → Sound d ts s e a
   notices-sound a h =
       let l = ofMark mark.Notice 0 ts in
       let good-l = mark-texts mark.Notice 0 ts good in
       ⊎-elim
       (λ (q : Some (EndedBy a) l).
       let i : Some (λ x. NoticeEnded (x .text) (drop e s) (a .consumed - e)) l = some-map (EndedBy a) (λ x. NoticeEnded (x .text) (drop e s) (a .consumed - e)) (λ x v. v .0) l q in
-      inl (some-any (EndedBy a) (Hit ts s e a) (λ x v.
+      inl (some-any (EndedBy a) (Hit d ts s e a) (λ x v.
       let b = notice-lf (x .text) (drop e s) (a .consumed - e) (v .0) in
       record {
         p = e;
@@ -362,7 +383,8 @@ module _ (ts : List Token) (good : Texts ts) (s : List ℕ) (e : ℕ) where
         item = items.notice i;
         ends = omega (arith, v .1 .0);
         found = v .1 .1 .0;
-        digits = plain-digits s a (v .1 .1);
+        digits = no-digits s a (v .1 .1 .1 .0) (v .1 .1 .1 .1 .0);
+        text = no-text d s a (v .1 .1 .1 .1 .1);
         finished = lf-finished (drop e s) (a .consumed - e - 1) (omega (arith, b .1 .0)) (omega (arith, b .0, b .1 .0)) (b .1 .1) l good-l;
       }) l q))
       (λ (q : Some (BrokenBy a) l).
@@ -379,7 +401,7 @@ module _ (ts : List Token) (good : Texts ts) (s : List ℕ) (e : ℕ) where
 
   -- prompts, which take all there is
   module _ (inside : e ≤ length s) (quiet : notices (ofMark mark.Notice 0 ts) s e ≡ tries.Next) where
-    all-hit : Item ts (drop e s) (length (drop e s)) → (a : Answer) → a .consumed ≡ length s → Plain a → Hit ts s e a
+    all-hit : Item d ts (drop e s) (length (drop e s)) → (a : Answer) → a .consumed ≡ length s → Plain a → Hit d ts s e a
     all-hit i a c g =
         record {
           p = e;
@@ -388,16 +410,17 @@ module _ (ts : List Token) (good : Texts ts) (s : List ℕ) (e : ℕ) where
           item = i;
           ends = omega (arith, c, length-drop e s);
           found = g .0;
-          digits = plain-digits s a g;
+          digits = no-digits s a (g .1 .0) (g .1 .1 .0);
+          text = no-text d s a (g .1 .1 .1);
           finished = notices-quiet (ofMark mark.Notice 0 ts) quiet;
         }
 
     prompt-done : (b : Bool) (c : ℕ) (a : Answer) → promptTried b c s ≡ tries.Done a → (b ≡ true) × ((a .consumed ≡ length s) × Plain a)
     unfolding promptTried
-    prompt-done true c a h = let z : withNumber kind.Prompt c (length s) ≡ a = cc in (refl, (ap (λ (x : Answer). x .consumed) (sym z), rw (sym z) (refl, (refl, refl))))
+    prompt-done true c a h = let z : withNumber kind.Prompt c (length s) ≡ a = cc in (refl, (ap (λ (x : Answer). x .consumed) (sym z), rw (sym z) (refl, (refl, (refl, refl)))))
     prompt-done false c a h = absurd (done-next a h refl)
 
-    prompt-sound : (c : ℕ) → (FirstAlone c (drop e s) → FirstAlone 62 (drop e s) ⊎ FirstAlone 64 (drop e s)) → (a : Answer) → promptTried (promptFrom c s e) c s ≡ tries.Done a → Hit ts s e a
+    prompt-sound : (c : ℕ) → (FirstAlone c (drop e s) → FirstAlone 62 (drop e s) ⊎ FirstAlone 64 (drop e s)) → (a : Answer) → promptTried (promptFrom c s e) c s ≡ tries.Done a → Hit d ts s e a
     prompt-sound c mk a h =
         let w = prompt-done (promptFrom c s e) c a h in
         all-hit (items.prompt (mk (alone-told c (drop e s) (sym (prompt-moved c s e inside) ∙ w .0))) refl) a (w .1 .0) (w .1 .1)
@@ -415,7 +438,7 @@ module _ (ts : List Token) (good : Texts ts) (s : List ℕ) (e : ℕ) where
         (inr (w .0), w .1))
         (done-one (promptTried (customPrompt (x .text) s e) (x .prompt) s) (customPrompts l s e) a h)
 
-    prompts-sound : (a : Answer) → prompts (ofMark mark.Prompt 0 ts) s e ≡ tries.Done a → Hit ts s e a
+    prompts-sound : (a : Answer) → prompts (ofMark mark.Prompt 0 ts) s e ≡ tries.Done a → Hit d ts s e a
     unfolding prompts
     prompts-sound a h =
         let l = ofMark mark.Prompt 0 ts in
@@ -429,47 +452,102 @@ module _ (ts : List Token) (good : Texts ts) (s : List ℕ) (e : ℕ) where
         (done-one (customPrompts l s e) (orElse (promptTried (promptFrom 62 s e) 62 s) (promptTried (promptFrom 64 s e) 64 s)) a h)
 
   -- the chains of rules 3 and 5: whichever answered, an item was found
-  either : (t r : Tried) (a : Answer) → (t ≡ tries.Done a → Hit ts s e a) → (r ≡ tries.Done a → Hit ts s e a) → orElse t r ≡ tries.Done a → Hit ts s e a
+  either : (t r : Tried) (a : Answer) → (t ≡ tries.Done a → Hit d ts s e a) → (r ≡ tries.Done a → Hit d ts s e a) → orElse t r ≡ tries.Done a → Hit d ts s e a
   either t r a f g h = ⊎-elim f (λ (q : (t ≡ tries.Next) × (r ≡ tries.Done a)). g (q .1)) (done-one t r a h)
 
-  successes-sound : (a : Answer) → successes (ofMark mark.Success 0 ts) s e ≡ tries.Done a → Hit ts s e a
+  -- CONNECT: the bare line, or one with text
+  bare-at : (a : Answer) (k : ℕ) → stands (fixedText fixed.Connect) s k ≡ true → connected s e k (At (k + 11)) ≡ tries.Done a → LineAt s a fixed.Connect
+  unfolding connected
+  bare-at a k h g =
+      let z : withText (trimmedPart s e k) (record { start = k + 10; len = k + 11 - (k + 12) }) (k + 11) ≡ a = cc in
+      let l : k + 11 - (k + 12) ≡ 0 = omega arith in
+      record { k = k; here = h; ends = ap (λ (x : Answer). x .consumed) (sym z); plain = λ n. rw (sym z) (refl, (refl, (refl, l))) }
+
+  text-hit : (a : Answer) (k end : ℕ) → TextAt d s k end → connected s e k (At end) ≡ tries.Done a → Hit d ts s e a
+  unfolding connected
+  text-hit a k end t g =
+      let u = drop k s in
+      let w = found-at crlf s (k + 10) (t .q) (t .found) in
+      let f = stands-fits crlf s (t .q) (omega arith) (w .here) in
+      let v = texted-told s k (t .head) (t .q) (t .found) in
+      let z : withText (trimmedPart s e k) (record { start = k + 10; len = end - (k + 12) }) end ≡ a = cc in
+      let i : v .q + 1 ≡ t .q + 2 - k - 1 = omega (arith, v .ended, v .behind) in
+      record {
+        p = k;
+        n = t .q + 2 - k;
+        at = inr (stands-front crlf (bytes "CONNECT ") s k (t .head));
+        item = items.text (t .hears) v;
+        ends = omega (arith, w .after, t .ends, ap (λ (x : Answer). x .consumed) (sym z));
+        found = rw (sym z);
+        digits = no-digits s a (rw (sym z)) (rw (sym z));
+        text = rw (sym z) (told w);
+        finished =
+            lf-finished u (t .q + 2 - k - 1) (omega (arith, w .after)) (rw length-drop (omega (arith, w .after, f))) (ap (λ (n : ℕ). getD u n 0) (sym i) ∙ crlf-lf u (v .q) (v .here)) (ofMark mark.Notice 0 ts)
+            (mark-texts mark.Notice 0 ts good);
+      }
+    where
+      told : FoundAt crlf s (k + 10) (t .q) → 0 < end - (k + 12) → TextOf d s (withText (trimmedPart s e k) (record { start = k + 10; len = end - (k + 12) }) end)
+      told w l =
+          let y : k + 10 ≡ placed (end - (k + 12)) (k + 10) = placed-some (end - (k + 12)) (k + 10) (λ n. omega arith) in
+          let h : k + 10 - 10 ≡ k = omega arith in
+          let o : k + 10 + (end - (k + 12)) ≡ t .q = omega (arith, t .ends) in
+          rw (sym y)
+          (record {
+            hears = t .hears;
+            ok = refl;
+            head = (omega arith, ap (stands (fixedText fixed.ConnectText) s) h ∙ t .head);
+            inside = λ j a b. w .first j a (omega (arith, o));
+            ended = (ap (stands crlf s) o ∙ w .here, omega (arith, o, t .ends));
+          })
+
+  connect-sound : (r : Found) → (a : Answer) → connectSuccess d s e r ≡ tries.Done a → Hit d ts s e a
+  unfolding connectSuccess
+  connect-sound (At k) a h = go (connectAt d s k) refl h
+    where
+      go : (r : Found) → connectAt d s k ≡ r → connected s e k r ≡ tries.Done a → Hit d ts s e a
+      go (At end) q g =
+          ⊎-elim
+          (λ (w : (stands (fixedText fixed.Connect) s k ≡ true) × (end ≡ k + 11)).
+          lines-hit (fixed.Connect ∷ []) ((refl, refl), tt) (λ u n. ⊎-elim (λ (v : Line (fixedText fixed.Connect) u n). inr (inl v)) (λ (v : ⊥). absurd v)) a (inl (bare-at a k (w .0) (rw (w .1) at g))))
+          (λ (w : TextAt d s k end). text-hit a k end w g)
+          (connect-told d s k end q)
+      go Nothing q g = absurd (done-next a g (unfold connected in refl))
+  connect-sound Nothing a h = absurd (done-next a h refl)
+
+  successes-sound : (a : Answer) → successes d (ofMark mark.Success 0 ts) s e ≡ tries.Done a → Hit d ts s e a
   unfolding successes
   successes-sound a =
       either (customSuccess (firstCustom (ofMark mark.Success 0 ts) s e) s e) _ a (custom-success-sound (firstCustom (ofMark mark.Success 0 ts) s e) refl a)
-      (λ h. lines-hit successLines ((refl, refl), ((refl, refl), tt)) (λ u n. some-left (λ l. Line (fixedText l) u n) successLines (errorLines ++ (fixed.Na ∷ []))) a (found h))
-    where
-      line : Fixed → Tried
-      line l = lineSuccess s e l (findIn (fixedText l) s e)
+      (either (lineSuccess s e fixed.Ok (findIn (fixedText fixed.Ok) s e)) _ a
+      (λ h. lines-hit (fixed.Ok ∷ []) ((refl, refl), tt) (λ u n. ⊎-elim (λ (v : Line (fixedText fixed.Ok) u n). inl v) (λ (v : ⊥). absurd v)) a (inl (success-at a fixed.Ok (findIn (fixedText fixed.Ok) s e) refl h)))
+      (connect-sound (firstConnect d s e) a))
 
-      found : firstOf line successLines ≡ tries.Done a → Some (LineAt s a) successLines
-      found h = some-map (λ l. line l ≡ tries.Done a) (LineAt s a) (λ l v. success-at a l (findIn (fixedText l) s e) refl v) successLines (first-some line successLines a h)
-
-  lines-sound : (a : Answer) → lineErrors s e ≡ tries.Done a → Hit ts s e a
+  lines-sound : (a : Answer) → lineErrors s e ≡ tries.Done a → Hit d ts s e a
   unfolding lineErrors
   lines-sound a h =
       lines-hit errorLines ((refl, refl), ((refl, refl), ((refl, refl), ((refl, refl), ((refl, refl), ((refl, refl), tt))))))
-      (λ u n v. some-right (λ l. Line (fixedText l) u n) successLines (errorLines ++ (fixed.Na ∷ [])) (some-left (λ l. Line (fixedText l) u n) errorLines (fixed.Na ∷ []) v)) a
+      (λ u n v. inr (inr (some-left (λ l. Line (fixedText l) u n) errorLines (fixed.Na ∷ []) v))) a
       (some-map (λ l. line l ≡ tries.Done a) (LineAt s a) (λ l v. line-at a l (findIn (fixedText l) s e) refl v) errorLines (first-some line errorLines a h))
     where
       line : Fixed → Tried
       line l = lineTried l (findIn (fixedText l) s e)
 
-  errors-sound : (a : Answer) → errors (ofMark mark.Error 0 ts) s e ≡ tries.Done a → Hit ts s e a
+  errors-sound : (a : Answer) → errors (ofMark mark.Error 0 ts) s e ≡ tries.Done a → Hit d ts s e a
   unfolding errors numericErrors
   errors-sound a =
       either (customError (firstCustom (ofMark mark.Error 0 ts) s e)) _ a (custom-error-sound (firstCustom (ofMark mark.Error 0 ts) s e) refl a)
       (either (numericErrors s e) _ a (λ h. numerics-of heads ((refl, refl), ((refl, refl), ((refl, refl), tt))) (λ u n v. v) a (first-some (λ x. numericTried x (numericError (fixedText x) s e)) heads a h))
       (either (lineErrors s e) _ a (lines-sound a)
-      (λ h. lines-hit (fixed.Na ∷ []) ((refl, refl), tt) (λ u n v. some-right (λ l. Line (fixedText l) u n) successLines (errorLines ++ (fixed.Na ∷ [])) (some-right (λ l. Line (fixedText l) u n) errorLines (fixed.Na ∷ []) v)) a (inl (na-at a h)))))
+      (λ h. lines-hit (fixed.Na ∷ []) ((refl, refl), tt) (λ u n v. inr (inr (some-right (λ l. Line (fixedText l) u n) errorLines (fixed.Na ∷ []) v))) a (inl (na-at a h)))))
 
-  pub tried-sound : e ≤ length s → (a : Answer) → tried ts s e ≡ tries.Done a → Sound ts s e a
+  pub tried-sound : e ≤ length s → (a : Answer) → tried d ts s e ≡ tries.Done a → Sound d ts s e a
   unfolding tried
   tried-sound i a h =
       let n = notices (ofMark mark.Notice 0 ts) s e in
       ⊎-elim
       (λ (q : n ≡ tries.Done a). notices-sound a q)
-      (λ (q : (n ≡ tries.Next) × (orElse (successes (ofMark mark.Success 0 ts) s e) (orElse (prompts (ofMark mark.Prompt 0 ts) s e) (errors (ofMark mark.Error 0 ts) s e)) ≡ tries.Done a)).
+      (λ (q : (n ≡ tries.Next) × (orElse (successes d (ofMark mark.Success 0 ts) s e) (orElse (prompts (ofMark mark.Prompt 0 ts) s e) (errors (ofMark mark.Error 0 ts) s e)) ≡ tries.Done a)).
       inl
-      (either (successes (ofMark mark.Success 0 ts) s e) (orElse (prompts (ofMark mark.Prompt 0 ts) s e) (errors (ofMark mark.Error 0 ts) s e)) a (successes-sound a)
+      (either (successes d (ofMark mark.Success 0 ts) s e) (orElse (prompts (ofMark mark.Prompt 0 ts) s e) (errors (ofMark mark.Error 0 ts) s e)) a (successes-sound a)
       (either (prompts (ofMark mark.Prompt 0 ts) s e) (errors (ofMark mark.Error 0 ts) s e) a (prompts-sound i (q .0) a) (errors-sound a)) (q .1)))
-      (done-one n (orElse (successes (ofMark mark.Success 0 ts) s e) (orElse (prompts (ofMark mark.Prompt 0 ts) s e) (errors (ofMark mark.Error 0 ts) s e))) a h)
+      (done-one n (orElse (successes d (ofMark mark.Success 0 ts) s e) (orElse (prompts (ofMark mark.Prompt 0 ts) s e) (errors (ofMark mark.Error 0 ts) s e))) a h)

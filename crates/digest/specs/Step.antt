@@ -19,6 +19,7 @@ use Rattle.text.specs.declared.Found.the-variants.{At, Nothing}
 use Rattle.table.specs.Table.{Token, Entry, ofMark, tokens}
 use Rattle.table.specs.declared.Mark.the-variants as mark
 use Rattle.lines.specs.Lines.{crlf, fixedText}
+use Rattle.lines.specs.declared.Digester.{Digester}
 use Rattle.lines.specs.declared.Fixed.{Fixed}
 use Rattle.lines.specs.declared.Fixed.the-variants as fixed
 use Rattle.parser.specs.Parser.{numericError, promptFrom, customPrompt, noticeAt}
@@ -31,7 +32,7 @@ use Rattle.answers.specs.declared.Kind.{Kind}
 use Rattle.answers.specs.declared.Kind.the-variants as kind
 use Rattle.answers.specs.declared.Answer.{Answer}
 use Rattle.answers.specs.Answer.{isFound, nothing, withPayload, shift, longest, shiftWithin, Within}
-use Rattle.answers.specs.Laws.{longer-within, bare-within, nothing-within, number-within, digits-within, payload-within, shift-within, shift-is}
+use Rattle.answers.specs.Laws.{longer-within, bare-within, nothing-within, number-within, digits-within, payload-within, text-within, shift-within, shift-is}
 use Rattle.items.specs.declared.Occurs.{Occurs}
 use Rattle.items.specs.declared.Occurs.the-variants as occurs
 use Rattle.items.specs.declared.Tried.{Tried}
@@ -39,9 +40,10 @@ use Rattle.items.specs.declared.Tried.the-variants as tries
 use Rattle.items.specs.declared.Hints.{Hints}
 use Rattle.items.specs.declared.Level.{Level}
 use Rattle.items.specs.declared.Level.the-variants as level
-use Rattle.items.specs.Rules.{orElse, firstOf, skipped, trimmedPart, heard, notices, firstCustom, kindOf, success, customSuccess, lineSuccess, successLines, successes, promptTried, customPrompts, prompts, customError, heads, numericTried, numericErrors, errorLines, lineTried, lineErrors, notAllowed, errors, tried}
+use Rattle.items.specs.Rules.{orElse, firstOf, skipped, trimmedPart, heard, notices, firstCustom, kindOf, success, customSuccess, lineSuccess, connectAt, firstConnect, connected, connectSuccess, successes, promptTried, customPrompts, prompts, customError, heads, numericTried, numericErrors, errorLines, lineTried, lineErrors, notAllowed, errors, tried}
 use Rattle.items.specs.Hints.{Known, Says}
 use Rattle.items.specs.Laws.{occurs-room}
+use Rattle.items.specs.Connect.{LeastSays, least-connect, connect-room}
 use Rattle.level.specs.Level.{levelFrom, GoneAll}
 use Rattle.level.specs.Laws.{trim-room, line-room, na-room, skipped-le}
 use Rattle.level.specs.Levels.{handed, level-says}
@@ -79,7 +81,7 @@ pub by-length : (P : List ℕ → Type 0) → ((s : List ℕ) → ((l : List ℕ
 by-length P step s = by-bound P step (suc (length s)) s (omega arith)
 
 -- fuel does not matter
-after-same : (s : List ℕ) (f g : List ℕ → Answer) (e : ℕ) (t : Tried) → (retries s e ≡ true → f (drop (e + 2) s) ≡ g (drop (e + 2) s)) → after s f e t ≡ after s g e t
+pub after-same : (s : List ℕ) (f g : List ℕ → Answer) (e : ℕ) (t : Tried) → (retries s e ≡ true → f (drop (e + 2) s) ≡ g (drop (e + 2) s)) → after s f e t ≡ after s g e t
 unfolding after
 after-same s f g e (tries.Done a) h = refl
 after-same s f g e tries.Next h = same-way (nothing e) (retries s e) (λ q. ap (again e) (h q))
@@ -87,21 +89,21 @@ after-same s f g e tries.Next h = same-way (nothing e) (retries s e) (λ q. ap (
 pub rest-shorter : (s : List ℕ) (e : ℕ) → retries s e ≡ true → length (drop (e + 2) s) < length s
 rest-shorter s e h = omega (arith, retries-room s e h, length-drop (e + 2) s)
 
-same-fuel : (n m : ℕ) (ts : List Token) (s : List ℕ) → length s < n → length s < m → digestBy n ts s ≡ digestBy m ts s
+same-fuel : (n m : ℕ) (d : Digester) (ts : List Token) (s : List ℕ) → length s < n → length s < m → digestBy n d ts s ≡ digestBy m d ts s
 unfolding digestBy
-same-fuel zero m ts s h g = absurd (not-suc-le-zero h)
-same-fuel (suc n) zero ts s h g = absurd (not-suc-le-zero g)
-same-fuel (suc n) (suc m) ts s h g =
+same-fuel zero m d ts s h g = absurd (not-suc-le-zero h)
+same-fuel (suc n) zero d ts s h g = absurd (not-suc-le-zero g)
+same-fuel (suc n) (suc m) d ts s h g =
     let e = skipped s in
-    after-same s (digestBy n ts) (digestBy m ts) e (tried ts s e)
-    (λ q. same-fuel n m ts (drop (e + 2) s) (omega (arith, rest-shorter s e q)) (omega (arith, rest-shorter s e q)))
+    after-same s (digestBy n d ts) (digestBy m d ts) e (tried d ts s e)
+    (λ q. same-fuel n m d ts (drop (e + 2) s) (omega (arith, rest-shorter s e q)) (omega (arith, rest-shorter s e q)))
 
-pub digest-step : (ts : List Token) (s : List ℕ) → digestIn ts s ≡ after s (digestIn ts) (skipped s) (tried ts s (skipped s))
+pub digest-step : (d : Digester) (ts : List Token) (s : List ℕ) → digestIn d ts s ≡ after s (digestIn d ts) (skipped s) (tried d ts s (skipped s))
 unfolding digestIn digestBy
-digest-step ts s =
+digest-step d ts s =
     let e = skipped s in
-    after-same s (digestBy (length s) ts) (digestIn ts) e (tried ts s e)
-    (λ q. same-fuel (length s) (suc (length (drop (e + 2) s))) ts (drop (e + 2) s) (rest-shorter s e q) (omega arith))
+    after-same s (digestBy (length s) d ts) (digestIn d ts) e (tried d ts s e)
+    (λ q. same-fuel (length s) (suc (length (drop (e + 2) s))) d ts (drop (e + 2) s) (rest-shorter s e q) (omega arith))
 
 -- the answer that a rule gives, if it gives one, has a property
 abbrev pub TriedHas : (Answer → Type 0) → Tried → Type 0
@@ -153,6 +155,19 @@ module _ (s : List ℕ) (e : ℕ) where
   line-success-within l (At k) p = let w = line-room s e l (At k) (sym p) k refl in part-within kind.Ok 0 k (k + length (fixedText l)) (w .0) (omega arith) (w .1)
   line-success-within l Nothing p = tt
 
+  connected-within : (d : Digester) (k : ℕ) → e ≤ k → (r : Found) → connectAt d s k ≡ r → TriedHas (Within (length s)) (connected s e k r)
+  unfolding connected trimmedPart
+  connected-within d k h (At end) p =
+      let w = connect-room d s k end p in
+      let t = trimmed (isBlank blanks.Trim) (take (k - e) (drop e s)) in
+      text-within (record { start = e + t .start; len = t .len }) (record { start = k + 10; len = end - (k + 12) }) end (length s) (omega (arith, w .0, trim-room s e k h (omega (arith, w .0, w .1)) t refl)) (omega (arith, w .0)) (w .1)
+  connected-within d k h Nothing p = tt
+
+  connect-within : (d : Digester) (r : Found) → LeastSays d s e r → TriedHas (Within (length s)) (connectSuccess d s e r)
+  unfolding connectSuccess
+  connect-within d (At k) w = connected-within d k (w .after) (connectAt d s k) refl
+  connect-within d Nothing w = tt
+
   line-within : (l : Fixed) (r : Found) → findIn (fixedText l) s e ≡ r → TriedHas (Within (length s)) (lineTried l r)
   unfolding lineTried
   line-within l (At k) p = bare-within (kindOf l) (k + length (fixedText l)) (length s) (line-room s e l (At k) (sym p) k refl .1)
@@ -178,11 +193,11 @@ module _ (s : List ℕ) (e : ℕ) where
   unfolding notAllowed
   na-within = ways (TriedHas (Within (length s))) (stands (fixedText fixed.Na) s e) (λ q. bare-within kind.NotAllowed (e + 6) (length s) (na-room s e true (sym q) refl)) (λ q. tt)
 
-  successes-within : (l : List Entry) → TriedHas (Within (length s)) (successes l s e)
+  successes-within : (d : Digester) (l : List Entry) → TriedHas (Within (length s)) (successes d l s e)
   unfolding successes
-  successes-within l =
+  successes-within d l =
       either-has (Within (length s)) (customSuccess (firstCustom l s e) s e) _ (custom-success-within l (firstCustom l s e) refl)
-      (first-has (Within (length s)) (λ x. lineSuccess s e x (findIn (fixedText x) s e)) (λ x. line-success-within x (findIn (fixedText x) s e) refl) successLines)
+      (either-has (Within (length s)) (lineSuccess s e fixed.Ok (findIn (fixedText fixed.Ok) s e)) _ (line-success-within fixed.Ok (findIn (fixedText fixed.Ok) s e) refl) (connect-within d (firstConnect d s e) (least-connect d s e)))
 
   prompts-within : (l : List Entry) → TriedHas (Within (length s)) (prompts l s e)
   unfolding prompts
@@ -197,11 +212,11 @@ module _ (s : List ℕ) (e : ℕ) where
       (either-has (Within (length s)) (numericErrors s e) _ (first-has (Within (length s)) (λ h. numericTried h (numericError (fixedText h) s e)) (λ h. numeric-within h (numericError (fixedText h) s e) refl) heads)
       (either-has (Within (length s)) (lineErrors s e) _ (first-has (Within (length s)) (λ x. lineTried x (findIn (fixedText x) s e)) (λ x. line-within x (findIn (fixedText x) s e) refl) errorLines) na-within))
 
-  pub tried-within : e ≤ length s → (ts : List Token) → TriedHas (Within (length s)) (tried ts s e)
+  pub tried-within : e ≤ length s → (d : Digester) (ts : List Token) → TriedHas (Within (length s)) (tried d ts s e)
   unfolding tried
-  tried-within h ts =
+  tried-within h d ts =
       either-has (Within (length s)) (notices (ofMark mark.Notice 0 ts) s e) _ (notices-within h (ofMark mark.Notice 0 ts))
-      (either-has (Within (length s)) (successes (ofMark mark.Success 0 ts) s e) _ (successes-within (ofMark mark.Success 0 ts))
+      (either-has (Within (length s)) (successes d (ofMark mark.Success 0 ts) s e) _ (successes-within d (ofMark mark.Success 0 ts))
       (either-has (Within (length s)) (prompts (ofMark mark.Prompt 0 ts) s e) _ (prompts-within (ofMark mark.Prompt 0 ts)) (errors-within (ofMark mark.Error 0 ts))))
 
 again-within : (s : List ℕ) (e : ℕ) (r : Answer) → e ≤ length s → e + 2 ≤ length s → Within (length s - (e + 2)) r → Within (length s) (again e r)
@@ -219,54 +234,54 @@ after-within s f e tries.Next h w g =
     (λ q. again-within s e (f (drop (e + 2) s)) h (omega (arith, retries-room s e q)) (rw (length-drop (e + 2) s) at (g q)))
     (λ q. nothing-within e (length s) h)
 
-pub digest-within : (ts : List Token) (s : List ℕ) → Within (length s) (digestIn ts s)
-digest-within ts = by-length (λ s. Within (length s) (digestIn ts s)) one
+pub digest-within : (d : Digester) (ts : List Token) (s : List ℕ) → Within (length s) (digestIn d ts s)
+digest-within d ts = by-length (λ s. Within (length s) (digestIn d ts s)) one
   where
-    one : (s : List ℕ) → ((l : List ℕ) → length l < length s → Within (length l) (digestIn ts l)) → Within (length s) (digestIn ts s)
+    one : (s : List ℕ) → ((l : List ℕ) → length l < length s → Within (length l) (digestIn d ts l)) → Within (length s) (digestIn d ts s)
     one s ih =
         let e = skipped s in
-        rw (digest-step ts s)
-        (after-within s (digestIn ts) e (tried ts s e) (skipped-le s) (tried-within s e (skipped-le s) ts) (λ q. ih (drop (e + 2) s) (rest-shorter s e q)))
+        rw (digest-step d ts s)
+        (after-within s (digestIn d ts) e (tried d ts s e) (skipped-le s) (tried-within s e (skipped-le s) d ts) (λ q. ih (drop (e + 2) s) (rest-shorter s e q)))
 
 -- a level below the outermost one needs to be told what is gone and known
-pub said : (t s : List ℕ) (h : Hints) (b : Bool) → length s ≤ 4096 → (b ≡ false → GoneAll (tokens t) s × Known s 0 h) → (r : Level) → r ≡ levelFrom b t s h → Says s (skipped s) (tried (tokens t) s (skipped s)) r
-said t s h b l w r q = rw q (level-says t s h b l w)
+pub said : (d : Digester) (t s : List ℕ) (h : Hints) (b : Bool) → length s ≤ 4096 → (b ≡ false → GoneAll d (tokens t) s × Known s 0 h) → (r : Level) → r ≡ levelFrom b d t s h → Says s (skipped s) (tried d (tokens t) s (skipped s)) r
+said d t s h b l w r q = rw q (level-says d t s h b l w)
 
 -- The ways out of a level: r is what it gave, and it says what rules 1 to 5 say.
-module _ (ts : List Token) (s : List ℕ) (r : Level) (w : Says s (skipped s) (tried ts s (skipped s)) r) where
-  pub digest-done : (a : Answer) → r ≡ level.Done a → a ≡ digestIn ts s
+module _ (d : Digester) (ts : List Token) (s : List ℕ) (r : Level) (w : Says s (skipped s) (tried d ts s (skipped s)) r) where
+  pub digest-done : (a : Answer) → r ≡ level.Done a → a ≡ digestIn d ts s
   unfolding after
-  digest-done a q = let z : tried ts s (skipped s) ≡ tries.Done a = rw q at w in sym (rw z at (digest-step ts s))
+  digest-done a q = let z : tried d ts s (skipped s) ≡ tries.Done a = rw q at w in sym (rw z at (digest-step d ts s))
 
   module _ (e : ℕ) (h : Hints) (q : r ≡ level.Next e h) where
-    next : (tried ts s (skipped s) ≡ tries.Next) × ((e ≡ skipped s) × Known s (skipped s) h)
+    next : (tried d ts s (skipped s) ≡ tries.Next) × ((e ≡ skipped s) × Known s (skipped s) h)
     next = rw q at w
 
     module _ (b : Bool) (u : b ≡ retries s e) where
-      pub digest-stop : b ≡ false → (a : Answer) → a ≡ nothing e → a ≡ digestIn ts s
+      pub digest-stop : b ≡ false → (a : Answer) → a ≡ nothing e → a ≡ digestIn d ts s
       unfolding after
       digest-stop z a v =
           let f : retries s (skipped s) ≡ false = ap (retries s) (sym (next .1 .0)) ∙ sym u ∙ z in
-          v ∙ ap nothing (next .1 .0) ∙ sym (rw (next .0, f) at (digest-step ts s))
+          v ∙ ap nothing (next .1 .0) ∙ sym (rw (next .0, f) at (digest-step d ts s))
 
       module _ (z : b ≡ true) where
         pub retry-room : e + 4 < length s
         retry-room = retries-room s e (sym u ∙ z)
 
-        pub retry-known : GoneAll ts (take (length s - (e + 2)) (drop (e + 2) s)) × Known (take (length s - (e + 2)) (drop (e + 2) s)) 0 h
-        retry-known = handed ts s (skipped s) (e + 2) h (omega (arith, next .1 .0)) (omega (arith, retry-room)) (next .0) (next .1 .1)
+        pub retry-known : GoneAll d ts (take (length s - (e + 2)) (drop (e + 2) s)) × Known (take (length s - (e + 2)) (drop (e + 2) s)) 0 h
+        retry-known = handed d ts s (skipped s) (e + 2) h (omega (arith, next .1 .0)) (omega (arith, retry-room)) (next .0) (next .1 .1)
 
-        module _ (a : Answer) (v : a ≡ digestIn ts (take (length s - (e + 2)) (drop (e + 2) s))) where
-          of-rest : a ≡ digestIn ts (drop (e + 2) s)
-          of-rest = v ∙ ap (digestIn ts) (rest s (e + 2))
+        module _ (a : Answer) (v : a ≡ digestIn d ts (take (length s - (e + 2)) (drop (e + 2) s))) where
+          of-rest : a ≡ digestIn d ts (drop (e + 2) s)
+          of-rest = v ∙ ap (digestIn d ts) (rest s (e + 2))
 
-          pub digest-again : (d : Answer) → d ≡ again e a → d ≡ digestIn ts s
+          pub digest-again : (x : Answer) → x ≡ again e a → x ≡ digestIn d ts s
           unfolding after
-          digest-again d m =
+          digest-again x m =
               let f : retries s (skipped s) ≡ true = ap (retries s) (sym (next .1 .0)) ∙ sym u ∙ z in
-              m ∙ ap (again e) of-rest ∙ ap (λ (k : ℕ). again k (digestIn ts (drop (k + 2) s))) (next .1 .0) ∙ sym (rw (next .0, f) at (digest-step ts s))
+              m ∙ ap (again e) of-rest ∙ ap (λ (k : ℕ). again k (digestIn d ts (drop (k + 2) s))) (next .1 .0) ∙ sym (rw (next .0, f) at (digest-step d ts s))
 
           pub retry-within : length s ≤ 4096 → (e + 2 ≤ 4096) × Within 4096 a
           retry-within l =
-              let x : Within (length (drop (e + 2) s)) a = rw of-rest (digest-within ts (drop (e + 2) s)) in
+              let x : Within (length (drop (e + 2) s)) a = rw of-rest (digest-within d ts (drop (e + 2) s)) in
               (omega (arith, retry-room), longer-within (length (drop (e + 2) s)) 4096 a x (omega (arith, length-drop (e + 2) s)))

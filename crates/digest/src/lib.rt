@@ -13,6 +13,7 @@ ghost use Rattle.digest.specs.Heard.{HeardIn};
 use answers::Answer;
 use items::Hints;
 use items::Level;
+use lines::Digester;
 use table::Checked;
 
 // Rule 6: does the digester call itself?
@@ -38,33 +39,33 @@ fn again(r: Answer, e: usize) -> Answer
 
 // Rules 1 to 7 below the outermost level, recursing on the suffix after the leading CRLF. All else of a level is done in `level_from`,
 // which has two callers, so that this function's frame doesn't hold what it needs.
-fn retry_in(table: &[u8], s: &[u8], hints: Hints) -> Answer
-    requires { ⌜ (length (now s) ≤ 4096) × (GoneAll (tokens (now table)) (now s) × Known (now s) 0 hints) ⌝ }
-    ensures { λ r. ⌜ r ≡ digestIn (tokens (now (table .entry))) (now (s .entry)) ⌝ }
+fn retry_in(digester: Digester, table: &[u8], s: &[u8], hints: Hints) -> Answer
+    requires { ⌜ (length (now s) ≤ 4096) × (GoneAll digester (tokens (now table)) (now s) × Known (now s) 0 hints) ⌝ }
+    ensures { λ r. ⌜ r ≡ digestIn digester (tokens (now (table .entry))) (now (s .entry)) ⌝ }
 {
-    match level::level_from(false, table, s, hints) {
+    match level::level_from(false, digester, table, s, hints) {
         Level::Done(a) => a,
         Level::Next(e, known) => {
             if !retries_at(s, e) {
                 return answers::nothing(e);
             }
-            again(retry_in(table, &s[e + 2..], known), e)
+            again(retry_in(digester, table, &s[e + 2..], known), e)
         }
     }
 }
 
 // Rules 1 to 7 under a table as it lies: the outermost level, then the retry on the suffix after the leading CRLF.
-fn digest_in(table: &[u8], s: &[u8]) -> Answer
+fn digest_in(digester: Digester, table: &[u8], s: &[u8]) -> Answer
     requires { ⌜ length (now s) ≤ 4096 ⌝ }
-    ensures { λ r. ⌜ r ≡ digestIn (tokens (now (table .entry))) (now (s .entry)) ⌝ }
+    ensures { λ r. ⌜ r ≡ digestIn digester (tokens (now (table .entry))) (now (s .entry)) ⌝ }
 {
-    match level::level_from(true, table, s, items::unknown()) {
+    match level::level_from(true, digester, table, s, items::unknown()) {
         Level::Done(a) => a,
         Level::Next(e, known) => {
             if !retries_at(s, e) {
                 return answers::nothing(e);
             }
-            again(retry_in(table, &s[e + 2..], known), e)
+            again(retry_in(digester, table, &s[e + 2..], known), e)
         }
     }
 }
@@ -79,33 +80,34 @@ pub enum Digested {
 // The longest input that is digested.
 pub const LONGEST: usize = answers::LONGEST;
 
-// What the input was: the answer by document 01's rules 1 to 7 under the table, or the refusal. Nothing is demanded of the caller.
+// What the input was: the answer by document 01's rules 1 to 7 under the table, by the digester that the caller chooses (R-3), or the refusal. Nothing is demanded
+// of the caller.
 // None exactly when no line start of the input holds a finished item, and a found item ends at the consumed count (`HeardIn`).
-pub fn digest(table: &[u8], input: &[u8]) -> Digested
-    ensures is { λ r. ⌜ outcome r ≡ digest (now (table .entry)) (now (input .entry)) ⌝ }
-    ensures heard { λ r. ⌜ HeardIn (now (table .entry)) (now (input .entry)) (outcome r) ⌝ }
+pub fn digest(digester: Digester, table: &[u8], input: &[u8]) -> Digested
+    ensures is { λ r. ⌜ outcome r ≡ digest digester (now (table .entry)) (now (input .entry)) ⌝ }
+    ensures heard { λ r. ⌜ HeardIn digester (now (table .entry)) (now (input .entry)) (outcome r) ⌝ }
 {
     if LONGEST < input.len() {
         return Digested::TooLong;
     }
     match table::check(table) {
         Checked::Faulty(k) => Digested::BadTable(k),
-        Checked::Good(_) => Digested::Is(digest_in(table, input)),
+        Checked::Good(_) => Digested::Is(digest_in(digester, table, input)),
     }
 }
 
 // The same under a table that the caller vouches for: it isn't checked. Under a faulty one the records count as they lie,
 // up to the first that can't be read. An input over 4,096 bytes is None with nothing consumed.
-pub fn digest_unchecked(table: &[u8], input: &[u8]) -> Answer
-    ensures { λ r. ⌜ r ≡ digestUnchecked (now (table .entry)) (now (input .entry)) ⌝ }
+pub fn digest_unchecked(digester: Digester, table: &[u8], input: &[u8]) -> Answer
+    ensures { λ r. ⌜ r ≡ digestUnchecked digester (now (table .entry)) (now (input .entry)) ⌝ }
 {
     if input.len() <= LONGEST {
-        return digest_in(table, input);
+        return digest_in(digester, table, input);
     }
     answers::nothing(0)
 }
 
-// The payload of an answer as a part of the caller's own input; a place and length that don't fit give its empty front part.
+// The payload of an answer, its digits (R-2) or its text (R-3) as a part of the caller's own input; a place and length that don't fit give its empty front part.
 pub fn payload(input: &[u8], place: usize, len: usize) -> &[u8]
     ensures { λ r. ⌜ now r ≡ partOf (now (input .entry)) place len ⌝ }
     ensures lies { λ r. ⌜ r .ptr ≡ further (input .entry .ptr) (partAt (now (input .entry)) place len) ⌝ }

@@ -7,7 +7,7 @@ use Rattle.gateway.proofs as calls
 pub wx-table-check-one : Alike calls.wx_table_check.Reads.Post (λ κs r q s t. (r ≡ q) × (s .1 .0 .now ≡ t .1 .0 .now))
 wx-table-check-one κs a r q s t h g = call-one _ r q _ _ h g
 
-pub wx-digest-one : Alike calls.wx_digest.Reads.Post (λ κs r q s t. (r ≡ q) × (s .1 .1 .0 .now ≡ t .1 .1 .0 .now))
+pub wx-digest-one : Alike calls.wx_digest.Reads.Post (λ κs r q s t. (r ≡ q) × (s .1 .1 .1 .0 .now ≡ t .1 .1 .1 .0 .now))
 wx-digest-one κs a r q s t h g = call-one _ r q _ _ h g
 
 pub wx-payload-one : Alike calls.wx_payload.Reads.Post (λ κs r q s t. s .1 .1 .1 .0 .now ≡ t .1 .1 .1 .0 .now)
@@ -40,10 +40,10 @@ wx-queue-put-one κs a r q s t h g = turn-one _ r q _ _ _ _ h g
 pub wx-queue-take-one : Alike calls.wx_queue_take.Reads.Post (λ κs r q s t. (r ≡ q) × ((s .0 .now ≡ t .0 .now) × (s .1 .1 .0 .now ≡ t .1 .1 .0 .now)))
 wx-queue-take-one κs a r q s t h g = took-one _ r q _ _ _ _ h g
 
-pub wx-ingress-advance-one : Alike calls.wx_ingress_advance.Reads.Post (λ κs r q s t. (r ≡ q) × ((s .0 .now ≡ t .0 .now) × ((s .1 .1 .1 .1 .1 .1 .0 .now ≡ t .1 .1 .1 .1 .1 .1 .0 .now) × ((s .1 .1 .1 .0 .now ≡ t .1 .1 .1 .0 .now) × ((s .1 .1 .1 .1 .0 .now ≡ t .1 .1 .1 .1 .0 .now) × (s .1 .1 .1 .1 .1 .0 .now ≡ t .1 .1 .1 .1 .1 .0 .now))))))
+pub wx-ingress-advance-one : Alike calls.wx_ingress_advance.Reads.Post (λ κs r q s t. (r ≡ q) × ((s .0 .now ≡ t .0 .now) × ((s .1 .1 .1 .1 .1 .1 .1 .0 .now ≡ t .1 .1 .1 .1 .1 .1 .1 .0 .now) × ((s .1 .1 .1 .1 .0 .now ≡ t .1 .1 .1 .1 .0 .now) × ((s .1 .1 .1 .1 .1 .0 .now ≡ t .1 .1 .1 .1 .1 .0 .now) × (s .1 .1 .1 .1 .1 .1 .0 .now ≡ t .1 .1 .1 .1 .1 .1 .0 .now))))))
 wx-ingress-advance-one κs a r q s t h g = whole-one _ r q _ _ _ _ _ _ _ _ _ _ h g
 
-pub wx-ingress-write-one : Alike calls.wx_ingress_write.Reads.Post (λ κs r q s t. (r ≡ q) × ((s .0 .now ≡ t .0 .now) × ((s .1 .1 .1 .1 .1 .1 .0 .now ≡ t .1 .1 .1 .1 .1 .1 .0 .now) × ((s .1 .1 .1 .0 .now ≡ t .1 .1 .1 .0 .now) × ((s .1 .1 .1 .1 .0 .now ≡ t .1 .1 .1 .1 .0 .now) × (s .1 .1 .1 .1 .1 .0 .now ≡ t .1 .1 .1 .1 .1 .0 .now))))))
+pub wx-ingress-write-one : Alike calls.wx_ingress_write.Reads.Post (λ κs r q s t. (r ≡ q) × ((s .0 .now ≡ t .0 .now) × ((s .1 .1 .1 .1 .1 .1 .1 .0 .now ≡ t .1 .1 .1 .1 .1 .1 .1 .0 .now) × ((s .1 .1 .1 .1 .0 .now ≡ t .1 .1 .1 .1 .0 .now) × ((s .1 .1 .1 .1 .1 .0 .now ≡ t .1 .1 .1 .1 .1 .0 .now) × (s .1 .1 .1 .1 .1 .1 .0 .now ≡ t .1 .1 .1 .1 .1 .1 .0 .now))))))
 wx-ingress-write-one κs a r q s t h g = whole-one _ r q _ _ _ _ _ _ _ _ _ _ h g
 
 pub wx-ingress-clear-one : Alike calls.wx_ingress_clear.Reads.Post (λ κs r q s t. s .0 .now ≡ t .0 .now)

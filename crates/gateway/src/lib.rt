@@ -1,5 +1,5 @@
 // Document 01's calls for C and Rust: numbers and byte slices go in, the refusal's number comes out (0: not refused).
-// What a call answers stands at the front of a lent array of seven numbers, whose other numbers stay as they were.
+// What a call answers stands at the front of a lent array of nine numbers, whose other numbers stay as they were.
 // Each export promises that it equals the call behind it; none has a condition on its arguments. It changes no number of the state but
 // those that the call gives another meaning.
 ghost use mathlib.Core.Path.{_≡_};
@@ -11,7 +11,7 @@ ghost use Rattle.slot.specs.Slot.{newSlot, signalled, wasReset, wasRead, readab
 ghost use Rattle.queue.specs.Queue.{ours, newQueue, capacityOf, putInto, taken};
 ghost use Rattle.turn.specs.Turn.{world, choice};
 ghost use Rattle.ingress.specs.Ingress.{advanceSays, advanced, writeSays, written, cleared};
-ghost use Rattle.numbers.specs.Numbers.{answerOf, slotOf, queueOf, stateOf, withEnd, withSlot, withQueue, laid, answerValues};
+ghost use Rattle.numbers.specs.Numbers.{digesterOf, answerOf, slotOf, queueOf, stateOf, withEnd, withSlot, withQueue, laid, answerValues};
 ghost use Rattle.gateway.specs.Gateway.{call, said, countValues, partValues, resetSaid, turn, signalSaid, putSaid, readValues, took, takeSaid, leftSaid, whole, wholeSaid, noValues};
 use digest::Digested;
 use ingress::Advanced;
@@ -49,13 +49,14 @@ pub extern "C" fn wx_table_check(table: &[u8], out: &mut [u64; OUT]) -> u32
     }
 }
 
-// Digests an input under a table. Answers kind, number, payload's place and length, bytes consumed, digits' place and length (R-2); refusal 2 the faulty record's
-// number.
+// Digests an input under a table, by the digester of that number (R-3). Answers kind, number, payload's place and length, bytes consumed, digits' place and length
+// (R-2), text's place and length (R-3); refusal 2 the faulty record's number.
 #[no_mangle]
-pub extern "C" fn wx_digest(table: &[u8], input: &[u8], out: &mut [u64; OUT]) -> u32
-    ensures { λ r. ⌜ call r (now (out .exit)) ≡ said answerValues (digest (now (table .entry)) (now (input .entry))) (now (out .entry)) ⌝ }
+pub extern "C" fn wx_digest(digester: u32, table: &[u8], input: &[u8], out: &mut [u64; OUT]) -> u32
+    ensures { λ r. ⌜ call r (now (out .exit)) ≡ said answerValues (digest (digesterOf digester) (now (table .entry)) (now (input .entry))) (now (out .entry)) ⌝ }
 {
-    match digest::digest(table, input) {
+    let chosen = numbers::digester_of(digester);
+    match digest::digest(chosen, table, input) {
         Digested::Is(a) => {
             numbers::lay_answer(out, a);
             0
@@ -82,7 +83,7 @@ fn fitted(s: &[u8], place: usize, len: usize) -> usize
     place
 }
 
-// The payload of an answer, or its digits, fitted: place in the input and length; both 0 where it doesn't fit.
+// The payload of an answer, its digits or its text, fitted: place in the input and length; both 0 where it doesn't fit.
 #[no_mangle]
 pub extern "C" fn wx_payload(input: &[u8], place: usize, len: usize, out: &mut [u64; OUT])
     ensures { λ _. ⌜ now (out .exit) ≡ laid (partValues (now (input .entry)) place len) (now (out .entry)) ⌝ }
@@ -101,7 +102,7 @@ pub extern "C" fn wx_slot_new(state: &mut [u64; NUMBERS])
     numbers::put_slot(state, slot);
 }
 
-// Signals an answer (seven numbers as `wx_digest` leaves them) to the slot, with its payload's bytes, or a numeric error's digits (R-2).
+// Signals an answer (nine numbers as `wx_digest` leaves them) to the slot, with its payload's bytes, or a numeric error's digits (R-2).
 #[no_mangle]
 pub extern "C" fn wx_slot_signal(
     state: &mut [u64; NUMBERS],
@@ -256,17 +257,20 @@ fn lay_advanced(state: &mut [u64; NUMBERS], out: &mut [u64; OUT], what: Advanced
 pub extern "C" fn wx_ingress_advance(
     state: &mut [u64; NUMBERS],
     commit: usize,
+    digester: u32,
     table: &[u8],
     buf: &mut [u8],
     slot_mem: &mut [u8],
     queue_mem: &mut [u8],
     out: &mut [u64; OUT],
 ) -> u32
-    ensures { λ r. ⌜ whole r (now (state .exit)) (now (out .exit)) (now (buf .exit)) (now («slot_mem» .exit)) (now («queue_mem» .exit)) ≡ wholeSaid noValues (advanced (choice (now (table .entry))) commit (world (stateOf (now (state .entry))) (now (buf .entry)) (now («slot_mem» .entry)) (now («queue_mem» .entry)))) (now (state .entry)) (now (out .entry)) ⌝ }
+    ensures { λ r. ⌜ whole r (now (state .exit)) (now (out .exit)) (now (buf .exit)) (now («slot_mem» .exit)) (now («queue_mem» .exit)) ≡ wholeSaid noValues (advanced (choice (digesterOf digester) (now (table .entry))) commit (world (stateOf (now (state .entry))) (now (buf .entry)) (now («slot_mem» .entry)) (now («queue_mem» .entry)))) (now (state .entry)) (now (out .entry)) ⌝ }
 {
+    let chosen = numbers::digester_of(digester);
     let what = ingress::advance(
         numbers::state_of(state),
         commit,
+        chosen,
         table,
         buf,
         slot_mem,
@@ -304,17 +308,20 @@ fn lay_written(state: &mut [u64; NUMBERS], out: &mut [u64; OUT], what: Written) 
 pub extern "C" fn wx_ingress_write(
     state: &mut [u64; NUMBERS],
     piece: &[u8],
+    digester: u32,
     table: &[u8],
     buf: &mut [u8],
     slot_mem: &mut [u8],
     queue_mem: &mut [u8],
     out: &mut [u64; OUT],
 ) -> u32
-    ensures { λ r. ⌜ whole r (now (state .exit)) (now (out .exit)) (now (buf .exit)) (now («slot_mem» .exit)) (now («queue_mem» .exit)) ≡ wholeSaid countValues (written (choice (now (table .entry))) (now (piece .entry)) (world (stateOf (now (state .entry))) (now (buf .entry)) (now («slot_mem» .entry)) (now («queue_mem» .entry)))) (now (state .entry)) (now (out .entry)) ⌝ }
+    ensures { λ r. ⌜ whole r (now (state .exit)) (now (out .exit)) (now (buf .exit)) (now («slot_mem» .exit)) (now («queue_mem» .exit)) ≡ wholeSaid countValues (written (choice (digesterOf digester) (now (table .entry))) (now (piece .entry)) (world (stateOf (now (state .entry))) (now (buf .entry)) (now («slot_mem» .entry)) (now («queue_mem» .entry)))) (now (state .entry)) (now (out .entry)) ⌝ }
 {
+    let chosen = numbers::digester_of(digester);
     let what = ingress::write(
         numbers::state_of(state),
         piece,
+        chosen,
         table,
         buf,
         slot_mem,
@@ -337,7 +344,7 @@ pub extern "C" fn wx_ingress_clear(state: &mut [u64; NUMBERS])
 // meaning of a number in one changes.
 #[no_mangle]
 pub extern "C" fn wx_version() -> u32
-    ensures { λ r. ⌜ r ≡ 2 ⌝ }
+    ensures { λ r. ⌜ r ≡ 3 ⌝ }
 {
-    2
+    3
 }

@@ -61,9 +61,9 @@ underTable (answered k) r = r
 underTable (refused n v) r = refused n v
 
 -- Refusals 1, 2 and 3, in this order: the buffer is over 4,096 bytes, the table breaks a rule, the state isn't sound.
-unfoldable pub checks : Choice → State → ℕ → ℕ → ℕ → Outcome (Unit {0})
+unfoldable pub checks : List ℕ → State → ℕ → ℕ → ℕ → Outcome (Unit {0})
 unfolding underTable isSound
-checks c s b m n = if ltb 4096 b then refused 1 [] else underTable (ruling (c .table)) (if not (isSound s b m n) then refused 3 [] else answered tt)
+checks t s b m n = if ltb 4096 b then refused 1 [] else underTable (ruling t) (if not (isSound s b m n) then refused 3 [] else answered tt)
 
 abbrev pub refusal : Checks → Outcome (Unit {0})
 refusal judges.Good = answered tt
@@ -72,7 +72,7 @@ refusal (judges.BadTable k) = refused 2 (k ∷ [])
 refusal judges.BadState = refused 3 []
 
 abbrev pub judged : Choice → World → Outcome (Unit {0})
-judged c w = checks c (w .state) (length (w .buf)) (length (w .slotMemory)) (length (w .queueMemory))
+judged c w = checks (c .table) (w .state) (length (w .buf)) (length (w .slotMemory)) (length (w .queueMemory))
 
 -- A call that is refused 1, 2 or 3 leaves everything.
 unfoldable pub unlessRefused : {A : Type 0} → Outcome (Unit {0}) → World → Result A → Result A

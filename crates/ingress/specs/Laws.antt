@@ -117,17 +117,17 @@ module _ (s : State) (b m n : ℕ) where
       (leb-true (s .end) b (x .0), (leb-true (s .slot .len) m (y .0), y .1))
 
 -- `checks`
-module _ (c : Choice) (s : State) (b m n : ℕ) where
-  pub checks-long : 4096 < b → refused 1 [] ≡ checks c s b m n
+module _ (t : List ℕ) (s : State) (b m n : ℕ) where
+  pub checks-long : 4096 < b → refused 1 [] ≡ checks t s b m n
   unfolding checks
   checks-long h = rw (lt-ltb 4096 b h)
 
   module _ (l : b ≤ 4096) where
-    pub checks-table : (k : ℕ) → refused 2 (k ∷ []) ≡ ruling (c .table) → refused 2 (k ∷ []) ≡ checks c s b m n
+    pub checks-table : (k : ℕ) → refused 2 (k ∷ []) ≡ ruling t → refused 2 (k ∷ []) ≡ checks t s b m n
     unfolding checks underTable
     checks-table k e = rw (le-ltb 4096 b l, sym e)
 
-    pub checks-state : (k : ℕ) → answered k ≡ ruling (c .table) → (x : Bool) → isSound s b m n ≡ x → _≡_ {A = Outcome (Unit {0})} (if not x then refused 3 [] else answered tt) (checks c s b m n)
+    pub checks-state : (k : ℕ) → answered k ≡ ruling t → (x : Bool) → isSound s b m n ≡ x → _≡_ {A = Outcome (Unit {0})} (if not x then refused 3 [] else answered tt) (checks t s b m n)
     unfolding checks underTable
     checks-state k e x h = rw (le-ltb 4096 b l, sym e, h)
 

@@ -7,6 +7,7 @@ ghost use lib.ListN.{length, take};
 ghost use Rattle.turn.specs.Turn.{world, choice};
 ghost use Rattle.ingress.specs.Ingress.{run, ran, isSound, checks, refusal, advanced, result, writeOnce, writing, writeOn, written, taking, cleared};
 ghost use Rattle.ingress.specs.Story.{Keeps, committedBytes, NothingLeft, NothingAfter, tookOf};
+use lines::Digester;
 use table::Checked;
 use turn::State;
 use turn::Stepped;
@@ -18,12 +19,19 @@ pub enum Ran {
 }
 
 // Turns until the digest consumes 0 or nothing is left.
-fn run(table: &[u8], state: State, buf: &mut [u8], slot_mem: &mut [u8], queue_mem: &mut [u8]) -> Ran
-    ensures { λ r. ⌜ ran r (now (buf .exit)) (now («slot_mem» .exit)) (now («queue_mem» .exit)) ≡ run (choice (now (table .entry))) (world state (now (buf .entry)) (now («slot_mem» .entry)) (now («queue_mem» .entry))) ⌝ }
+fn run(
+    digester: Digester,
+    table: &[u8],
+    state: State,
+    buf: &mut [u8],
+    slot_mem: &mut [u8],
+    queue_mem: &mut [u8],
+) -> Ran
+    ensures { λ r. ⌜ ran r (now (buf .exit)) (now («slot_mem» .exit)) (now («queue_mem» .exit)) ≡ run (choice digester (now (table .entry))) (world state (now (buf .entry)) (now («slot_mem» .entry)) (now («queue_mem» .entry))) ⌝ }
 {
     let mut s = state;
     while 0 < s.end {
-        match turn::step(table, s, buf, slot_mem, queue_mem) {
+        match turn::step(digester, table, s, buf, slot_mem, queue_mem) {
             Stepped::Full => {
                 return Ran::Full(s);
             }
@@ -63,7 +71,7 @@ pub enum Checks {
 
 // Refusals 1, 2 and 3 in this order, for memories of these lengths.
 fn judge(state: State, table: &[u8], buf: usize, slot_mem: usize, queue_mem: usize) -> Checks
-    ensures { λ r. ⌜ refusal r ≡ checks (choice (now (table .entry))) state buf «slot_mem» «queue_mem» ⌝ }
+    ensures { λ r. ⌜ refusal r ≡ checks (now (table .entry)) state buf «slot_mem» «queue_mem» ⌝ }
 {
     if digest::LONGEST < buf {
         return Checks::TooLong;
@@ -92,14 +100,15 @@ pub enum Advanced {
 pub fn advance(
     state: State,
     commit: usize,
+    digester: Digester,
     table: &[u8],
     buf: &mut [u8],
     slot_mem: &mut [u8],
     queue_mem: &mut [u8],
 ) -> Advanced
-    ensures { λ r. ⌜ result state r (now (buf .exit)) (now («slot_mem» .exit)) (now («queue_mem» .exit)) ≡ advanced (choice (now (table .entry))) commit (world state (now (buf .entry)) (now («slot_mem» .entry)) (now («queue_mem» .entry))) ⌝ }
-    ensures keeps { λ r. ⌜ Keeps (choice (now (table .entry))) (world state (now (buf .entry)) (now («slot_mem» .entry)) (now («queue_mem» .entry))) (committedBytes (world state (now (buf .entry)) (now («slot_mem» .entry)) (now («queue_mem» .entry))) commit) (result state r (now (buf .exit)) (now («slot_mem» .exit)) (now («queue_mem» .exit))) ⌝ }
-    ensures nothing_left { λ r. ⌜ NothingLeft (choice (now (table .entry))) (result state r (now (buf .exit)) (now («slot_mem» .exit)) (now («queue_mem» .exit))) ⌝ }
+    ensures { λ r. ⌜ result state r (now (buf .exit)) (now («slot_mem» .exit)) (now («queue_mem» .exit)) ≡ advanced (choice digester (now (table .entry))) commit (world state (now (buf .entry)) (now («slot_mem» .entry)) (now («queue_mem» .entry))) ⌝ }
+    ensures keeps { λ r. ⌜ Keeps (choice digester (now (table .entry))) (world state (now (buf .entry)) (now («slot_mem» .entry)) (now («queue_mem» .entry))) (committedBytes (world state (now (buf .entry)) (now («slot_mem» .entry)) (now («queue_mem» .entry))) commit) (result state r (now (buf .exit)) (now («slot_mem» .exit)) (now («queue_mem» .exit))) ⌝ }
+    ensures nothing_left { λ r. ⌜ NothingLeft (choice digester (now (table .entry))) (result state r (now (buf .exit)) (now («slot_mem» .exit)) (now («queue_mem» .exit))) ⌝ }
 {
     let room = buf.len();
     match judge(state, table, room, slot_mem.len(), queue_mem.len()) {
@@ -112,6 +121,7 @@ pub fn advance(
                 return Advanced::NoRoom;
             }
             match run(
+                digester,
                 table,
                 state.with_end(end + commit),
                 buf,
@@ -133,6 +143,7 @@ pub enum Wrote {
 
 // Copies what fits of the bytes behind those held, and runs turns. Where nothing fits, nothing is digested.
 fn write_once(
+    digester: Digester,
     table: &[u8],
     state: State,
     bytes: &[u8],
@@ -141,7 +152,7 @@ fn write_once(
     queue_mem: &mut [u8],
 ) -> Wrote
     requires { ⌜ state .end ≤ length (now buf) ⌝ }
-    ensures { λ r. ⌜ writing r (now (buf .exit)) (now («slot_mem» .exit)) (now («queue_mem» .exit)) ≡ writeOnce (choice (now (table .entry))) (now (bytes .entry)) (world state (now (buf .entry)) (now («slot_mem» .entry)) (now («queue_mem» .entry))) ⌝ }
+    ensures { λ r. ⌜ writing r (now (buf .exit)) (now («slot_mem» .exit)) (now («queue_mem» .exit)) ≡ writeOnce (choice digester (now (table .entry))) (now (bytes .entry)) (world state (now (buf .entry)) (now («slot_mem» .entry)) (now («queue_mem» .entry))) ⌝ }
 {
     let end = state.end;
     let n = turn::fitting(bytes.len(), buf.len() - end);
@@ -149,7 +160,14 @@ fn write_once(
         return Wrote::Is(state, 0);
     }
     moves::put(buf, end, &bytes[..n]);
-    match run(table, state.with_end(end + n), buf, slot_mem, queue_mem) {
+    match run(
+        digester,
+        table,
+        state.with_end(end + n),
+        buf,
+        slot_mem,
+        queue_mem,
+    ) {
         Ran::Is(s) => Wrote::Is(s, n),
         Ran::Full(s) => Wrote::Full(s, n),
     }
@@ -157,6 +175,7 @@ fn write_once(
 
 // Copies until the piece is used up or there is no room.
 fn write_on(
+    digester: Digester,
     table: &[u8],
     state: State,
     piece: &[u8],
@@ -165,12 +184,20 @@ fn write_on(
     queue_mem: &mut [u8],
 ) -> Wrote
     requires { ⌜ state .end ≤ length (now buf) ⌝ }
-    ensures { λ r. ⌜ writing r (now (buf .exit)) (now («slot_mem» .exit)) (now («queue_mem» .exit)) ≡ writeOn (choice (now (table .entry))) (now (piece .entry)) 0 (world state (now (buf .entry)) (now («slot_mem» .entry)) (now («queue_mem» .entry))) ⌝ }
+    ensures { λ r. ⌜ writing r (now (buf .exit)) (now («slot_mem» .exit)) (now («queue_mem» .exit)) ≡ writeOn (choice digester (now (table .entry))) (now (piece .entry)) 0 (world state (now (buf .entry)) (now («slot_mem» .entry)) (now («queue_mem» .entry))) ⌝ }
 {
     let mut s = state;
     let mut taken = 0;
     loop {
-        match write_once(table, s, &piece[taken..], buf, slot_mem, queue_mem) {
+        match write_once(
+            digester,
+            table,
+            s,
+            &piece[taken..],
+            buf,
+            slot_mem,
+            queue_mem,
+        ) {
             Wrote::Full(next, n) => {
                 return Wrote::Full(next, taken + n);
             }
@@ -200,20 +227,21 @@ pub enum Written {
 pub fn write(
     state: State,
     piece: &[u8],
+    digester: Digester,
     table: &[u8],
     buf: &mut [u8],
     slot_mem: &mut [u8],
     queue_mem: &mut [u8],
 ) -> Written
-    ensures { λ r. ⌜ taking state r (now (buf .exit)) (now («slot_mem» .exit)) (now («queue_mem» .exit)) ≡ written (choice (now (table .entry))) (now (piece .entry)) (world state (now (buf .entry)) (now («slot_mem» .entry)) (now («queue_mem» .entry))) ⌝ }
-    ensures keeps { λ r. ⌜ Keeps (choice (now (table .entry))) (world state (now (buf .entry)) (now («slot_mem» .entry)) (now («queue_mem» .entry))) (take (tookOf (taking state r (now (buf .exit)) (now («slot_mem» .exit)) (now («queue_mem» .exit)) .said)) (now (piece .entry))) (taking state r (now (buf .exit)) (now («slot_mem» .exit)) (now («queue_mem» .exit))) ⌝ }
-    ensures nothing_left { λ r. ⌜ NothingAfter (choice (now (table .entry))) (taking state r (now (buf .exit)) (now («slot_mem» .exit)) (now («queue_mem» .exit))) ⌝ }
+    ensures { λ r. ⌜ taking state r (now (buf .exit)) (now («slot_mem» .exit)) (now («queue_mem» .exit)) ≡ written (choice digester (now (table .entry))) (now (piece .entry)) (world state (now (buf .entry)) (now («slot_mem» .entry)) (now («queue_mem» .entry))) ⌝ }
+    ensures keeps { λ r. ⌜ Keeps (choice digester (now (table .entry))) (world state (now (buf .entry)) (now («slot_mem» .entry)) (now («queue_mem» .entry))) (take (tookOf (taking state r (now (buf .exit)) (now («slot_mem» .exit)) (now («queue_mem» .exit)) .said)) (now (piece .entry))) (taking state r (now (buf .exit)) (now («slot_mem» .exit)) (now («queue_mem» .exit))) ⌝ }
+    ensures nothing_left { λ r. ⌜ NothingAfter (choice digester (now (table .entry))) (taking state r (now (buf .exit)) (now («slot_mem» .exit)) (now («queue_mem» .exit))) ⌝ }
 {
     match judge(state, table, buf.len(), slot_mem.len(), queue_mem.len()) {
         Checks::TooLong => Written::TooLong,
         Checks::BadTable(k) => Written::BadTable(k),
         Checks::BadState => Written::BadState,
-        Checks::Good => match write_on(table, state, piece, buf, slot_mem, queue_mem) {
+        Checks::Good => match write_on(digester, table, state, piece, buf, slot_mem, queue_mem) {
             Wrote::Is(s, n) => Written::Is(s, n),
             Wrote::Full(s, n) => Written::Full(s, n),
         },

@@ -2,3 +2,4 @@ pub mod Rules
 pub mod Hints
 pub mod Laws
 pub mod Says
+pub mod Connect

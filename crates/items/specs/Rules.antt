@@ -1,6 +1,6 @@
 -- Rules 1 to 5 of one digest, in document 01's order. They compute.
 -- The input is s; `buf` is what stands from the place e on, so a place in `buf` is a place of s at or after e.
-use mathlib.Core.Bool.{Bool}
+use mathlib.Core.Bool.{Bool, _&&_}
 use mathlib.Core.List.{List, [], _∷_}
 use Prim.Native.Nat.{ℕ, _+_, _-_}
 use lib.ListN.{length, take, drop}
@@ -12,7 +12,8 @@ use Rattle.text.specs.declared.Found.the-variants.{At, Nothing}
 use Rattle.text.specs.declared.Span.{Span}
 use Rattle.table.specs.Table.{Token, Entry, ofMark}
 use Rattle.table.specs.declared.Mark.the-variants as mark
-use Rattle.lines.specs.Lines.{crlf, fixedText}
+use Rattle.lines.specs.Lines.{hearsText, crlf, fixedText, connectPlace}
+use Rattle.lines.specs.declared.Digester.{Digester}
 use Rattle.lines.specs.declared.Fixed.{Fixed}
 use Rattle.lines.specs.declared.Fixed.the-variants as fixed
 use Rattle.parser.specs.Parser.{numericError, promptFrom, customPrompt, wrapped, noticeAt}
@@ -22,7 +23,7 @@ use Rattle.parser.specs.declared.Notice.{Notice}
 use Rattle.parser.specs.declared.Notice.the-variants as notice
 use Rattle.answers.specs.declared.Kind.{Kind}
 use Rattle.answers.specs.declared.Kind.the-variants as kind
-use Rattle.answers.specs.Answer.{bare, nothing, withNumber, withDigits, withPayload}
+use Rattle.answers.specs.Answer.{bare, nothing, withNumber, withDigits, withPayload, withText}
 use Rattle.items.specs.declared.Occurs.{Occurs}
 use Rattle.items.specs.declared.Occurs.the-variants as occurs
 use Rattle.items.specs.declared.Tried.{Tried}
@@ -76,7 +77,7 @@ unfolding occursOr
 firstCustom [] s e = occurs.Nothing
 firstCustom (x ∷ l) s e = occursOr (findIn (wrapped (x .text)) s e) x (firstCustom l s e)
 
--- the kind that each fixed line of rules 3 and 5, and each numeric error's head, stands for
+-- the kind that each fixed line of rules 3 and 5, and each head, stands for
 abbrev pub kindOf : Fixed → Kind
 kindOf fixed.Ok = kind.Ok
 kindOf fixed.Connect = kind.Ok
@@ -90,6 +91,7 @@ kindOf fixed.Na = kind.NotAllowed
 kindOf fixed.Cme = kind.Cme
 kindOf fixed.Cms = kind.Cms
 kindOf fixed.Modem = kind.Unknown
+kindOf fixed.ConnectText = kind.Ok
 
 -- Rule 3. Payload: the bytes of buf before the line, trimmed. Consumed: through its end.
 unfoldable pub success : List ℕ → ℕ → ℕ → ℕ → Tried
@@ -106,15 +108,39 @@ unfolding success
 lineSuccess s e l (At k) = success s e k (k + length (fixedText l))
 lineSuccess s e l Nothing = Next
 
--- The first CS record that occurs; then OK, else CONNECT.
-abbrev pub successLines : List Fixed
-successLines = fixed.Ok ∷ fixed.Connect ∷ []
+-- R-3. What a CONNECT line is, at k: CRLF, `CONNECT`, then CRLF; or, for a digester that hears it, a space and everything through the next CRLF. Where it ends, if it stands there.
+unfoldable pub throughCrlf : Found → Found
+throughCrlf (At q) = At (q + 2)
+throughCrlf Nothing = Nothing
 
-unfoldable pub successes : List Entry → List ℕ → ℕ → Tried
-unfolding orElse firstOf customSuccess lineSuccess firstCustom
-successes l s e =
+unfoldable pub connectAt : Digester → List ℕ → ℕ → Found
+unfolding throughCrlf
+connectAt d s k =
+    if stands (fixedText fixed.Connect) s k then At (k + 11)
+    else if hearsText d && stands (fixedText fixed.ConnectText) s k then throughCrlf (findIn crlf s (k + 10))
+    else Nothing
+
+-- The first occurrence counts: the least place of either line.
+unfoldable pub firstConnect : Digester → List ℕ → ℕ → Found
+unfolding connectPlace
+firstConnect d s e = connectPlace d (λ l. findIn (fixedText l) s e)
+
+-- An Ok by the CONNECT line at k that ends at `end`. The text is what stands from the space's end to the last CRLF; in the bare line there is none.
+unfoldable pub connected : List ℕ → ℕ → ℕ → Found → Tried
+connected s e k (At end) = Done (withText (trimmedPart s e k) (record { start = k + 10; len = end - (k + 12) }) end)
+connected s e k Nothing = Next
+
+unfoldable pub connectSuccess : Digester → List ℕ → ℕ → Found → Tried
+unfolding connectAt connected
+connectSuccess d s e (At k) = connected s e k (connectAt d s k)
+connectSuccess d s e Nothing = Next
+
+-- The first CS record that occurs; then OK, else CONNECT.
+unfoldable pub successes : Digester → List Entry → List ℕ → ℕ → Tried
+unfolding orElse customSuccess lineSuccess firstCustom connectSuccess firstConnect
+successes d l s e =
     orElse (customSuccess (firstCustom l s e) s e)
-    (firstOf (λ x. lineSuccess s e x (findIn (fixedText x) s e)) successLines)
+    (orElse (lineSuccess s e fixed.Ok (findIn (fixedText fixed.Ok) s e)) (connectSuccess d s e (firstConnect d s e)))
 
 -- Rule 4. A prompt, where the test holds; it consumes all.
 unfoldable pub promptTried : Bool → ℕ → List ℕ → Tried
@@ -169,9 +195,9 @@ unfolding orElse customError firstCustom numericErrors lineErrors notAllowed
 errors l s e = orElse (customError (firstCustom l s e)) (orElse (numericErrors s e) (orElse (lineErrors s e) (notAllowed s e)))
 
 -- rules 2 to 5 in their order, each on the records with its mark
-unfoldable pub tried : List Token → List ℕ → ℕ → Tried
+unfoldable pub tried : Digester → List Token → List ℕ → ℕ → Tried
 unfolding orElse notices successes prompts errors
-tried ts s e =
+tried d ts s e =
     orElse (notices (ofMark mark.Notice 0 ts) s e)
-    (orElse (successes (ofMark mark.Success 0 ts) s e)
+    (orElse (successes d (ofMark mark.Success 0 ts) s e)
     (orElse (prompts (ofMark mark.Prompt 0 ts) s e) (errors (ofMark mark.Error 0 ts) s e)))

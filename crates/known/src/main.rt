@@ -3,6 +3,7 @@ use answers::Answer;
 use answers::Kind;
 use digest::Digested;
 use libc::STDOUT_FILENO;
+use lines::Digester;
 
 fn put(text: &[u8]) {
     io::write_all(STDOUT_FILENO, text);
@@ -80,7 +81,7 @@ fn put_text(payload: &[u8]) {
 
 // One line: the answer, and the bytes consumed.
 fn show(table: &[u8], input: &[u8]) {
-    match digest::digest(table, input) {
+    match digest::digest(Digester::Verbose, table, input) {
         Digested::Is(a) => {
             let kind = a.kind;
             put_kind(kind);

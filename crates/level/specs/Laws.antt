@@ -20,29 +20,32 @@ use Rattle.table.specs.declared.Mark.the-variants as mark
 use Rattle.table.specs.declared.Record.{Record}
 use Rattle.table.specs.declared.Next.{Next}
 use Rattle.table.specs.declared.Next.the-variants as next
-use Rattle.lines.specs.Lines.{crlf, fixedText}
+use Rattle.lines.specs.Lines.{crlf, fixedText, connectPlace}
 use Rattle.lines.specs.Laws.{fixed-some}
+use Rattle.lines.specs.declared.Digester.{Digester}
 use Rattle.lines.specs.declared.Fixed.{Fixed}
 use Rattle.lines.specs.declared.Fixed.the-variants as fixed
 use Rattle.parser.specs.Parser.{noticeAt}
 use Rattle.parser.specs.Laws.{notice-bounds}
 use Rattle.parser.specs.declared.Notice.{Notice}
 use Rattle.parser.specs.declared.Notice.the-variants as notice
-use Rattle.places.specs.Places.{firstPlaces, placeIn, FirstPlaces}
+use Rattle.places.specs.Places.{firstPlaces, placeIn, FirstPlaces, connect-first}
 use Rattle.places.specs.declared.Places.{Places}
 use Rattle.answers.specs.declared.Kind.{Kind}
 use Rattle.answers.specs.declared.Kind.the-variants as kind
 use Rattle.answers.specs.declared.Answer.{Answer}
-use Rattle.answers.specs.Answer.{bare, nothing, withPayload}
+use Rattle.answers.specs.Answer.{bare, nothing, withPayload, withText}
+use Rattle.answers.specs.Laws.{text-empty}
 use Rattle.items.specs.declared.Occurs.{Occurs}
 use Rattle.items.specs.declared.Occurs.the-variants as occurs
 use Rattle.items.specs.declared.Tried.{Tried}
 use Rattle.items.specs.declared.Tried.the-variants as tries
 use Rattle.items.specs.declared.Hints.{Hints}
 use Rattle.items.specs.declared.Level.{Level}
-use Rattle.items.specs.Rules.{orElse, foundOr, skipped, trimmedPart, heard, notices, firstCustom, kindOf, success, customSuccess, lineSuccess, successes, customPrompts, lineTried, notAllowed}
+use Rattle.items.specs.Rules.{orElse, foundOr, skipped, trimmedPart, heard, notices, firstCustom, kindOf, success, customSuccess, lineSuccess, throughCrlf, connectAt, firstConnect, connected, connectSuccess, successes, customPrompts, lineTried, notAllowed}
 use Rattle.items.specs.Hints.{promptBytes, firsts, unknown}
 use Rattle.items.specs.Laws.{partIn, no-more, one-more, text-is, matched}
+use Rattle.items.specs.Connect.{Least, least-connect, connect-bare, begun-fits, connect-begun}
 use Rattle.level.specs.declared.Noticed.{Noticed}
 use Rattle.level.specs.declared.Noticed.the-variants as noticed
 use Rattle.level.specs.Level.{errorsFrom, outermost, below, levelFrom, Unless, SameCustoms, OthersTold}
@@ -157,6 +160,62 @@ module _ (s : List ℕ) (e : ℕ) where
   pub success-at : (p : Places) → FirstPlaces s e p → (l : Fixed) (r : Found) → r ≡ placeIn s p l → (u : Tried) → u ≡ lineSuccess s e l r → u ≡ lineSuccess s e l (findIn (fixedText l) s e)
   success-at p w l r q u v = v ∙ ap (lineSuccess s e l) (q ∙ w l)
 
+  -- CONNECT with text: its head at k, the first CRLF behind that sought from `start` on
+  module _ (k start : ℕ) (z : start ≡ k + 10) (r : Found) (p : r ≡ findIn crlf s start) where
+    at-text : connected s e k (throughCrlf r) ≡ connected s e k (throughCrlf (findIn crlf s (k + 10)))
+    at-text = ap (λ (x : Found). connected s e k (throughCrlf x)) (p ∙ ap (findIn crlf s) z)
+
+    pub text-none : r ≡ Nothing → tries.Next ≡ connected s e k (throughCrlf (findIn crlf s (k + 10)))
+    unfolding throughCrlf connected
+    text-none q = ap (λ (x : Found). connected s e k (throughCrlf x)) (sym q) ∙ at-text
+
+    pub text-room : (end : ℕ) → r ≡ At end → (start ≤ end) × (end + 2 ≤ length s)
+    text-room end q =
+        let w = found-at crlf s start end (sym p ∙ q) in
+        (w .after, stands-fits crlf s end (omega arith) (w .here))
+
+    pub text-ended : (end : ℕ) → r ≡ At end → (t : Span) → t ≡ trimmedPart s e k → (a : Answer) → a ≡ withText t (record { start = start; len = end - start }) (end + 2) → tries.Done a ≡ connected s e k (throughCrlf (findIn crlf s (k + 10)))
+    unfolding throughCrlf connected
+    text-ended end q t v a w =
+        let n : end - start ≡ end + 2 - (k + 12) = omega arith in
+        ap tries.Done (w ∙ ap (λ (x : Span). withText x (record { start = start; len = end - start }) (end + 2)) v ∙ (λ i. withText (trimmedPart s e k) (record { start = z i; len = n i }) (end + 2)))
+        ∙ ap (λ (x : Found). connected s e k (throughCrlf x)) (sym q) ∙ at-text
+
+  -- CONNECT at its first place, r
+  module _ (d : Digester) (p : Places) (w : FirstPlaces s e p) (r : Found) (q : r ≡ connectPlace d (placeIn s p)) where
+    first-is : r ≡ firstConnect d s e
+    unfolding firstConnect
+    first-is = q ∙ connect-first d s e p w
+
+    pub connect-nowhere : r ≡ Nothing → tries.Next ≡ connectSuccess d s e (firstConnect d s e)
+    unfolding connectSuccess
+    connect-nowhere z = matched (connectSuccess d s e) first-is z
+
+    module _ (k : ℕ) (z : r ≡ At k) where
+      least : Least d s e k
+      least = rw (sym first-is ∙ z) at (least-connect d s e)
+
+      pub connect-inside : (e ≤ k) × (k + 10 ≤ length s)
+      connect-inside = (least .after, begun-fits d s k (least .here))
+
+      at-place : connected s e k (connectAt d s k) ≡ connectSuccess d s e (firstConnect d s e)
+      unfolding connectSuccess
+      at-place = matched (connectSuccess d s e) first-is z
+
+      module _ (b : Bool) (y : b ≡ stands (fixedText fixed.Connect) s k) where
+        pub bare-room : b ≡ true → k + 11 ≤ length s
+        bare-room x = stands-fits (fixedText fixed.Connect) s k (omega arith) (sym y ∙ x)
+
+        pub bare-is : b ≡ true → (n : ℕ) → n ≡ length (fixedText fixed.Connect) → (u : Tried) → u ≡ success s e k (k + n) → u ≡ connectSuccess d s e (firstConnect d s e)
+        unfolding success connected
+        bare-is x n l u v =
+            v ∙ ap (λ (m : ℕ). success s e k (k + m)) l
+            ∙ ap tries.Done (text-empty (trimmedPart s e k) (record { start = k + 10; len = k + 11 - (k + 12) }) (k + 11) (omega arith))
+            ∙ ap (connected s e k) (sym (connect-bare d s k (sym y ∙ x))) ∙ at-place
+
+        pub texted-is : b ≡ false → (u : Tried) → u ≡ connected s e k (throughCrlf (findIn crlf s (k + 10))) → u ≡ connectSuccess d s e (firstConnect d s e)
+        texted-is x u v = v ∙ ap (connected s e k) (sym (connect-begun d s k (least .here) (sym y ∙ x))) ∙ at-place
+
 -- rule 5: a fixed line at its place
 module _ (l : Fixed) (f r : Found) (p : r ≡ f) where
   pub line-is : (k n : ℕ) → r ≡ At k → n ≡ length (fixedText l) → (c : Kind) → c ≡ kindOf l → (a : Answer) → a ≡ bare c (k + n) → tries.Done a ≡ lineTried l f
@@ -182,12 +241,12 @@ module _ (s : List ℕ) (e : ℕ) (p : Places) (q : p ≡ firstPlaces e) (r : Le
   errors-at l m z h w = w ∙ ap (λ (x : Places). errorsFrom l s e x h) q ∙ ap (λ (x : List Entry). errorsFrom x s e (firstPlaces e) h) z
 
 -- the two kinds of level
-module _ (t s : List ℕ) (h : Hints) (e : ℕ) (p : e ≡ skipped s) (b : Bool) (r : Level) where
-  pub level-outermost : b ≡ true → r ≡ outermost t s e → r ≡ levelFrom b t s h
+module _ (d : Digester) (t s : List ℕ) (h : Hints) (e : ℕ) (p : e ≡ skipped s) (b : Bool) (r : Level) where
+  pub level-outermost : b ≡ true → r ≡ outermost d t s e → r ≡ levelFrom b d t s h
   unfolding levelFrom
   level-outermost q w = w ∙ rw (q, p)
 
-  pub level-below : b ≡ false → r ≡ below t s e h → r ≡ levelFrom b t s h
+  pub level-below : b ≡ false → r ≡ below t s e h → r ≡ levelFrom b d t s h
   unfolding levelFrom
   level-below q w = w ∙ rw (q, p)
 
@@ -209,8 +268,8 @@ others-told t r w b q = rw q at w
 
 -- rules 3 and 4 under two tables that have the same records but for the notices
 module _ (t v : List ℕ) (w : SameCustoms t v) (s : List ℕ) (e : ℕ) (r : Tried) where
-  pub same-successes : r ≡ successes (entries mark.Success t 0 0) s e → r ≡ successes (entries mark.Success v 0 0) s e
-  same-successes q = q ∙ ap (λ (l : List Entry). successes l s e) (w mark.Success refl)
+  pub same-successes : (d : Digester) → r ≡ successes d (entries mark.Success t 0 0) s e → r ≡ successes d (entries mark.Success v 0 0) s e
+  same-successes d q = q ∙ ap (λ (l : List Entry). successes d l s e) (w mark.Success refl)
 
   pub same-prompts : r ≡ customPrompts (entries mark.Prompt t 0 0) s e → r ≡ customPrompts (entries mark.Prompt v 0 0) s e
   same-prompts q = q ∙ ap (λ (l : List Entry). customPrompts l s e) (w mark.Prompt refl)

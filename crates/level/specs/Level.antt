@@ -8,6 +8,7 @@ use Rattle.outcome.specs.Outcome.{if_then_else_}
 use Rattle.table.specs.Table.{Token, Entry, sameMark, ofMark, entries}
 use Rattle.table.specs.declared.Mark.{Mark}
 use Rattle.table.specs.declared.Mark.the-variants as mark
+use Rattle.lines.specs.declared.Digester.{Digester}
 use Rattle.places.specs.Places.{firstPlaces}
 use Rattle.places.specs.declared.Places.{Places}
 use Rattle.items.specs.declared.Tried.{Tried}
@@ -31,11 +32,11 @@ errorsFrom l s e p h =
     before (customError (firstCustom l s e)) (onward (numerics s e p h) (λ k. before (lineErrors s e) (notAllowedFrom s e k)))
 
 -- rules 2 to 5 on the outermost level
-unfoldable pub outermost : List ℕ → List ℕ → ℕ → Level
+unfoldable pub outermost : Digester → List ℕ → List ℕ → ℕ → Level
 unfolding before onward errorsFrom
-outermost t s e =
+outermost d t s e =
     before (notices (entries mark.Notice t 0 0) s e)
-    (before (successes (entries mark.Success t 0 0) s e)
+    (before (successes d (entries mark.Success t 0 0) s e)
     (before (customPrompts (entries mark.Prompt t 0 0) s e)
     (onward (promptBytes s e (firstPlaces e) unknown) (errorsFrom (entries mark.Error t 0 0) s e (firstPlaces e)))))
 
@@ -44,20 +45,20 @@ unfoldable pub below : List ℕ → List ℕ → ℕ → Hints → Level
 unfolding before onward
 below t s e h = before (notices (entries mark.Notice t 0 0) s e) (onward (firsts s e (firstPlaces e) h) (notAllowedFrom s e))
 
-unfoldable pub levelFrom : Bool → List ℕ → List ℕ → Hints → Level
+unfoldable pub levelFrom : Bool → Digester → List ℕ → List ℕ → Hints → Level
 unfolding outermost below
-levelFrom first t s h = let e = skipped s in if first then outermost t s e else below t s e h
+levelFrom first d t s h = let e = skipped s in if first then outermost d t s e else below t s e h
 
 -- What of rules 3 to 5 looks for a line, or an end, in all of buf doesn't answer from e on; then it doesn't from anywhere behind it either (`gone-on`).
-pub record Gone (ts : List Token) (s : List ℕ) (e : ℕ) : Type 0 where
-  pub success : successes (ofMark mark.Success 0 ts) s e ≡ tries.Next
+pub record Gone (d : Digester) (ts : List Token) (s : List ℕ) (e : ℕ) : Type 0 where
+  pub success : successes d (ofMark mark.Success 0 ts) s e ≡ tries.Next
   pub prompt : customPrompts (ofMark mark.Prompt 0 ts) s e ≡ tries.Next
   pub custom : customError (firstCustom (ofMark mark.Error 0 ts) s e) ≡ tries.Next
   pub error : lineErrors s e ≡ tries.Next
 
 -- from no place of s
-abbrev pub GoneAll : List Token → List ℕ → Type 0
-GoneAll ts s = (m : ℕ) → m ≤ length s → Gone ts s m
+abbrev pub GoneAll : Digester → List Token → List ℕ → Type 0
+GoneAll d ts s = (m : ℕ) → m ≤ length s → Gone d ts s m
 
 -- P is known unless the flag is up
 abbrev pub Unless : Bool → Type 0 → Type 0

@@ -19,6 +19,7 @@ use Rattle.table.specs.Table.{Token, Entry, ofMark, tokens, entries}
 use Rattle.table.specs.declared.Mark.the-variants as mark
 use Rattle.table.specs.declared.Next.{Next}
 use Rattle.lines.specs.Lines.{fixedText}
+use Rattle.lines.specs.declared.Digester.{Digester}
 use Rattle.lines.specs.declared.Fixed.{Fixed}
 use Rattle.lines.specs.declared.Fixed.the-variants as fixed
 use Rattle.parser.specs.Parser.{promptFrom, customPrompt, wrapped, atFound, numericError}
@@ -36,8 +37,9 @@ use Rattle.items.specs.declared.First.the-variants as first
 use Rattle.items.specs.declared.Hints.{Hints}
 use Rattle.items.specs.declared.Level.{Level}
 use Rattle.items.specs.declared.Level.the-variants as level
-use Rattle.items.specs.Rules.{orElse, firstOf, skipped, heard, notices, occursOr, firstCustom, success, customSuccess, lineSuccess, successes, promptTried, customPrompts, prompts, customError, numericTried, numericErrors, successLines, errorLines, lineTried, lineErrors, notAllowed, errors, tried}
+use Rattle.items.specs.Rules.{orElse, firstOf, skipped, heard, notices, occursOr, firstCustom, success, customSuccess, lineSuccess, connectAt, successes, promptTried, customPrompts, prompts, customError, numericTried, numericErrors, errorLines, lineTried, lineErrors, notAllowed, errors, tried}
 use Rattle.items.specs.Hints.{given, promptBytes, numerics, firsts, unknown, hintOf, Known, Says}
+use Rattle.items.specs.Connect.{connect-none, connect-next, connect-lost}
 use Rattle.items.specs.Laws.{next-both, both-next, done-next, or-next, or-assoc, custom-error-none, prompt-miss}
 use Rattle.items.specs.Says.{find-lost, before-says, onward-says, bytes-say, numerics-say, firsts-say, nothing-known}
 use Rattle.level.specs.Laws.{custom-success-none, line-success-none, line-none, skipped-le}
@@ -127,11 +129,11 @@ known-on s k h l w x m a b =
     given-on x s k m (omega arith) (w x (k + m) (omega arith) (omega arith))
 
 -- What a level that gave no answer looked for in all that follows.
-pub gone : (ts : List Token) (s : List ℕ) (e : ℕ) → tried ts s e ≡ tries.Next → Gone ts s e
+pub gone : (d : Digester) (ts : List Token) (s : List ℕ) (e : ℕ) → tried d ts s e ≡ tries.Next → Gone d ts s e
 unfolding tried prompts errors
-gone ts s e h =
+gone d ts s e h =
     let a = next-both (notices (ofMark mark.Notice 0 ts) s e) _ h in
-    let b = next-both (successes (ofMark mark.Success 0 ts) s e) _ (a .1) in
+    let b = next-both (successes d (ofMark mark.Success 0 ts) s e) _ (a .1) in
     let c = next-both (prompts (ofMark mark.Prompt 0 ts) s e) (errors (ofMark mark.Error 0 ts) s e) (b .1) in
     let d = next-both (customError (firstCustom (ofMark mark.Error 0 ts) s e)) _ (c .1) in
     record {
@@ -206,29 +208,31 @@ module _ (s : List ℕ) (e k m : ℕ) (later : e ≤ k + m) where
   unfolding lineErrors
   errors-lost = first-lost-of _ _ line-lost errorLines
 
-  successes-lost : (l : List Entry) → successes l s e ≡ tries.Next → successes l (drop k s) m ≡ tries.Next
+  successes-lost : (d : Digester) (l : List Entry) → successes d l s e ≡ tries.Next → successes d l (drop k s) m ≡ tries.Next
   unfolding successes
-  successes-lost l h =
+  successes-lost d l h =
       let w = next-both (customSuccess (firstCustom l s e) s e) _ h in
+      let v = next-both (lineSuccess s e fixed.Ok (findIn (fixedText fixed.Ok) s e)) _ (w .1) in
       both-next (customSuccess (firstCustom l (drop k s) m) (drop k s) m) _
       (sym (custom-success-none (drop k s) m l (firstCustom l (drop k s) m) refl (first-lost l (success-nowhere s e (firstCustom l s e) (w .0)))))
-      (first-lost-of _ _ line-success-lost successLines (w .1))
+      (both-next (lineSuccess (drop k s) m fixed.Ok (findIn (fixedText fixed.Ok) (drop k s) m)) _ (line-success-lost fixed.Ok (v .0))
+      (connect-next d (drop k s) m (λ j g. connect-lost d s k j (connect-none d s e (v .1) (k + j) (omega arith)))))
 
   custom-error-lost : (l : List Entry) → customError (firstCustom l s e) ≡ tries.Next → customError (firstCustom l (drop k s) m) ≡ tries.Next
   custom-error-lost l h = sym (custom-error-none l (drop k s) m (firstCustom l (drop k s) m) refl (first-lost l (error-nowhere (firstCustom l s e) h)))
 
-  gone-on : (ts : List Token) → Gone ts s e → Gone ts (drop k s) m
-  gone-on ts w =
+  gone-on : (d : Digester) (ts : List Token) → Gone d ts s e → Gone d ts (drop k s) m
+  gone-on d ts w =
       record {
-        success = successes-lost (ofMark mark.Success 0 ts) (w .success);
+        success = successes-lost d (ofMark mark.Success 0 ts) (w .success);
         prompt = prompts-lost (ofMark mark.Prompt 0 ts) (w .prompt);
         custom = custom-error-lost (ofMark mark.Error 0 ts) (w .custom);
         error = errors-lost (w .error);
       }
 
 -- What a level hands down to the one on the suffix from k on.
-pub handed : (ts : List Token) (s : List ℕ) (e k : ℕ) (h : Hints) → e ≤ k → k ≤ length s → tried ts s e ≡ tries.Next → Known s e h → GoneAll ts (take (length s - k) (drop k s)) × Known (take (length s - k) (drop k s)) 0 h
-handed ts s e k h l i q w = rw (rest s k) (λ m a. gone-on s e k m (omega arith) ts (gone ts s e q), known-on s k h i (known-later s e h w k l))
+pub handed : (d : Digester) (ts : List Token) (s : List ℕ) (e k : ℕ) (h : Hints) → e ≤ k → k ≤ length s → tried d ts s e ≡ tries.Next → Known s e h → GoneAll d ts (take (length s - k) (drop k s)) × Known (take (length s - k) (drop k s)) 0 h
+handed d ts s e k h l i q w = rw (rest s k) (λ m a. gone-on s e k m (omega arith) d ts (gone d ts s e q), known-on s k h i (known-later s e h w k l))
 
 says-of : (s : List ℕ) (e : ℕ) {t u : Tried} → t ≡ u → (r : Level) → Says s e t r → Says s e u r
 says-of s e p r w = rw p at w
@@ -237,7 +241,7 @@ says-of s e p r w = rw p at w
 last-says : (s : List ℕ) (e : ℕ) (h : Hints) → Known s e h → Says s e (notAllowed s e) (notAllowedFrom s e h)
 last-says s e h w = says-of s e (sym (or-next (notAllowed s e))) (notAllowedFrom s e h) (before-says s e (notAllowed s e) tries.Next (level.Next e h) (refl, (refl, w)))
 
-module _ (t s : List ℕ) (e : ℕ) (l : e ≤ length s) where
+module _ (d : Digester) (t s : List ℕ) (e : ℕ) (l : e ≤ length s) where
   errors-say : (h : Hints) → Known s e h → Says s e (errors (entries mark.Error t 0 0) s e) (errorsFrom (entries mark.Error t 0 0) s e (firstPlaces e) h)
   unfolding errors errorsFrom
   errors-say h w =
@@ -246,22 +250,22 @@ module _ (t s : List ℕ) (e : ℕ) (l : e ≤ length s) where
       (onward-says s e (numericErrors s e) rest (numerics s e (firstPlaces e) h) _ (numerics-say s e (firstPlaces e) (are-first s e (firstPlaces e) refl) l h w) (λ k v.
       before-says s e (lineErrors s e) (notAllowed s e) (notAllowedFrom s e k) (last-says s e k v)))
 
-  outermost-says : length s ≤ 4096 → Says s e (tried (tokens t) s e) (outermost t s e)
+  outermost-says : length s ≤ 4096 → Says s e (tried d (tokens t) s e) (outermost d t s e)
   unfolding tried prompts outermost entries tokens
   outermost-says g =
       let heard = notices (ofMark mark.Notice 0 (tokens t)) s e in
-      let success = successes (ofMark mark.Success 0 (tokens t)) s e in
+      let success = successes d (ofMark mark.Success 0 (tokens t)) s e in
       let custom = customPrompts (ofMark mark.Prompt 0 (tokens t)) s e in
       let bytes = orElse (given first.Greater s e) (given first.Sign s e) in
       let error = errors (ofMark mark.Error 0 (tokens t)) s e in
-      says-of s e {t = orElse heard (orElse success (orElse custom (orElse bytes error)))} (rw (or-assoc custom bytes error)) (outermost t s e)
+      says-of s e {t = orElse heard (orElse success (orElse custom (orElse bytes error)))} (rw (or-assoc custom bytes error)) (outermost d t s e)
       (before-says s e heard (orElse success (orElse custom (orElse bytes error))) _
       (before-says s e success (orElse custom (orElse bytes error)) _
       (before-says s e custom (orElse bytes error) _
       (onward-says s e bytes error (promptBytes s e (firstPlaces e) unknown) _ (bytes-say s e (firstPlaces e) (are-first s e (firstPlaces e) refl) l unknown (nothing-known s e g)) errors-say))))
 
   -- The retry lemma: where the others are gone, a level can only answer a notice, one of the five, or NA.
-  below-says : Gone (tokens t) s e → (h : Hints) → Known s e h → Says s e (tried (tokens t) s e) (below t s e h)
+  below-says : Gone d (tokens t) s e → (h : Hints) → Known s e h → Says s e (tried d (tokens t) s e) (below t s e h)
   unfolding tried prompts errors orElse below entries tokens
   below-says z h w =
       let five = orElse (given first.Greater s e) (given first.Sign s e) in
@@ -270,9 +274,9 @@ module _ (t s : List ℕ) (e : ℕ) (l : e ≤ length s) where
       (onward-says s e _ _ (firsts s e (firstPlaces e) h) _ (firsts-say s e (firstPlaces e) (are-first s e (firstPlaces e) refl) l h w) (last-says s e)))
 
 -- A level says what rules 1 to 5 say.
-pub level-says : (t s : List ℕ) (h : Hints) (b : Bool) → length s ≤ 4096 → (b ≡ false → GoneAll (tokens t) s × Known s 0 h) → Says s (skipped s) (tried (tokens t) s (skipped s)) (levelFrom b t s h)
+pub level-says : (d : Digester) (t s : List ℕ) (h : Hints) (b : Bool) → length s ≤ 4096 → (b ≡ false → GoneAll d (tokens t) s × Known s 0 h) → Says s (skipped s) (tried d (tokens t) s (skipped s)) (levelFrom b d t s h)
 unfolding levelFrom
-level-says t s h true l w = outermost-says t s (skipped s) (skipped-le s) l
-level-says t s h false l w =
+level-says d t s h true l w = outermost-says d t s (skipped s) (skipped-le s) l
+level-says d t s h false l w =
     let v = w refl in
-    below-says t s (skipped s) (skipped-le s) (v .0 (skipped s) (skipped-le s)) h (known-later s 0 h (v .1) (skipped s) (omega arith))
+    below-says d t s (skipped s) (skipped-le s) (v .0 (skipped s) (skipped-le s)) h (known-later s 0 h (v .1) (skipped s) (omega arith))

@@ -7,10 +7,10 @@ ghost use lib.ListN.{length};
 ghost use Rattle.table.specs.Table.{entries};
 ghost use Rattle.table.specs.declared.Mark.the-variants as mark;
 ghost use Rattle.text.specs.Text.{findIn};
-ghost use Rattle.lines.specs.Lines.{fixedText};
+ghost use Rattle.lines.specs.Lines.{crlf, fixedText};
 ghost use Rattle.parser.specs.Parser.{lineEnding, noticeAt};
 ghost use Rattle.places.specs.Places.{FirstPlaces, placeIn};
-ghost use Rattle.items.specs.Rules.{skipped, trimmedPart, heard, notices, firstCustom, kindOf, success, customSuccess, lineSuccess, successes, lineTried, lineErrors, notAllowed};
+ghost use Rattle.items.specs.Rules.{skipped, trimmedPart, heard, notices, firstCustom, kindOf, success, customSuccess, lineSuccess, throughCrlf, firstConnect, connected, connectSuccess, successes, lineTried, lineErrors, notAllowed};
 ghost use Rattle.level.specs.Level.{Unless, SameCustoms, OthersTold, noticedTried, errorsFrom, outermost, below, levelFrom};
 use answers::Answer;
 use answers::Kind;
@@ -18,6 +18,7 @@ use items::Hints;
 use items::Level;
 use items::Occurs;
 use items::Tried;
+use lines::Digester;
 use lines::Fixed;
 use parser::Notice;
 use places::Places;
@@ -148,10 +149,42 @@ fn line_success(s: &[u8], e: usize, line: Fixed, first: Found) -> Tried
     }
 }
 
-// Rule 3: a custom success; then OK, else CONNECT.
-fn successes(table: &[u8], s: &[u8], e: usize, places: Places) -> Tried
+// Rule 3, R-3: a CONNECT line with text whose head stands at k: everything through the next CRLF, the text in front of that.
+fn text_success(s: &[u8], e: usize, k: usize) -> Tried
+    requires { ⌜ (e ≤ k) × (k + 10 ≤ length (now s)) ⌝ }
+    ensures { λ r. ⌜ r ≡ connected (now (s .entry)) e k (throughCrlf (findIn crlf (now (s .entry)) (k + 10))) ⌝ }
+{
+    let start = k + lines::fixed_len(Fixed::ConnectText);
+    let Found::At(end) = lines::find_crlf(s, start) else {
+        return Tried::Next;
+    };
+    let before = trimmed_part(s, e, k);
+    let len = end - start;
+    let text = Span {
+        start: start,
+        len: len,
+    };
+    Tried::Done(answers::with_text(before, text, end + 2))
+}
+
+// Rule 3: CONNECT at its first place, with text only where the digester hears it (R-3).
+fn connect_success(digester: Digester, s: &[u8], e: usize, places: Places) -> Tried
     requires { ⌜ FirstPlaces (now s) e places ⌝ }
-    ensures { λ r. ⌜ r ≡ successes (entries mark.Success (now (table .entry)) 0 0) (now (s .entry)) e ⌝ }
+    ensures { λ r. ⌜ r ≡ connectSuccess digester (now (s .entry)) e (firstConnect digester (now (s .entry)) e) ⌝ }
+{
+    let Found::At(k) = places::connect(digester, s, places) else {
+        return Tried::Next;
+    };
+    if lines::fixed_at(s, k, Fixed::Connect) {
+        return success(s, e, k, k + lines::fixed_len(Fixed::Connect));
+    }
+    text_success(s, e, k)
+}
+
+// Rule 3: a custom success; then OK, else CONNECT.
+fn successes(digester: Digester, table: &[u8], s: &[u8], e: usize, places: Places) -> Tried
+    requires { ⌜ FirstPlaces (now s) e places ⌝ }
+    ensures { λ r. ⌜ r ≡ successes digester (entries mark.Success (now (table .entry)) 0 0) (now (s .entry)) e ⌝ }
 {
     if let Tried::Done(a) = custom_success(table, s, e) {
         return Tried::Done(a);
@@ -160,8 +193,7 @@ fn successes(table: &[u8], s: &[u8], e: usize, places: Places) -> Tried
     if let Tried::Done(a) = line_success(s, e, Fixed::Ok, ok) {
         return Tried::Done(a);
     }
-    let connect = places::place(s, places, Fixed::Connect);
-    line_success(s, e, Fixed::Connect, connect)
+    connect_success(digester, s, e, places)
 }
 
 // Rule 5: a fixed line, by its first place.
@@ -231,16 +263,16 @@ fn errors(table: &[u8], s: &[u8], e: usize, places: Places, hints: Hints) -> Lev
 }
 
 // Rules 2 to 5 in their order, on the outermost level.
-fn outermost(table: &[u8], s: &[u8], e: usize) -> Level
+fn outermost(digester: Digester, table: &[u8], s: &[u8], e: usize) -> Level
     requires { ⌜ e ≤ length (now s) ⌝ }
-    ensures { λ r. ⌜ r ≡ outermost (now (table .entry)) (now (s .entry)) e ⌝ }
+    ensures { λ r. ⌜ r ≡ outermost digester (now (table .entry)) (now (s .entry)) e ⌝ }
 {
     match notices(table, s, e) {
         Noticed::Done(a) => Level::Done(a),
         Noticed::Next(others) => {
             let custom = customs(table, others);
             let places = places::first_places(e);
-            if let Tried::Done(a) = successes(custom, s, e, places) {
+            if let Tried::Done(a) = successes(digester, custom, s, e, places) {
                 return Level::Done(a);
             }
             if let Tried::Done(a) = items::custom_prompts(custom, s, e) {
@@ -272,12 +304,12 @@ fn below(table: &[u8], s: &[u8], e: usize, hints: Hints) -> Level
 }
 
 // Rules 1 to 5 on the outermost level, or on one below it with the hints of those above.
-pub fn level_from(first: bool, table: &[u8], s: &[u8], hints: Hints) -> Level
-    ensures { λ r. ⌜ r ≡ levelFrom first (now (table .entry)) (now (s .entry)) hints ⌝ }
+pub fn level_from(first: bool, digester: Digester, table: &[u8], s: &[u8], hints: Hints) -> Level
+    ensures { λ r. ⌜ r ≡ levelFrom first digester (now (table .entry)) (now (s .entry)) hints ⌝ }
 {
     let e = skipped(s);
     if first {
-        return outermost(table, s, e);
+        return outermost(digester, table, s, e);
     }
     below(table, s, e, hints)
 }

@@ -3,6 +3,9 @@ use Rattle.outcome.specs.One.{One}
 use Rattle.text.specs.Logic.{determined}
 use Rattle.lines.proofs as calls
 
+pub hears-text-one : One calls.hears_text.Reads.Post
+hears-text-one κs a x y s t = determined
+
 pub fixed-at-one : One calls.fixed_at.Reads.Post
 fixed-at-one κs a x y s t = determined
 

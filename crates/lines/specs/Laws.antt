@@ -4,7 +4,7 @@ use native.Mathlib.Omega.{arith}
 use lib.ListN.{length}
 use Rattle.lines.specs.Lines.{fixedText}
 use Rattle.lines.specs.declared.Fixed.{Fixed}
-use Rattle.lines.specs.declared.Fixed.the-variants.{Ok, Connect, Error, CommandNotSupport, NoCarrier, Busy, NoAnswer, NoDialtone, Na, Cme, Cms, Modem}
+use Rattle.lines.specs.declared.Fixed.the-variants.{Ok, Connect, Error, CommandNotSupport, NoCarrier, Busy, NoAnswer, NoDialtone, Na, Cme, Cms, Modem, ConnectText}
 
 -- no fixed text is empty
 pub fixed-some : (x : Fixed) → 0 < length (fixedText x)
@@ -20,3 +20,4 @@ fixed-some Na = omega arith
 fixed-some Cme = omega arith
 fixed-some Cms = omega arith
 fixed-some Modem = omega arith
+fixed-some ConnectText = omega arith

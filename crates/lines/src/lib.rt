@@ -1,9 +1,9 @@
-// The fixed texts: the nine lines and the three heads of rules 3 and 5 as byte strings, compared as they stand at a position of the buffer.
+// The fixed texts: the nine lines and the heads of rules 3 and 5 as byte strings, compared as they stand at a position of the buffer; and the digesters, by the lines that they hear.
 // Every function is total: at a place past the end none of them stands.
 ghost use mathlib.Core.Path.{_≡_};
 ghost use lib.ListN.{length};
 ghost use Rattle.text.specs.Text.{stands, findIn};
-ghost use Rattle.lines.specs.Lines.{crlf, fixedText};
+ghost use Rattle.lines.specs.Lines.{hearsText, crlf, fixedText};
 use text::Found;
 
 pub const CRLF: [u8; 2] = *b"\r\n";
@@ -34,7 +34,26 @@ const CMS_ERROR: [u8; 13] = *b"\r\n+CMS ERROR:";
 
 const MODEM_ERROR: [u8; 14] = *b"\r\nMODEM ERROR:";
 
-// The twelve fixed texts: the nine lines, then the three heads.
+// The head of a CONNECT line with text (R-3).
+const CONNECT_TEXT: [u8; 10] = *b"\r\nCONNECT ";
+
+// Which digester a caller chooses: document 01's, or one that hears the text of a CONNECT line too (R-3).
+pub enum Digester {
+    Verbose,
+    Connect,
+}
+
+// Does the digester hear a CONNECT line with text?
+pub fn hears_text(digester: Digester) -> bool
+    ensures { λ r. ⌜ r ≡ hearsText digester ⌝ }
+{
+    match digester {
+        Digester::Verbose => false,
+        Digester::Connect => true,
+    }
+}
+
+// The thirteen fixed texts: the nine lines, the heads of the three numeric errors, and that of CONNECT with text.
 pub enum Fixed {
     Ok,
     Connect,
@@ -48,6 +67,7 @@ pub enum Fixed {
     Cme,
     Cms,
     Modem,
+    ConnectText,
 }
 
 // Does the fixed text stand in buf at `place`?
@@ -67,6 +87,7 @@ pub fn fixed_at(buf: &[u8], place: usize, fixed: Fixed) -> bool
         Fixed::Cme => text::matches_at(buf, place, &CME_ERROR),
         Fixed::Cms => text::matches_at(buf, place, &CMS_ERROR),
         Fixed::Modem => text::matches_at(buf, place, &MODEM_ERROR),
+        Fixed::ConnectText => text::matches_at(buf, place, &CONNECT_TEXT),
     }
 }
 
@@ -87,6 +108,7 @@ fn find_short(buf: &[u8], from: usize, fixed: Fixed) -> Found
         Fixed::Cme => text::find(buf, from, &CME_ERROR),
         Fixed::Cms => text::find(buf, from, &CMS_ERROR),
         Fixed::Modem => text::find(buf, from, &MODEM_ERROR),
+        Fixed::ConnectText => text::find(buf, from, &CONNECT_TEXT),
     }
 }
 
@@ -107,6 +129,7 @@ fn find_long(buf: &[u8], from: usize, fixed: Fixed) -> Found
         Fixed::Cme => seek::find(buf, from, &CME_ERROR, 5, 12),
         Fixed::Cms => seek::find(buf, from, &CMS_ERROR, 5, 12),
         Fixed::Modem => seek::find(buf, from, &MODEM_ERROR, 4, 13),
+        Fixed::ConnectText => seek::find(buf, from, &CONNECT_TEXT, 4, 5),
     }
 }
 
@@ -150,5 +173,6 @@ pub fn fixed_len(fixed: Fixed) -> usize
         Fixed::Cme => CME_ERROR.len(),
         Fixed::Cms => CMS_ERROR.len(),
         Fixed::Modem => MODEM_ERROR.len(),
+        Fixed::ConnectText => CONNECT_TEXT.len(),
     }
 }

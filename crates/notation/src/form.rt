@@ -1,6 +1,39 @@
-// The form of a line, and the state that it starts from where it has one.
+// The digester that a line chooses, its form, and the state that it starts from where it has one.
 use fields::Amount;
 use fields::LENGTH;
+use lines::Digester;
+
+// The digester that the first field chooses (R-3), and where the fields behind that word begin; without a word it is document 01's, and all fields count.
+pub struct Chosen {
+    pub digester: Digester,
+    pub from: usize,
+}
+
+// A line that fills the memory is too long, and chooses nothing.
+pub fn first_word(line: &[u8]) -> Chosen {
+    if line.len() == LENGTH {
+        return Chosen {
+            digester: Digester::Verbose,
+            from: 0,
+        };
+    }
+    if text::matches_at(line, 0, b"connect ") {
+        return Chosen {
+            digester: Digester::Connect,
+            from: 8,
+        };
+    }
+    if text::matches_at(line, 0, b"verbose ") {
+        return Chosen {
+            digester: Digester::Verbose,
+            from: 8,
+        };
+    }
+    Chosen {
+        digester: Digester::Verbose,
+        from: 0,
+    }
+}
 
 // A written state. The slot holds an Ok.
 pub struct Start {

@@ -2,7 +2,8 @@
 // in `fields`; `say` prints. It is part of a harness and promises only that it doesn't trip; what is answered is held to a file of another origin (tests/model.py).
 //
 // A line has at most 65,535 bytes before its end, and its fields stand apart by one space. Blank lines and lines that begin with `#` are skipped.
-// A word or a comma in the first field tells the form of a line, else the number of its fields does. No form begins with a word as yet.
+// The first field may be `verbose` or `connect`, the digester of the case (R-3); without it that is `verbose`, document 01's. Of the fields behind it, a comma in
+// the first tells the form, else their number does.
 // TABLE INPUT is a digest case; TABLE BUFFER SLOT-MEMORY QUEUE-MEMORY OPS an ingress case from end 0, a new slot and an empty queue;
 // STATE TABLE BUFFER SLOT-MEMORY QUEUE-MEMORY OPS one from any state, where STATE is
 // END,SIGNALLED,LENGTH,SLOT-LOST,START,COUNT,QUEUE-LOST (SIGNALLED 0 or 1; the slot holds an Ok).
@@ -13,7 +14,8 @@
 // advance is called all the same); Mn advance by n; C clear; R reset; T take; L lookup; Obytes signal an Ok; Pn a prompt, n up to 255; En a CME code,
 // n up to 65,535, with its digits in decimal, no zeros in front; En,bytes with these digits; B BUSY.
 //
-// A digest case answers KIND NUMBER PLACE LENGTH CONSUMED, `-` for no number, and where the answer has digits ` digits PLACE LENGTH` behind it. The others answer a part for each op, each ended by `;`, a space, and the last
-// state. What doesn't read in this notation, or is over a limit, is answered `bad line`, and nothing of the line is done.
+// A digest case answers KIND NUMBER PLACE LENGTH CONSUMED, `-` for no number, and behind it, where the answer has digits, ` digits PLACE LENGTH`,
+// and where it has a text, ` text PLACE LENGTH`. The others answer a part for each op, each ended by `;`, a space, and the last state. What doesn't read in this
+// notation, or is over a limit, is answered `bad line`, and nothing of the line is done.
 pub mod form;
 pub mod op;

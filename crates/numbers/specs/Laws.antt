@@ -7,17 +7,18 @@ use Prim.Native.Nat.{ℕ, zero, suc, _+_, _≤_, _<_, min}
 use native.Mathlib.Omega.{arith}
 use lib.ListN.{length, getD, List·getD-eq-default}
 use lib.Dec.{eqb, ltb}
-use borrow.Author.Tests.{lt-ltb, le-ltb, ltb-true, ltb-false, eq-eqb, eqb-true}
+use borrow.Author.Tests.{lt-ltb, le-ltb, ltb-true, ltb-false, eq-eqb, ne-eqb, eqb-true}
 use Rattle.outcome.specs.Outcome.{if_then_else_}
 use Rattle.outcome.specs.Laws.{ways}
 use Rattle.text.specs.Logic.{and-both, order}
+use Rattle.lines.specs.declared.Digester.the-variants as digester
 use Rattle.answers.specs.declared.Kind.{Kind}
 use Rattle.answers.specs.declared.Kind.the-variants as kind
 use Rattle.slot.specs.Slot.{freed}
 use Rattle.slot.specs.declared.Held.{Held}
 use Rattle.slot.specs.declared.Held.the-variants.{Heard, Capacity}
 use Rattle.turn.specs.declared.State.{State}
-use Rattle.numbers.specs.Numbers.{kindNumber, kinds, kindOf, word, heldNumber, heldOf, slotOf, stateOf, kept, withSlot, withState}
+use Rattle.numbers.specs.Numbers.{digesterOf, kindNumber, kinds, kindOf, word, heldNumber, heldOf, slotOf, stateOf, kept, withSlot, withState}
 
 -- what a slot holds
 pub held-capacity : (n : ℕ) → 13 < n → Capacity ≡ heldOf n
@@ -37,6 +38,13 @@ up k n h e = omega arith
 none-below : (k n : ℕ) → NoneBelow k n → k ≤ n
 none-below zero n h = omega arith
 none-below (suc k) n h = up k n (none-below k n (h .0)) (h .1)
+
+-- 1 is the number of the digester that hears a text; any other is that of document 01's
+pub digester-connect : (n : ℕ) → n ≡ 1 → digester.Connect ≡ digesterOf n
+digester-connect n e = rw e
+
+pub digester-other : (n : ℕ) → Unit {0} × (n ≡ 1 → ⊥) → digester.Verbose ≡ digesterOf n
+digester-other n h = rw (ne-eqb n 1 (h .1))
 
 -- a number over 13 is no kind's
 pub kind-none : (n : ℕ) → NoneBelow 14 n → kind.None ≡ kindOf n

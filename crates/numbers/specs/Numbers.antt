@@ -1,10 +1,12 @@
--- What each number of a lent array means: a state as nine numbers, and what a call answers at the front of an array of seven.
+-- What each number of a lent array means: a state as nine numbers, what a call answers at the front of an array of nine, and a digester by its number.
 use mathlib.Core.List.{List, [], _∷_}
 use Prim.Native.Nat.{ℕ, min}
 use lib.ListN.{getD}
 use lib.Seq.{sets}
 use lib.Dec.{eqb, ltb}
 use Rattle.outcome.specs.Outcome.{if_then_else_}
+use Rattle.lines.specs.declared.Digester.{Digester}
+use Rattle.lines.specs.declared.Digester.the-variants as digester
 use Rattle.answers.specs.declared.Kind.{Kind}
 use Rattle.answers.specs.declared.Kind.the-variants as kind
 use Rattle.answers.specs.declared.Answer.{Answer}
@@ -13,6 +15,10 @@ use Rattle.slot.specs.declared.Held.the-variants.{Heard, Capacity}
 use Rattle.slot.specs.declared.Slot.{Slot}
 use Rattle.queue.specs.declared.Queue.{Queue}
 use Rattle.turn.specs.declared.State.{State}
+
+-- The digesters by number (R-3): 0 document 01's, 1 the one that hears the text of a CONNECT line too; any other number reads as 0.
+abbrev pub digesterOf : ℕ → Digester
+digesterOf n = if eqb n 1 then digester.Connect else digester.Verbose
 
 -- the number of each kind
 abbrev pub kindNumber : Kind → ℕ
@@ -58,9 +64,9 @@ kindOf n = getD kinds n kind.None
 abbrev pub word : ℕ → ℕ
 word n = min n 4294967295
 
--- an answer from its seven numbers, in the order in which the digester's export leaves them
+-- an answer from its nine numbers, in the order in which the digester's export leaves them
 abbrev pub answerOf : List ℕ → Answer
-answerOf v = record { kind = kindOf (getD v 0 0); number = word (getD v 1 0); place = getD v 2 0; len = getD v 3 0; «digits_place» = getD v 5 0; «digits_len» = getD v 6 0; consumed = getD v 4 0 }
+answerOf v = record { kind = kindOf (getD v 0 0); number = word (getD v 1 0); place = getD v 2 0; len = getD v 3 0; «digits_place» = getD v 5 0; «digits_len» = getD v 6 0; «text_place» = getD v 7 0; «text_len» = getD v 8 0; consumed = getD v 4 0 }
 
 -- what a slot holds: 0 to 13 a kind, 14 CapacityError; a number over 14 reads as CapacityError too
 abbrev pub heldNumber : Held → ℕ
@@ -111,6 +117,6 @@ withState v s = withQueue (withSlot (withEnd v (s .end)) (s .slot)) (s .queue)
 abbrev pub laid : List ℕ → List ℕ → List ℕ
 laid v o = sets o 0 v
 
--- an answer of the digester: kind, number, place, length, bytes consumed; behind them the place and length of the digits (R-2)
+-- an answer of the digester: kind, number, place, length, bytes consumed; behind them the places and lengths of the digits (R-2) and of the text (R-3)
 abbrev pub answerValues : Answer → List ℕ
-answerValues a = kindNumber (a .kind) ∷ a .number ∷ a .place ∷ a .len ∷ a .consumed ∷ a .«digits_place» ∷ a .«digits_len» ∷ []
+answerValues a = kindNumber (a .kind) ∷ a .number ∷ a .place ∷ a .len ∷ a .consumed ∷ a .«digits_place» ∷ a .«digits_len» ∷ a .«text_place» ∷ a .«text_len» ∷ []

@@ -1,20 +1,21 @@
-// What each number of a lent array means: the state as nine numbers, and the digester's answer as seven.
+// What each number of a lent array means: the state as nine numbers, the digester's answer as nine, and a digester by its number.
 // Any nine numbers are a state, and a state that is written reads back as it was. A number that reads already as it is to read stays
 // as it stood, in plain form or not: so a call changes no number but those that it gives another meaning.
 ghost use mathlib.Core.Path.{_≡_};
 ghost use Prim.Native.Nat.{_<_};
 ghost use lib.ListN.{getD};
 ghost use Rattle.outcome.specs.Outcome.{if_then_else_};
-ghost use Rattle.numbers.specs.Numbers.{kindNumber, kindOf, word, heldNumber, heldOf, answerOf, slotOf, queueOf, stateOf, kept, withSlot, withQueue, withState, laid, answerValues};
+ghost use Rattle.numbers.specs.Numbers.{digesterOf, kindNumber, kindOf, word, heldNumber, heldOf, answerOf, slotOf, queueOf, stateOf, kept, withSlot, withQueue, withState, laid, answerValues};
 use answers::Answer;
 use answers::Kind;
+use lines::Digester;
 use queue::Queue;
 use slot::Held;
 use slot::Slot;
 use turn::State;
 
 // How many numbers a call may answer, and how many a state has.
-pub const OUT: usize = 7;
+pub const OUT: usize = 9;
 
 pub const NUMBERS: usize = 9;
 
@@ -46,6 +47,16 @@ const MOST_SIGNALLED: u64 = 1;
 const MOST_HELD: u64 = 14;
 
 const MOST_WORD: u64 = 4294967295;
+
+// The digester of a number (R-3): 0 document 01's, 1 the one that hears the text of a CONNECT line too; any other number reads as 0.
+pub fn digester_of(n: u32) -> Digester
+    ensures { λ r. ⌜ r ≡ digesterOf n ⌝ }
+{
+    match n {
+        1 => Digester::Connect,
+        _ => Digester::Verbose,
+    }
+}
 
 // The number of each kind.
 fn kind_number(kind: Kind) -> u64
@@ -132,7 +143,7 @@ fn flag_number(b: bool) -> u64
     0
 }
 
-// An answer from the seven numbers that `wx_digest` leaves.
+// An answer from the nine numbers that `wx_digest` leaves.
 pub fn answer_of(answer: &[u64; OUT]) -> Answer
     ensures { λ r. ⌜ r ≡ answerOf (now (answer .entry)) ⌝ }
 {
@@ -143,6 +154,8 @@ pub fn answer_of(answer: &[u64; OUT]) -> Answer
         len: answer[3] as usize,
         digits_place: answer[5] as usize,
         digits_len: answer[6] as usize,
+        text_place: answer[7] as usize,
+        text_len: answer[8] as usize,
         consumed: answer[4] as usize,
     }
 }
@@ -233,7 +246,7 @@ pub fn put_state(state: &mut [u64; NUMBERS], s: State)
     put_queue(state, s.queue);
 }
 
-// An answer of the digester: kind, number, place, length, bytes consumed; behind them the place and length of the digits (R-2).
+// An answer of the digester: kind, number, place, length, bytes consumed; behind them the places and lengths of the digits (R-2) and of the text (R-3).
 pub fn lay_answer(out: &mut [u64; OUT], a: Answer)
     ensures { λ _. ⌜ now (out .exit) ≡ laid (answerValues a) (now (out .entry)) ⌝ }
 {
@@ -245,4 +258,6 @@ pub fn lay_answer(out: &mut [u64; OUT], a: Answer)
     out[4] = a.consumed as u64;
     out[5] = a.digits_place as u64;
     out[6] = a.digits_len as u64;
+    out[7] = a.text_place as u64;
+    out[8] = a.text_len as u64;
 }

@@ -8,3 +8,6 @@ first-places-one κs a x y s t = determined
 
 pub place-one : One calls.place.Reads.Post
 place-one κs a x y s t = determined
+
+pub connect-one : One calls.connect.Reads.Post
+connect-one κs a x y s t = determined

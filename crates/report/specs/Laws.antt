@@ -20,12 +20,10 @@ use Rattle.answers.specs.declared.Kind.the-variants as kind
 use Rattle.answers.specs.declared.Answer.{Answer}
 use Rattle.answers.specs.Answer.{Number, none, number, numberOf, isFound, isNumeric, carried}
 use Rattle.answers.specs.Laws.{carried-within}
-use Rattle.digest.specs.Digest.{digestUnchecked}
-use Rattle.digest.specs.Calls.{unchecked-inside}
 use Rattle.steps.specs.declared.Step.{Step}
 use Rattle.steps.specs.declared.Stepped.the-variants.{Is, End}
 use Rattle.steps.specs.Steps.{stepsFrom, steps, firstOf, eaten}
-use Rattle.steps.specs.Laws.{Begins, Run, steps-run, steps-more, at-end, at-step, step-within, eaten-within}
+use Rattle.steps.specs.Laws.{step-lies, Begins, Run, steps-run, steps-more, at-end, at-step, step-within, eaten-within}
 use Rattle.report.specs.declared.Drawn.{Drawn}
 use Rattle.report.specs.Report.{nameOf, numberText, digitsText, payloadText, numberOr, valueOf, lineOf, lines, textOf, Drawing, drawn, draw, is, short, report}
 
@@ -138,9 +136,7 @@ module _ (a : Answer) (s : List ℕ) where
 
 -- the lines take at most 55 bytes for each byte
 step-inside : (s : List ℕ) (i : ℕ) (x : Step) → Begins [] s i x → carried (x .answer) .len ≤ x .answer .consumed
-step-inside s i x b =
-    let w = unchecked-inside [] (drop i s) in
-    omega (arith, carried-within (length (drop i s)) (digestUnchecked [] (drop i s)) w, ap (λ (a : Answer). a .consumed) (b .says), ap (λ (a : Answer). carried a .len) (b .says))
+step-inside s i x b = omega (arith, carried-within (length (drop i s)) (x .answer) (step-lies [] s i x b))
 
 lines-eaten : (s : List ℕ) (i : ℕ) (l : List Step) → Run [] s i l → length (lines s l) ≤ 55 * eaten l
 unfolding Run lines eaten

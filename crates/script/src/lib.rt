@@ -5,6 +5,7 @@ use answers::Kind;
 use data::Filled;
 use digest::Digested;
 use fields::Memory;
+use lines::Digester;
 use notation::form::Form;
 use notation::form::Start;
 use ops::Said;
@@ -18,6 +19,7 @@ fn do_all(
     ops: &[u8],
     first: Said,
     piece: &mut Memory,
+    digester: Digester,
     table: &[u8],
     buf: &mut [u8],
     slot_mem: &mut [u8],
@@ -30,7 +32,17 @@ fn do_all(
     while 0 < left {
         let to = fields::seek(ops, from, b';');
         let one = fields::between(ops, from, to);
-        said = ops::do_op(one, said, piece, table, buf, slot_mem, queue_mem, out);
+        said = ops::do_op(
+            one,
+            said,
+            piece,
+            digester,
+            table,
+            buf,
+            slot_mem,
+            queue_mem,
+            out,
+        );
         from = fields::plus(to, 1);
         left -= 1;
     }
@@ -83,13 +95,24 @@ fn run_script(
     ops: &[u8],
     first: Said,
     piece: &mut Memory,
+    digester: Digester,
     table: &[u8],
     buf: &mut [u8],
     slot_mem: &mut [u8],
     queue_mem: &mut [u8],
     out: &mut Memory,
 ) -> usize {
-    let said = do_all(ops, first, piece, table, buf, slot_mem, queue_mem, out);
+    let said = do_all(
+        ops,
+        first,
+        piece,
+        digester,
+        table,
+        buf,
+        slot_mem,
+        queue_mem,
+        out,
+    );
     say_last(said, buf, slot_mem, queue_mem, out)
 }
 
@@ -99,6 +122,7 @@ fn cut_script(
     first: Said,
     len: Lengths,
     piece: &mut Memory,
+    digester: Digester,
     table: &[u8],
     buf: &mut [u8],
     slot_mem: &mut [u8],
@@ -121,6 +145,7 @@ fn cut_script(
         ops,
         first,
         piece,
+        digester,
         text::part(table, 0, len.table),
         &mut buf[..b],
         &mut slot_mem[..s],
@@ -180,6 +205,7 @@ fn script_case(
     line: &[u8],
     k: usize,
     start: State,
+    digester: Digester,
     piece: &mut Memory,
     table: &mut Memory,
     buf: &mut Memory,
@@ -199,7 +225,18 @@ fn script_case(
         state: start,
         at: at,
     };
-    cut_script(ops, first, len, piece, table, buf, slot_mem, queue_mem, out)
+    cut_script(
+        ops,
+        first,
+        len,
+        piece,
+        digester,
+        table,
+        buf,
+        slot_mem,
+        queue_mem,
+        out,
+    )
 }
 
 // The state of a new slot and an empty queue.
@@ -234,14 +271,14 @@ fn state_of(x: Start) -> State {
     }
 }
 
-// Where the digits of a numeric error stand (R-2), if it has any.
-fn say_digits(a: Answer, out: &mut Memory, at: usize) -> usize {
-    if a.digits_len == 0 {
+// Where another part of the input stands, by its name, if it has any bytes.
+fn say_part(name: &[u8], place: usize, len: usize, out: &mut Memory, at: usize) -> usize {
+    if len == 0 {
         return at;
     }
-    let head = say::words(out, at, b" digits");
-    let place = say::and_number(out, head, a.digits_place as u64);
-    say::and_number(out, place, a.digits_len as u64)
+    let head = say::words(out, at, name);
+    let from = say::and_number(out, head, place as u64);
+    say::and_number(out, from, len as u64)
 }
 
 // Says a digester's answer, and ends the line.
@@ -251,13 +288,14 @@ fn say_answer(a: Answer, out: &mut Memory, at: usize) -> usize {
     let place = say::and_number(out, named, a.place as u64);
     let len = say::and_number(out, place, a.len as u64);
     let consumed = say::and_number(out, len, a.consumed as u64);
-    let told = say_digits(a, out, consumed);
-    say::words(out, told, b"\n")
+    let digits = say_part(b" digits", a.digits_place, a.digits_len, out, consumed);
+    let text = say_part(b" text", a.text_place, a.text_len, out, digits);
+    say::words(out, text, b"\n")
 }
 
 // Digests, and says the answer or the refusal.
-fn do_digest(table: &[u8], input: &[u8], out: &mut Memory, at: usize) -> usize {
-    match digest::digest(table, input) {
+fn do_digest(digester: Digester, table: &[u8], input: &[u8], out: &mut Memory, at: usize) -> usize {
+    match digest::digest(digester, table, input) {
         Digested::Is(a) => say_answer(a, out, at),
         Digested::TooLong => say::words(out, at, b"refused 1\n"),
         Digested::BadTable(k) => {
@@ -270,6 +308,7 @@ fn do_digest(table: &[u8], input: &[u8], out: &mut Memory, at: usize) -> usize {
 // The case TABLE INPUT.
 fn digest_case(
     line: &[u8],
+    digester: Digester,
     table: &mut Memory,
     buf: &mut Memory,
     out: &mut Memory,
@@ -281,7 +320,13 @@ fn digest_case(
     let Filled::Is(n) = data::data(fields::part_of(line, 1, b' '), buf) else {
         return say::bad_line(out, at);
     };
-    do_digest(text::part(table, 0, t), text::part(buf, 0, n), out, at)
+    do_digest(
+        digester,
+        text::part(table, 0, t),
+        text::part(buf, 0, n),
+        out,
+        at,
+    )
 }
 
 // What a line asks for: a digest, or a script from a state, its memories' fields from a field on.
@@ -312,13 +357,17 @@ pub fn answer(
     out: &mut Memory,
     at: usize,
 ) -> usize {
-    match case_of(line) {
-        Case::Digest => digest_case(line, table, buf, out, at),
+    let chosen = notation::form::first_word(line);
+    let digester = chosen.digester;
+    let rest = fields::between(line, chosen.from, line.len());
+    match case_of(rest) {
+        Case::Digest => digest_case(rest, digester, table, buf, out, at),
         Case::Script(k, start) => {
             script_case(
-                line,
+                rest,
                 k,
                 start,
+                digester,
                 piece,
                 table,
                 buf,

@@ -8,8 +8,10 @@ use lib.Dec.{eqb}
 use borrow.Author.Tests.{eqb-true, eqb-false}
 use Rattle.outcome.specs.Laws.{ways}
 use Rattle.answers.specs.declared.Answer.{Answer}
+use Rattle.answers.specs.Answer.{Within}
+use Rattle.lines.specs.declared.Digester.the-variants as digester
 use Rattle.digest.specs.Digest.{digestUnchecked}
-use Rattle.digest.specs.Calls.{unchecked-within}
+use Rattle.digest.specs.Calls.{unchecked-inside, unchecked-within}
 use Rattle.steps.specs.declared.Step.{Step}
 use Rattle.steps.specs.declared.Stepped.{Stepped}
 use Rattle.steps.specs.declared.Stepped.the-variants.{Is, End}
@@ -25,15 +27,15 @@ stepOr d End = d
 
 module _ (t s : List ℕ) where
   abbrev says : ℕ → Answer
-  says i = digestUnchecked t (drop i s)
+  says i = digestUnchecked digester.Verbose t (drop i s)
 
   says-within : (i : ℕ) → says i .consumed ≤ length s - i
-  says-within i = omega (arith, unchecked-within t (drop i s), length-drop i s)
+  says-within i = omega (arith, unchecked-within digester.Verbose t (drop i s), length-drop i s)
 
   -- x begins at i, answers what the digest says there, and consumes something
   pub record Begins (i : ℕ) (x : Step) : Type 0 where
     pub from : x .from ≡ i
-    pub says : x .answer ≡ digestUnchecked t (drop i s)
+    pub says : x .answer ≡ digestUnchecked digester.Verbose t (drop i s)
     pub eats : 0 < x .answer .consumed
 
   -- Each step from i on begins where the one before it ended; behind the last nothing is consumed.
@@ -82,9 +84,9 @@ module _ (t s : List ℕ) where
     pub next-past : length s < i → End ≡ firstOf (stepsFrom t s i)
     next-past h = ap firstOf (sym (steps-none (omega (arith, says-within i))))
 
-    module _ (a : Answer) (d : List ℕ) (f : d ≡ drop i s) (e : a ≡ digestUnchecked t d) where
+    module _ (a : Answer) (d : List ℕ) (f : d ≡ drop i s) (e : a ≡ digestUnchecked digester.Verbose t d) where
       said : a ≡ says i
-      said = e ∙ ap (digestUnchecked t) f
+      said = e ∙ ap (digestUnchecked digester.Verbose t) f
 
       pub next-end : a .consumed ≡ 0 → End ≡ firstOf (stepsFrom t s i)
       next-end z = ap firstOf (sym (steps-none (sym (ap (λ (x : Answer). x .consumed) said) ∙ z)))
@@ -110,6 +112,10 @@ module _ (t s : List ℕ) where
 
     pub step-within : i ≤ length s → (x : Step) → Begins i x → i + x .answer .consumed ≤ length s
     step-within h x b = omega (arith, ap (λ (a : Answer). a .consumed) (b .says), says-within i)
+
+  -- a step's answer lies within what it digested
+  pub step-lies : (i : ℕ) (x : Step) → Begins i x → Within (length (drop i s)) (x .answer)
+  step-lies i x b = rw (b .says) (unchecked-inside digester.Verbose t (drop i s))
 
   -- steps from a place of the input on stay within it
   pub eaten-within : (i : ℕ) (l : List Step) → Run i l → i ≤ length s → i + eaten l ≤ length s

@@ -4,6 +4,7 @@ use Prim.Native.Nat.{ℕ, zero, suc, _+_}
 use lib.ListN.{length, drop}
 use lib.Dec.{eqb}
 use Rattle.outcome.specs.Outcome.{if_then_else_}
+use Rattle.lines.specs.declared.Digester.the-variants as digester
 use Rattle.digest.specs.Digest.{digestUnchecked}
 use Rattle.steps.specs.declared.Step.{Step}
 use Rattle.steps.specs.declared.Stepped.{Stepped}
@@ -13,7 +14,7 @@ use Rattle.steps.specs.declared.Stepped.the-variants.{Is, End}
 unfoldable pub stepsBy : ℕ → List ℕ → List ℕ → ℕ → List Step
 stepsBy zero t s i = []
 stepsBy (suc n) t s i =
-    let a = digestUnchecked t (drop i s) in
+    let a = digestUnchecked digester.Verbose t (drop i s) in
     let r = stepsBy n t s (i + a .consumed) in
     if eqb (a .consumed) 0 then [] else record { from = i; answer = a } ∷ r
 

@@ -1,8 +1,9 @@
-// The steps of an input that is digested to its end, until 0 is consumed or nothing is left: each begins where the one before it ended.
+// The steps of an input that is digested to its end by document 01's digester, until 0 is consumed or nothing is left: each begins where the one before it ended.
 // The caller holds the place and asks for the step that begins there. The table isn't asked about, as in `digest_unchecked`.
 ghost use mathlib.Core.Path.{_≡_};
 ghost use Rattle.steps.specs.Steps.{stepsFrom, firstOf};
 use answers::Answer;
+use lines::Digester;
 
 // Where a digest began, and what it answered of the bytes from there on.
 pub struct Step {
@@ -23,7 +24,7 @@ pub fn next(table: &[u8], input: &[u8], from: usize) -> Stepped
     if input.len() < from {
         return Stepped::End;
     }
-    let a = digest::digest_unchecked(table, &input[from..]);
+    let a = digest::digest_unchecked(Digester::Verbose, table, &input[from..]);
     let consumed = a.consumed;
     if consumed == 0 {
         return Stepped::End;

@@ -32,12 +32,12 @@ module _ (s : State) (b m n : List ℕ) where
   stepped-back (steps.Is x k) = (refl, (refl, (refl, refl)))
   stepped-back steps.Full = (refl, (refl, (refl, refl)))
 
--- behind table and state: the buffer, the slot's memory, the queue's memory
-pub step-one : Alike calls.step.Reads.Post (λ κs x y s t. (x ≡ y) × ((s .1 .1 .0 .now ≡ t .1 .1 .0 .now) × ((s .1 .1 .1 .0 .now ≡ t .1 .1 .1 .0 .now) × (s .1 .1 .1 .1 .0 .now ≡ t .1 .1 .1 .1 .0 .now))))
+-- behind digester, table and state: the buffer, the slot's memory, the queue's memory
+pub step-one : Alike calls.step.Reads.Post (λ κs x y s t. (x ≡ y) × ((s .1 .1 .1 .0 .now ≡ t .1 .1 .1 .0 .now) × ((s .1 .1 .1 .1 .0 .now ≡ t .1 .1 .1 .1 .0 .now) × (s .1 .1 .1 .1 .1 .0 .now ≡ t .1 .1 .1 .1 .1 .0 .now))))
 step-one κs a x y s t h g =
     let e = determined h g in
-    let k = stepped-back (a .1 .0) (s .1 .1 .0 .now) (s .1 .1 .1 .0 .now) (s .1 .1 .1 .1 .0 .now) x in
-    let l = stepped-back (a .1 .0) (t .1 .1 .0 .now) (t .1 .1 .1 .0 .now) (t .1 .1 .1 .1 .0 .now) y in (
+    let k = stepped-back (a .1 .1 .0) (s .1 .1 .1 .0 .now) (s .1 .1 .1 .1 .0 .now) (s .1 .1 .1 .1 .1 .0 .now) x in
+    let l = stepped-back (a .1 .1 .0) (t .1 .1 .1 .0 .now) (t .1 .1 .1 .1 .0 .now) (t .1 .1 .1 .1 .1 .0 .now) y in (
       sym (k .0) ∙ ap stepped-of e ∙ l .0,
       (
         sym (k .1 .0) ∙ ap (λ (z : Step). left-by z .buf) e ∙ l .1 .0,

@@ -11,6 +11,7 @@ use Rattle.text.specs.Logic.{false-true, order}
 use Rattle.outcome.specs.Outcome.{answered}
 use Rattle.table.specs.Table.{ruling}
 use Rattle.answers.specs.Answer.{isFound, isNotice}
+use Rattle.lines.specs.declared.Digester.{Digester}
 use Rattle.answers.specs.declared.Answer.{Answer}
 use Rattle.answers.specs.declared.Kind.the-variants as kind
 use Rattle.digest.specs.Digest.{digestUnchecked}
@@ -31,24 +32,24 @@ module _ (s : State) (b m n : List ℕ) (e : ℕ) (h : e ≡ min (s .end) (lengt
       (λ l. let z : e ≡ length b = omega arith in ap (λ (k : ℕ). take k b) z ∙ take-length b ∙ sym (take-all (s .end) b l))
       (order (s .end) (length b))
 
-  pub says-is : (t : List ℕ) → digestUnchecked t (take e b) ≡ says (choice t) (world s b m n)
+  pub says-is : (d : Digester) (t : List ℕ) → digestUnchecked d t (take e b) ≡ says (choice d t) (world s b m n)
   unfolding says
-  says-is t = ap (digestUnchecked t) held-is
+  says-is d t = ap (digestUnchecked d t) held-is
 
 -- It is said of the bytes held alone.
 pub says-same : (c : Choice) (w v : World) → held w ≡ held v → says c w ≡ says c v
 unfolding says
-says-same c w v e = ap (digestUnchecked (c .table)) e
+says-same c w v e = ap (digestUnchecked (c .digester) (c .table)) e
 
 -- Whatever it says, it consumes at most what is held.
 pub says-within : (c : Choice) (w : World) → says c w .consumed ≤ length (held w)
 unfolding says
-says-within c w = unchecked-within (c .table) (held w)
+says-within c w = unchecked-within (c .digester) (c .table) (held w)
 
 -- A notice's number fits a byte, so that a record's number is the notice's.
 pub says-byte : (c : Choice) (w : World) → isNotice (says c w .kind) ≡ true → says c w .number < 256
 unfolding says
-says-byte c w q = omega (arith, unchecked-below (c .table) (held w) q)
+says-byte c w q = omega (arith, unchecked-below (c .digester) (c .table) (held w) q)
 
 -- Under a good table and of at most 4,096 bytes: an answer that found something consumes at least one byte, and its payload lies in what it consumes;
 -- one that found nothing is None, and then nothing is finished.
@@ -61,8 +62,8 @@ pub record Trusted (c : Choice) (w : World) (a : Answer) : Type 0 where
 pub says-trusted : (c : Choice) (w : World) → length (held w) ≤ 4096 → (n : ℕ) → ruling (c .table) ≡ answered n → Trusted c w (says c w)
 unfolding says
 says-trusted c w h n e =
-    let x = unchecked-heard (c .table) (held w) h n e in
-    record { some = x .some; payload = λ f. x .item f .payload; nothing = none-only (digestUnchecked (c .table) (held w) .kind); quiet = x .none }
+    let x = unchecked-heard (c .digester) (c .table) (held w) h n e in
+    record { some = x .some; payload = λ f. x .item f .payload; nothing = none-only (digestUnchecked (c .digester) (c .table) (held w) .kind); quiet = x .none }
 
 -- a notice is something found
 pub notice-found : (a : Answer) → isNotice (a .kind) ≡ true → isFound a ≡ true

@@ -8,6 +8,7 @@ use Rattle.moves.specs.Moves.{moved}
 use Rattle.outcome.specs.Outcome.{Outcome, answered, refused, if_then_else_}
 use Rattle.table.specs.Table.{tokens}
 use Rattle.answers.specs.Answer.{isNotice, carried}
+use Rattle.lines.specs.declared.Digester.{Digester}
 use Rattle.answers.specs.declared.Answer.{Answer}
 use Rattle.digest.specs.Digest.{digestUnchecked}
 use Rattle.digest.specs.Finished.{NothingFinished}
@@ -82,20 +83,21 @@ withState w s = world s (w .buf) (w .slotMemory) (w .queueMemory)
 abbrev pub held : World → List ℕ
 held w = take (w .state .end) (w .buf)
 
--- what the caller chooses of the digester: the token table
+-- what the caller chooses: the digester (R-3), and its token table
 pub record Choice : Type 0 where
+  pub digester : Digester
   pub table : List ℕ
 
-abbrev pub choice : List ℕ → Choice
-choice t = record { table = t }
+abbrev pub choice : Digester → List ℕ → Choice
+choice d t = record { digester = d; table = t }
 
 -- what the digester says of the bytes held
 unfoldable pub says : Choice → World → Answer
-says c w = digestUnchecked (c .table) (held w)
+says c w = digestUnchecked (c .digester) (c .table) (held w)
 
 -- no line start of the bytes held holds a finished item
 abbrev pub Quiet : Choice → World → Type 0
-Quiet c w = NothingFinished (tokens (c .table)) (held w)
+Quiet c w = NothingFinished (c .digester) (tokens (c .table)) (held w)
 
 abbrev pub payloadOf : List ℕ → Answer → List ℕ
 payloadOf s a = partOf s (a .place) (a .len)

@@ -7,6 +7,7 @@ ghost use Prim.Native.Nat.{_<_, min};
 ghost use Rattle.answers.specs.Answer.{isNotice};
 ghost use Rattle.turn.specs.Turn.{withEnd, withSlot, withQueue, deliver, delivery, world, choice, once, stepped};
 use answers::Answer;
+use lines::Digester;
 use queue::Put;
 use queue::Queue;
 use slot::Slot;
@@ -109,16 +110,17 @@ pub enum Stepped {
 
 // Digests what is in the buffer, delivers, and moves the rest to the front. An end past the buffer counts as the buffer's.
 pub fn step(
+    digester: Digester,
     table: &[u8],
     state: State,
     buf: &mut [u8],
     slot_mem: &mut [u8],
     queue_mem: &mut [u8],
 ) -> Stepped
-    ensures { λ r. ⌜ stepped state r (now (buf .exit)) (now («slot_mem» .exit)) (now («queue_mem» .exit)) ≡ once (choice (now (table .entry))) (world state (now (buf .entry)) (now («slot_mem» .entry)) (now («queue_mem» .entry))) ⌝ }
+    ensures { λ r. ⌜ stepped state r (now (buf .exit)) (now («slot_mem» .exit)) (now («queue_mem» .exit)) ≡ once (choice digester (now (table .entry))) (world state (now (buf .entry)) (now («slot_mem» .entry)) (now («queue_mem» .entry))) ⌝ }
 {
     let end = fitting(state.end, buf.len());
-    let a = digest::digest_unchecked(table, &buf[..end]);
+    let a = digest::digest_unchecked(digester, table, &buf[..end]);
     let n = a.consumed;
     let part = answers::carried(a);
     let p = digest::payload(&buf[..end], part.start, part.len);

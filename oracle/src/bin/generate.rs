@@ -8,8 +8,9 @@ use std::process::ExitCode;
 const USAGE: &str = "usage: generate N SEED
        generate limits
 Prints N cases, always the same ones for a seed. Of each ten, four are the next of the exhaustive lists (every sequence of small alphabets up to a
-length, in an order that the seed chooses; random ones once these are used up), five are random or damaged digest inputs, and one is an ingress script
-(every second of them from an exhaustive list of calls). `limits` prints the cases at the limits, which every comparison begins with.";
+length, in an order that the seed chooses; random ones once these are used up), one is an input with CONNECT and four are other random or damaged digest
+inputs, and one is an ingress script (of those with CONNECT and of the scripts every second is from an exhaustive list too). `limits` prints the cases at
+the limits, which every comparison begins with.";
 
 fn main() -> ExitCode {
     let arguments: Vec<String> = env::args().skip(1).collect();

@@ -96,6 +96,27 @@ fn of_table(chance: &mut Chance, table: &Table) -> Vec<u8> {
     [front, &text[..kept], behind].concat()
 }
 
+const CONNECTS: [&[u8]; 12] = [
+    b"\r\nCONNECT ",
+    b"\r\nCONNECT ",
+    b"\r\nCONNECT ",
+    b"\r\nCONNECT",
+    b"\r\nCONNECT",
+    b"CONNECT ",
+    b"\nCONNECT ",
+    b"\r\nCONNECT\t",
+    b"\r\nCONNECTED ",
+    b"\r\nCONNEC ",
+    b"\r\nconnect ",
+    b"\r\n CONNECT ",
+];
+const CONNECT_TEXTS: [&[u8]; 14] = [b"", b"", b"9600", b"9600", b" 9600 ", b"115200/V42BIS", b"a\rb", b"a\nb", b"\r", b">", b"@", b":", b"CONNECT", b"ERROR"];
+
+/// A CONNECT line, or something near one.
+pub fn connect_line(chance: &mut Chance) -> Vec<u8> {
+    [chance.pick(&CONNECTS), chance.pick(&CONNECT_TEXTS), chance.pick(&ENDS)].concat()
+}
+
 /// One thing that a modem may say under the table.
 pub fn piece(chance: &mut Chance, table: &Table) -> Vec<u8> {
     match chance.below(8) {
@@ -187,6 +208,25 @@ fn behind_echo(chance: &mut Chance, table: &Table) -> Vec<u8> {
         input.truncate(keep);
     }
     input
+}
+
+/// CONNECT lines between other things, half of them cut or damaged.
+pub fn connect(chance: &mut Chance) -> Case {
+    let table = match chance.below(4) {
+        0 => Table::default(),
+        1 => tables::with_connect(chance),
+        _ => tables::good(chance),
+    };
+    let count = chance.within(1, 4);
+    let mut input: Vec<u8> = (0..count).flat_map(|_| if chance.once_in(2) { connect_line(chance) } else { piece(chance, &table) }).collect();
+    input.extend(connect_line(chance));
+    if chance.once_in(3) {
+        input.extend(piece(chance, &table));
+    }
+    if chance.once_in(2) {
+        damage(chance, &mut input);
+    }
+    Case::Digest { table: table.bytes, input }
 }
 
 pub fn input(chance: &mut Chance) -> Case {

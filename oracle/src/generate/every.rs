@@ -23,6 +23,13 @@ const INPUTS: [List; 14] = [
     (&[(b"UR", b"+U"), (b"CP", b">>")], &[b"\r\n", b"+U", b":", b"OK", b"> ", b"+CME ERROR: 1"], 5),
 ];
 
+/// CONNECT and what may stand behind it. Lists of their own, so that the order of those above is what it was.
+const CONNECTS: [List; 3] = [
+    (&[], &[b"\r\nCONNECT", b" ", b"\r\n", b"\r", b"9", b"OK\r\n"], 5),
+    (&[], &[b"\r\nCONNECT ", b"\r", b"\n", b">", b"x"], 5),
+    (&[(b"UR", b"CONNECT"), (b"CE", b"CONNECT 9")], &[b"\r\n", b"CONNECT", b" ", b"9", b":"], 5),
+];
+
 const SCRIPT_TABLE: &[(&[u8], &[u8])] = &[(b"UR", b"A")];
 const SCRIPT_OPS: [&[u8]; 7] = [b"W\r\nA\r\n", b"Wx", b"A\r\nOK\r\n", b"T", b"M", b"R", b"W\r\nyy\r\nOK\r\n\r\nA:z\r\n> "];
 const MOST_OPS: u32 = 5;
@@ -48,13 +55,30 @@ fn sequence(letters: u64, mut k: u64) -> Vec<usize> {
     said
 }
 
-pub fn inputs() -> u64 {
-    INPUTS.iter().map(|(_, tokens, most)| sequences(tokens.len() as u64, *most)).sum()
+fn all_of(lists: &[List]) -> u64 {
+    lists.iter().map(|(_, tokens, most)| sequences(tokens.len() as u64, *most)).sum()
 }
 
-/// The k-th input of all lists.
-pub fn input(mut k: u64) -> Case {
-    for (records, tokens, most) in INPUTS {
+pub fn inputs() -> u64 {
+    all_of(&INPUTS)
+}
+
+pub fn connects() -> u64 {
+    all_of(&CONNECTS)
+}
+
+/// The k-th input of the lists.
+pub fn input(k: u64) -> Case {
+    of_lists(&INPUTS, k)
+}
+
+/// The k-th input with CONNECT.
+pub fn connect(k: u64) -> Case {
+    of_lists(&CONNECTS, k)
+}
+
+fn of_lists(lists: &[List], mut k: u64) -> Case {
+    for &(records, tokens, most) in lists {
         let here = sequences(tokens.len() as u64, most);
         if k < here {
             let input = sequence(tokens.len() as u64, k).iter().flat_map(|&t| tokens[t]).copied().collect();

@@ -20,6 +20,7 @@ const LINES: [&[u8]; 12] = [
     b"+CMS ERROR: 500",
     b"MODEM ERROR: 7",
 ];
+const LONGER: &[u8] = b"\r\nCONNECT 9600\r\n";
 const CODES: [&[u8]; 18] = [
     b"",
     b"0",
@@ -59,6 +60,9 @@ pub fn limits() -> Vec<Case> {
     all.queue_sizes();
     all.rooms();
     all.going_on();
+    all.connects();
+    all.connects_far_on();
+    all.connects_in_pieces();
     all.0
 }
 
@@ -374,6 +378,83 @@ impl List {
                 self.script(&one, buffer, 4, 132, &ops);
             }
             self.script(&one, 5, 4, 0, &[&[write(&line(b"A"))], way].concat());
+        }
+    }
+
+    /// CONNECT with text, which the crate doesn't hear: every byte behind the word and at the line's end, each byte another, left out or said twice, cuts, records
+    /// of such texts, and every item before and behind. Where no longer line stands, R-3's mode must say the same.
+    fn connects(&mut self) {
+        let empty = Table::default();
+        for b in 0..=255 {
+            self.digest(&empty, &[b"\r\nCONNECT", &[b][..], b"9600\r\n"].concat());
+            self.digest(&empty, &[b"\r\nCONNECT 9600", &[b][..], b"\n"].concat());
+        }
+        for at in 0..LONGER.len() {
+            let (front, behind) = (&LONGER[..at], &LONGER[at + 1..]);
+            self.digest(&empty, &[front, b"x", behind].concat());
+            self.digest(&empty, &[front, behind].concat());
+            self.digest(&empty, &[front, &LONGER[at..at + 1], &LONGER[at..]].concat());
+            for before in [&b""[..], b"\r\nERROR\r\n", b"\r\nCONNECT\r\n"] {
+                self.digest(&empty, &[before, &LONGER[..=at]].concat());
+            }
+        }
+        for mark in [b"UR", b"CS", b"CE", b"CP"] {
+            for text in [&b"CONNECT"[..], b"CONNECT 9600", b"9600"] {
+                let table = tables::of(&[(mark, text)]);
+                for input in [LONGER, b"\r\nCONNECT\r\n", b"\r\nCONNECT 9600", b"\r\nCONNECT\t9600\r\n"] {
+                    self.digest(&table, input);
+                }
+            }
+        }
+        let mut table = tables::of(&[(b"UR", b"+U"), (b"CS", b"SENT"), (b"CE", b"FAIL")]);
+        tables::record(&mut table, b"CP", 1, b"=>");
+        let mut items: Vec<Vec<u8>> = LINES.iter().map(|text| line(text)).collect();
+        items.extend([line(b"+U: 1"), line(b"SENT"), line(b"FAIL"), b"\r\n=> ".to_vec(), b"\r\n> ".to_vec(), b"\r\n@".to_vec()]);
+        for item in &items {
+            for near in [LONGER, b"\r\nCONNECT\t9600\r\n", b"\r\nCONNECT 9600"] {
+                self.digest(&table, &[&item[..], near].concat());
+                self.digest(&table, &[near, &item[..]].concat());
+            }
+        }
+    }
+
+    /// A bare line, a longer one and one that isn't ended, behind as many bytes as bring it to each place of a block of 64, and at the end of 4,096.
+    fn connects_far_on(&mut self) {
+        let empty = Table::default();
+        for said in [b"\r\nCONNECT\r\n", LONGER, b"\r\nBUSY\r\nCONNECT 96"] {
+            for len in (40..=130).chain([4094 - said.len()]) {
+                self.digest(&empty, &[b"\r\n", &vec![b'x'; len][..], said].concat());
+            }
+        }
+        self.digest(&empty, &[b"\r\nCONNECT ", &[b'9'; 4086][..]].concat());
+    }
+
+    /// CONNECT through the ingress: cut at every place, byte by byte, in buffers that are too short for it, committed bit by bit, behind a notice that has to wait.
+    fn connects_in_pieces(&mut self) {
+        let one = tables::of(&[(b"UR", b"A")]);
+        for said in [&b"\r\nab\r\nCONNECT\r\n"[..], b"\r\nab\r\nCONNECT 96\r\n"] {
+            for cut in 0..said.len() {
+                self.script(&one, 32, 4, 132, &[write(&said[..cut]), write(&said[cut..]), Op::Reset, write(&line(b"BUSY"))]);
+            }
+            let bytes: Vec<Op> = said.iter().map(|&b| Op::Put(vec![b])).collect();
+            self.script(&one, 32, 4, 132, &bytes);
+        }
+        for buffer in 8..=18 {
+            for said in [b"\r\nCONNECT\r\n", LONGER] {
+                self.script(&one, buffer, 4, 132, &[write(said), Op::Over(0), Op::Clear, write(&line(b"OK"))]);
+            }
+        }
+        for held in 1..=LONGER.len() {
+            let left = [Op::Put(line(b"OK")), Op::Reset, write(&LONGER[..held]), Op::Over(1), Op::Clear, Op::Over(3)];
+            self.script(&one, LONGER.len(), 4, 132, &left);
+            let ops = vec![Op::Over(1); held];
+            self.0.push(Case::Ingress { table: one.bytes.clone(), buffer: LONGER.to_vec(), slot: vec![b'.'; 4], queue: vec![b'.'; 132], ops });
+        }
+        for said in [b"\r\nCONNECT\r\n", LONGER, b"\r\nCONNECT 96"] {
+            for way in [&[][..], &[Op::Over(0)], &[Op::Take, Op::Over(0)], &[Op::Take, Op::Write(b"\r\n".to_vec())]] {
+                let held = [line(b"A"), line(b"A: 2"), said.to_vec()].concat();
+                self.script(&one, 40, 4, 132, &[&[write(&held)], way].concat());
+            }
         }
     }
 }

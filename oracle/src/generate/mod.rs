@@ -1,6 +1,6 @@
 //! Cases from a seed. Case number i of a seed is always the same, however many are made: of each ten, four are the next of the exhaustive
-//! lists (random ones once those are used up), five are random or damaged digest inputs, and one is an ingress script, every second of them
-//! from an exhaustive list too. A million cases have all that the lists have.
+//! lists (random ones once those are used up), one is an input with CONNECT and four are other random or damaged digest inputs, and one is an ingress
+//! script; of those with CONNECT and of the scripts every second is from an exhaustive list too. A million cases have all that the lists have.
 
 mod chance;
 mod digests;
@@ -16,7 +16,7 @@ use chance::Chance;
 
 /// How many cases the exhaustive lists have: digest inputs, ingress scripts.
 pub fn exhaustive() -> (u64, u64) {
-    (every::inputs(), every::scripts())
+    (every::inputs() + every::connects(), every::scripts())
 }
 
 /// Case number i of a seed.
@@ -26,6 +26,8 @@ pub fn case(seed: u64, i: u64) -> Case {
     match one {
         9 if ten % 2 == 0 && ten / 2 < every::scripts() => every::script(shuffled(seed, ten / 2, every::scripts())),
         9 => scripts::script(&mut chance),
+        4 if ten % 2 == 0 && ten / 2 < every::connects() => every::connect(shuffled(seed, ten / 2, every::connects())),
+        4 => digests::connect(&mut chance),
         0..4 if 4 * ten + one < every::inputs() => every::input(shuffled(seed, 4 * ten + one, every::inputs())),
         _ => digests::input(&mut chance),
     }

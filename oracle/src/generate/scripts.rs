@@ -79,6 +79,7 @@ fn stream(chance: &mut Chance, table: &Table, buffer: usize, slot: usize) -> Vec
                 let behind: &[u8] = chance.pick(&[b"\r\n", b": 1\r\n", b":\r\n"]);
                 said.extend([b"\r\n", &text[..], behind].concat());
             }
+            11 => said.extend(digests::connect_line(chance)),
             _ => said.extend(digests::piece(chance, table)),
         }
     }

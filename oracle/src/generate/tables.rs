@@ -117,6 +117,17 @@ fn full(chance: &mut Chance, table: &mut Table) {
     }
 }
 
+/// One or two records whose text is a CONNECT line, or a part of one.
+pub fn with_connect(chance: &mut Chance) -> Table {
+    let mut table = Table::default();
+    for _ in 0..chance.within(1, 2) {
+        let text = chance.pick(&[&b"CONNECT"[..], b"CONNECT", b"CONNECT 9600", b"CONN", b"9600", b"CONNECT >"]);
+        let mark = chance.pick(&MARKS);
+        record(&mut table, mark, chance.byte(), text);
+    }
+    table
+}
+
 /// A table with notices, for scripts.
 pub fn with_notices(chance: &mut Chance) -> Table {
     let mut table = Table::default();

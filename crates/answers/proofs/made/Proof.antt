@@ -13,10 +13,13 @@ placed-at-requires c κs = search needs
 placed-at-requires-2 : tie.Need-placed-at-requires-2
 placed-at-requires-2 c κs = search needs
 
+placed-at-requires-3 : tie.Need-placed-at-requires-3
+placed-at-requires-3 c κs = search needs
+
 returns : tie.Need-returns
 returns c =
-    let args = c .before .before .before .args in
-    made-is _ _ (args .payload) (args .digits) _ _ _ _ (c .before .before .number-of .ensures) (c .before .placed-at .ensures) (c .placed-at2 .ensures)
+    let args = c .before .before .before .before .args in
+    made-is _ _ (args .payload) (args .digits) (args .text) _ _ _ _ _ (c .before .before .before .number-of .ensures) (c .before .before .placed-at .ensures) (c .before .placed-at2 .ensures) (c .placed-at3 .ensures)
 
 pub made-spec : {M : Type 1} → statement M
-made-spec = tie.close (tie.spec number-of-requires placed-at-requires placed-at-requires-2 returns)
+made-spec = tie.close (tie.spec number-of-requires placed-at-requires placed-at-requires-2 placed-at-requires-3 returns)

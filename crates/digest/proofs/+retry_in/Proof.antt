@@ -20,7 +20,7 @@ use Rattle.digest.proofs.+retry_in.{statement}
 use Rattle.digest.proofs.+retry_in.Tie.{close}
 
 abbrev μ-retry-in : Measures 2 retry-in-kinds.ps ℕ
-μ-retry-in κs a = length (a .1 .0 .now)
+μ-retry-in κs a = length (a .1 .1 .0 .now)
 
 abbrev retry-in-at : ℕ → In 2 retry-in-kinds.ps
 retry-in-at t = and 2 retry-in-kinds.ps (is 2 retry-in-kinds.ps μ-retry-in t) retry-in.Pre
@@ -55,7 +55,7 @@ retry-in-returns t c =
     let level-from = c .before .before .before .before .before .before .level-from in
     let e = c .before .before .before .before .e in
     let retries-at = c .before .before .retries-at in
-    digest-stop (tokens (args .table .now)) (args .s .now) _ (said (args .table .now) (args .s .now) _ false (pre .1 .0) (λ z. pre .1 .1) _ (level-from .ensures)) _ _ (e .given .1) _ (retries-at .ensures) (not-true _ (c .before .if1 .taken)) _ (c .nothing .ensures)
+    digest-stop (args .digester) (tokens (args .table .now)) (args .s .now) _ (said (args .digester) (args .table .now) (args .s .now) _ false (pre .1 .0) (λ z. pre .1 .1) _ (level-from .ensures)) _ _ (e .given .1) _ (retries-at .ensures) (not-true _ (c .before .if1 .taken)) _ (c .nothing .ensures)
 
 retry-in-add-retry-in : (t : ℕ) → retry-in-lts.Need-add-retry-in (calls t) (retry-in-at t) retry-in.Post
 retry-in-add-retry-in t c =
@@ -63,7 +63,7 @@ retry-in-add-retry-in t c =
     let pre = c .before .before .before .before .before .before .before .before .pre in
     let level-from = c .before .before .before .before .before .level-from in
     let e = c .before .before .before .e in
-    record { fits = omega (arith, retry-room (tokens (args .table .now)) (args .s .now) _ (said (args .table .now) (args .s .now) _ false (pre .1 .0) (λ z. pre .1 .1) _ (level-from .ensures)) _ _ (e .given .1) _ (c .before .retries-at .ensures) (not-false _ (c .if1 .left)), pre .1 .0) }
+    record { fits = omega (arith, retry-room (args .digester) (tokens (args .table .now)) (args .s .now) _ (said (args .digester) (args .table .now) (args .s .now) _ false (pre .1 .0) (λ z. pre .1 .1) _ (level-from .ensures)) _ _ (e .given .1) _ (c .before .retries-at .ensures) (not-false _ (c .if1 .left)), pre .1 .0) }
 
 retry-in-sub-retry-in : (t : ℕ) → retry-in-lts.Need-sub-retry-in (calls t) (retry-in-at t) retry-in.Post
 retry-in-sub-retry-in t c =
@@ -71,7 +71,7 @@ retry-in-sub-retry-in t c =
     let pre = c .before .before .before .before .before .before .before .before .pre in
     let level-from = c .before .before .before .before .before .level-from in
     let e = c .before .before .before .e in
-    omega (arith, retry-room (tokens (args .table .now)) (args .s .now) _ (said (args .table .now) (args .s .now) _ false (pre .1 .0) (λ z. pre .1 .1) _ (level-from .ensures)) _ _ (e .given .1) _ (c .before .retries-at .ensures) (not-false _ (c .if1 .left)))
+    omega (arith, retry-room (args .digester) (tokens (args .table .now)) (args .s .now) _ (said (args .digester) (args .table .now) (args .s .now) _ false (pre .1 .0) (λ z. pre .1 .1) _ (level-from .ensures)) _ _ (e .given .1) _ (c .before .retries-at .ensures) (not-false _ (c .if1 .left)))
 
 retry-in-part-retry-in-start : (t : ℕ) → retry-in-lts.Need-part-retry-in-start (calls t) (retry-in-at t) retry-in.Post
 retry-in-part-retry-in-start t c =
@@ -79,7 +79,7 @@ retry-in-part-retry-in-start t c =
     let pre = c .before .before .before .before .before .before .before .before .pre in
     let level-from = c .before .before .before .before .before .level-from in
     let e = c .before .before .before .e in
-    omega (arith, retry-room (tokens (args .table .now)) (args .s .now) _ (said (args .table .now) (args .s .now) _ false (pre .1 .0) (λ z. pre .1 .1) _ (level-from .ensures)) _ _ (e .given .1) _ (c .before .retries-at .ensures) (not-false _ (c .if1 .left)))
+    omega (arith, retry-room (args .digester) (tokens (args .table .now)) (args .s .now) _ (said (args .digester) (args .table .now) (args .s .now) _ false (pre .1 .0) (λ z. pre .1 .1) _ (level-from .ensures)) _ _ (e .given .1) _ (c .before .retries-at .ensures) (not-false _ (c .if1 .left)))
 
 retry-in-part-retry-in-end : (t : ℕ) → retry-in-lts.Need-part-retry-in-end (calls t) (retry-in-at t) retry-in.Post
 retry-in-part-retry-in-end t c = search needs
@@ -91,7 +91,7 @@ retry-in-retry-in-requires t c κs =
     let level-from = c .before .before .before .before .before .before .level-from in
     let e = c .before .before .before .before .e in
     let retries-at = c .before .before .retries-at in
-    let room = retry-room (tokens (args .table .now)) (args .s .now) _ (said (args .table .now) (args .s .now) _ false (pre .1 .0) (λ z. pre .1 .1) _ (level-from .ensures)) _ _ (e .given .1) _ (retries-at .ensures) (not-false _ (c .before .if1 .left)) in (rw (length-take, length-drop) (omega (arith, room, pre .0)), (rw (length-take, length-drop) (omega (arith, pre .1 .0)), retry-known (tokens (args .table .now)) (args .s .now) _ (said (args .table .now) (args .s .now) _ false (pre .1 .0) (λ z. pre .1 .1) _ (level-from .ensures)) _ _ (e .given .1) _ (retries-at .ensures) (not-false _ (c .before .if1 .left))))
+    let room = retry-room (args .digester) (tokens (args .table .now)) (args .s .now) _ (said (args .digester) (args .table .now) (args .s .now) _ false (pre .1 .0) (λ z. pre .1 .1) _ (level-from .ensures)) _ _ (e .given .1) _ (retries-at .ensures) (not-false _ (c .before .if1 .left)) in (rw (length-take, length-drop) (omega (arith, room, pre .0)), (rw (length-take, length-drop) (omega (arith, pre .1 .0)), retry-known (args .digester) (tokens (args .table .now)) (args .s .now) _ (said (args .digester) (args .table .now) (args .s .now) _ false (pre .1 .0) (λ z. pre .1 .1) _ (level-from .ensures)) _ _ (e .given .1) _ (retries-at .ensures) (not-false _ (c .before .if1 .left))))
 
 retry-in-again-requires : (t : ℕ) → retry-in-lts.Need-again-requires (calls t) (retry-in-at t) retry-in.Post
 retry-in-again-requires t c κs =
@@ -101,14 +101,14 @@ retry-in-again-requires t c κs =
     let e = c .before .before .before .before .before .e in
     let retries-at = c .before .before .before .retries-at in
     let if1 = c .before .before .if1 in
-    retry-within (tokens (args .table .now)) (args .s .now) _ (said (args .table .now) (args .s .now) _ false (pre .1 .0) (λ z. pre .1 .1) _ (level-from .ensures)) _ _ (e .given .1) _ (retries-at .ensures) (not-false _ (if1 .left)) _ (c .retry-in .ensures) (pre .1 .0)
+    retry-within (args .digester) (tokens (args .table .now)) (args .s .now) _ (said (args .digester) (args .table .now) (args .s .now) _ false (pre .1 .0) (λ z. pre .1 .1) _ (level-from .ensures)) _ _ (e .given .1) _ (retries-at .ensures) (not-false _ (if1 .left)) _ (c .retry-in .ensures) (pre .1 .0)
 
 retry-in-returns-2 : (t : ℕ) → retry-in-lts.Need-returns-2 (calls t) (retry-in-at t) retry-in.Post
 retry-in-returns-2 t c =
     let args = c .before .before .before .before .before .before .args in
     let pre = c .before .before .before .before .before .before .pre in
     let level-from = c .before .before .before .level-from in
-    digest-done (tokens (args .table .now)) (args .s .now) _ (said (args .table .now) (args .s .now) _ false (pre .1 .0) (λ z. pre .1 .1) _ (level-from .ensures)) _ (c .before .a .given .1)
+    digest-done (args .digester) (tokens (args .table .now)) (args .s .now) _ (said (args .digester) (args .table .now) (args .s .now) _ false (pre .1 .0) (λ z. pre .1 .1) _ (level-from .ensures)) _ (c .before .a .given .1)
 
 retry-in-returns-3 : (t : ℕ) → retry-in-lts.Need-returns-3 (calls t) (retry-in-at t) retry-in.Post
 retry-in-returns-3 t c =
@@ -118,7 +118,7 @@ retry-in-returns-3 t c =
     let e = c .before .before .before .before .before .before .e in
     let retries-at = c .before .before .before .before .retries-at in
     let if1 = c .before .before .before .if1 in
-    digest-again (tokens (args .table .now)) (args .s .now) _ (said (args .table .now) (args .s .now) _ false (pre .1 .0) (λ z. pre .1 .1) _ (level-from .ensures)) _ _ (e .given .1) _ (retries-at .ensures) (not-false _ (if1 .left)) _ (c .before .retry-in .ensures) _ (c .again .ensures)
+    digest-again (args .digester) (tokens (args .table .now)) (args .s .now) _ (said (args .digester) (args .table .now) (args .s .now) _ false (pre .1 .0) (λ z. pre .1 .1) _ (level-from .ensures)) _ _ (e .given .1) _ (retries-at .ensures) (not-false _ (if1 .left)) _ (c .before .retry-in .ensures) _ (c .again .ensures)
 
 pub +retry-in-spec : {M : Type 1} → statement M
 +retry-in-spec = close μ-retry-in λ t. retry-in-lts.spec (calls t)

@@ -10,7 +10,7 @@ use Rattle.digest.proofs.digest.Tie as tie
 returns : tie.Need-returns
 returns c =
     let args = c .before .before .before .args in
-    (digest-long (args .table .now) (args .input .now) (omega arith), tt)
+    (digest-long (args .digester) (args .table .now) (args .input .now) (omega arith), tt)
 
 check-requires : tie.Need-check-requires
 check-requires c κs = search needs
@@ -28,13 +28,13 @@ returns-2 : tie.Need-returns-2
 returns-2 c =
     let args = c .before .before .before .before .before .before .before .args in
     let check = c .before .before .before .check in
-    (digest-bad (args .table .now) (args .input .now) (omega arith) _ (ap outcome (sym (c .before .k .given .1)) ∙ check .ensures), tt)
+    (digest-bad (args .digester) (args .table .now) (args .input .now) (omega arith) _ (ap outcome (sym (c .before .k .given .1)) ∙ check .ensures), tt)
 
 returns-3 : tie.Need-returns-3
 returns-3 c =
     let lent = c .before .before .before .before .before .before .before .args in
     let good = ap outcome (sym (c .before .enum-told .given .1)) ∙ c .before .before .before .check .ensures in
-    (digest-is (lent .table .now) (lent .input .now) (omega arith) _ good _ (c .digest-in .ensures), digest-heard (lent .table .now) (lent .input .now) _ (sym good) _ (c .digest-in .ensures))
+    (digest-is (lent .digester) (lent .table .now) (lent .input .now) (omega arith) _ good _ (c .digest-in .ensures), digest-heard (lent .digester) (lent .table .now) (lent .input .now) _ (sym good) _ (c .digest-in .ensures))
 
 pub digest-spec : {M : Type 1} → statement M
 digest-spec =

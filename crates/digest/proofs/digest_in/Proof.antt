@@ -36,7 +36,7 @@ returns c =
     let level-from = c .before .before .before .before .before .before .level-from in
     let e = c .before .before .before .before .e in
     let retries-at = c .before .before .retries-at in
-    digest-stop (tokens (args .table .now)) (args .s .now) _ (said (args .table .now) (args .s .now) _ true pre (λ z. absurd (false-true refl z)) _ (level-from .ensures)) _ _ (e .given .1) _ (retries-at .ensures) (not-true _ (c .before .if1 .taken)) _ (c .nothing .ensures)
+    digest-stop (args .digester) (tokens (args .table .now)) (args .s .now) _ (said (args .digester) (args .table .now) (args .s .now) _ true pre (λ z. absurd (false-true refl z)) _ (level-from .ensures)) _ _ (e .given .1) _ (retries-at .ensures) (not-true _ (c .before .if1 .taken)) _ (c .nothing .ensures)
 
 add-retry-in : tie.Need-add-retry-in
 add-retry-in c =
@@ -44,7 +44,7 @@ add-retry-in c =
     let pre = c .before .before .before .before .before .before .before .before .before .pre in
     let level-from = c .before .before .before .before .before .level-from in
     let e = c .before .before .before .e in
-    record { fits = omega (arith, retry-room (tokens (args .table .now)) (args .s .now) _ (said (args .table .now) (args .s .now) _ true pre (λ z. absurd (false-true refl z)) _ (level-from .ensures)) _ _ (e .given .1) _ (c .before .retries-at .ensures) (not-false _ (c .if1 .left)), pre) }
+    record { fits = omega (arith, retry-room (args .digester) (tokens (args .table .now)) (args .s .now) _ (said (args .digester) (args .table .now) (args .s .now) _ true pre (λ z. absurd (false-true refl z)) _ (level-from .ensures)) _ _ (e .given .1) _ (c .before .retries-at .ensures) (not-false _ (c .if1 .left)), pre) }
 
 sub-retry-in : tie.Need-sub-retry-in
 sub-retry-in c =
@@ -52,7 +52,7 @@ sub-retry-in c =
     let pre = c .before .before .before .before .before .before .before .before .before .pre in
     let level-from = c .before .before .before .before .before .level-from in
     let e = c .before .before .before .e in
-    omega (arith, retry-room (tokens (args .table .now)) (args .s .now) _ (said (args .table .now) (args .s .now) _ true pre (λ z. absurd (false-true refl z)) _ (level-from .ensures)) _ _ (e .given .1) _ (c .before .retries-at .ensures) (not-false _ (c .if1 .left)))
+    omega (arith, retry-room (args .digester) (tokens (args .table .now)) (args .s .now) _ (said (args .digester) (args .table .now) (args .s .now) _ true pre (λ z. absurd (false-true refl z)) _ (level-from .ensures)) _ _ (e .given .1) _ (c .before .retries-at .ensures) (not-false _ (c .if1 .left)))
 
 part-retry-in-start : tie.Need-part-retry-in-start
 part-retry-in-start c =
@@ -60,7 +60,7 @@ part-retry-in-start c =
     let pre = c .before .before .before .before .before .before .before .before .before .pre in
     let level-from = c .before .before .before .before .before .level-from in
     let e = c .before .before .before .e in
-    omega (arith, retry-room (tokens (args .table .now)) (args .s .now) _ (said (args .table .now) (args .s .now) _ true pre (λ z. absurd (false-true refl z)) _ (level-from .ensures)) _ _ (e .given .1) _ (c .before .retries-at .ensures) (not-false _ (c .if1 .left)))
+    omega (arith, retry-room (args .digester) (tokens (args .table .now)) (args .s .now) _ (said (args .digester) (args .table .now) (args .s .now) _ true pre (λ z. absurd (false-true refl z)) _ (level-from .ensures)) _ _ (e .given .1) _ (c .before .retries-at .ensures) (not-false _ (c .if1 .left)))
 
 part-retry-in-end : tie.Need-part-retry-in-end
 part-retry-in-end c = search needs
@@ -72,7 +72,7 @@ retry-in-requires c κs =
     let level-from = c .before .before .before .before .before .before .level-from in
     let e = c .before .before .before .before .e in
     let retries-at = c .before .before .retries-at in
-    let room = retry-room (tokens (args .table .now)) (args .s .now) _ (said (args .table .now) (args .s .now) _ true pre (λ z. absurd (false-true refl z)) _ (level-from .ensures)) _ _ (e .given .1) _ (retries-at .ensures) (not-false _ (c .before .if1 .left)) in (rw (length-take, length-drop) (omega (arith, pre)), retry-known (tokens (args .table .now)) (args .s .now) _ (said (args .table .now) (args .s .now) _ true pre (λ z. absurd (false-true refl z)) _ (level-from .ensures)) _ _ (e .given .1) _ (retries-at .ensures) (not-false _ (c .before .if1 .left)))
+    let room = retry-room (args .digester) (tokens (args .table .now)) (args .s .now) _ (said (args .digester) (args .table .now) (args .s .now) _ true pre (λ z. absurd (false-true refl z)) _ (level-from .ensures)) _ _ (e .given .1) _ (retries-at .ensures) (not-false _ (c .before .if1 .left)) in (rw (length-take, length-drop) (omega (arith, pre)), retry-known (args .digester) (tokens (args .table .now)) (args .s .now) _ (said (args .digester) (args .table .now) (args .s .now) _ true pre (λ z. absurd (false-true refl z)) _ (level-from .ensures)) _ _ (e .given .1) _ (retries-at .ensures) (not-false _ (c .before .if1 .left)))
 
 again-requires : tie.Need-again-requires
 again-requires c κs =
@@ -82,14 +82,14 @@ again-requires c κs =
     let e = c .before .before .before .before .before .e in
     let retries-at = c .before .before .before .retries-at in
     let if1 = c .before .before .if1 in
-    retry-within (tokens (args .table .now)) (args .s .now) _ (said (args .table .now) (args .s .now) _ true pre (λ z. absurd (false-true refl z)) _ (level-from .ensures)) _ _ (e .given .1) _ (retries-at .ensures) (not-false _ (if1 .left)) _ (c .retry-in .ensures) (pre)
+    retry-within (args .digester) (tokens (args .table .now)) (args .s .now) _ (said (args .digester) (args .table .now) (args .s .now) _ true pre (λ z. absurd (false-true refl z)) _ (level-from .ensures)) _ _ (e .given .1) _ (retries-at .ensures) (not-false _ (if1 .left)) _ (c .retry-in .ensures) (pre)
 
 returns-2 : tie.Need-returns-2
 returns-2 c =
     let args = c .before .before .before .before .before .before .before .args in
     let pre = c .before .before .before .before .before .before .before .pre in
     let level-from = c .before .before .before .level-from in
-    digest-done (tokens (args .table .now)) (args .s .now) _ (said (args .table .now) (args .s .now) _ true pre (λ z. absurd (false-true refl z)) _ (level-from .ensures)) _ (c .before .a .given .1)
+    digest-done (args .digester) (tokens (args .table .now)) (args .s .now) _ (said (args .digester) (args .table .now) (args .s .now) _ true pre (λ z. absurd (false-true refl z)) _ (level-from .ensures)) _ (c .before .a .given .1)
 
 returns-3 : tie.Need-returns-3
 returns-3 c =
@@ -99,7 +99,7 @@ returns-3 c =
     let e = c .before .before .before .before .before .before .e in
     let retries-at = c .before .before .before .before .retries-at in
     let if1 = c .before .before .before .if1 in
-    digest-again (tokens (args .table .now)) (args .s .now) _ (said (args .table .now) (args .s .now) _ true pre (λ z. absurd (false-true refl z)) _ (level-from .ensures)) _ _ (e .given .1) _ (retries-at .ensures) (not-false _ (if1 .left)) _ (c .before .retry-in .ensures) _ (c .again .ensures)
+    digest-again (args .digester) (tokens (args .table .now)) (args .s .now) _ (said (args .digester) (args .table .now) (args .s .now) _ true pre (λ z. absurd (false-true refl z)) _ (level-from .ensures)) _ _ (e .given .1) _ (retries-at .ensures) (not-false _ (if1 .left)) _ (c .before .retry-in .ensures) _ (c .again .ensures)
 
 pub digest-in-spec : {M : Type 1} → statement M
 digest-in-spec =

@@ -8,10 +8,10 @@ use Rattle.ingress.proofs.run.Statement.{statement}
 use Rattle.ingress.proofs.run.Tie as tie
 
 abbrev Inv-loop : tie.InvT-loop
-Inv-loop table buf₀ slot-mem₀ queue-mem₀ s₀ buf slot-mem queue-mem s = Going (choice table) (world s₀ buf₀ slot-mem₀ queue-mem₀) (world s buf slot-mem queue-mem)
+Inv-loop digester table buf₀ slot-mem₀ queue-mem₀ s₀ buf slot-mem queue-mem s = Going (choice digester table) (world s₀ buf₀ slot-mem₀ queue-mem₀) (world s buf slot-mem queue-mem)
 
 abbrev μ-loop : tie.MeasureT-loop
-μ-loop table buf₀ slot-mem₀ queue-mem₀ s₀ buf slot-mem queue-mem s = s .end
+μ-loop digester table buf₀ slot-mem₀ queue-mem₀ s₀ buf slot-mem queue-mem s = s .end
 
 loop-holds : tie.Need-loop-holds Inv-loop μ-loop
 loop-holds c = record { same = refl; bufLong = refl; slotLong = refl; queueLong = refl }
@@ -26,26 +26,26 @@ same-length : tie.Need-same-length Inv-loop μ-loop
 same-length c =
     let loop = c .before .before .before .before .before .before .before .before .before .before .before .before .before .before .loop in
     let step = c .before .before .before .before .before .before .before .before .step in
-    step .kept .1 .1 .0 ∙ loop .inv .bufLong
+    step .kept .1 .1 .1 .0 ∙ loop .inv .bufLong
 
 same-length-2 : tie.Need-same-length-2 Inv-loop μ-loop
 same-length-2 c =
     let loop = c .before .before .before .before .before .before .before .before .before .before .before .before .before .before .loop in
     let step = c .before .before .before .before .before .before .before .before .step in
-    step .kept .1 .1 .1 .0 ∙ loop .inv .slotLong
+    step .kept .1 .1 .1 .1 .0 ∙ loop .inv .slotLong
 
 same-length-3 : tie.Need-same-length-3 Inv-loop μ-loop
 same-length-3 c =
     let loop = c .before .before .before .before .before .before .before .before .before .before .before .before .before .before .loop in
     let step = c .before .before .before .before .before .before .before .before .step in
-    step .kept .1 .1 .1 .1 .0 ∙ loop .inv .queueLong
+    step .kept .1 .1 .1 .1 .1 .0 ∙ loop .inv .queueLong
 
 returns : tie.Need-returns Inv-loop μ-loop
 returns c =
     let args = c .before .before .before .before .before .before .before .before .before .before .before .before .before .before .before .before .before .before .before .args in
     let loop = c .before .before .before .before .before .before .before .before .before .before .before .before .before .before .loop in
     let step = c .before .before .before .before .before .before .before .before .step in
-    turn-full (choice (args .table .now)) (world (args .state) (args .buf .now) (args .slot-mem .now) (args .queue-mem .now)) (world (loop .s) (loop .buf) (loop .slot-mem) (loop .queue-mem)) (loop .inv) (omega arith) _ _ _ _ _ (step .ensures) (c .enum-told .given .1)
+    turn-full (choice (args .digester) (args .table .now)) (world (args .state) (args .buf .now) (args .slot-mem .now) (args .queue-mem .now)) (world (loop .s) (loop .buf) (loop .slot-mem) (loop .queue-mem)) (loop .inv) (omega arith) _ _ _ _ _ (step .ensures) (c .enum-told .given .1)
 
 enum-known-next : tie.Need-enum-known-next Inv-loop μ-loop
 enum-known-next c = search needs
@@ -54,43 +54,46 @@ same-length-4 : tie.Need-same-length-4 Inv-loop μ-loop
 same-length-4 c =
     let loop = c .before .before .before .before .before .before .before .before .before .before .before .before .before .before .before .before .loop in
     let step = c .before .before .before .before .before .before .before .before .before .before .step in
-    step .kept .1 .1 .0 ∙ loop .inv .bufLong
+    step .kept .1 .1 .1 .0 ∙ loop .inv .bufLong
 
 same-length-5 : tie.Need-same-length-5 Inv-loop μ-loop
 same-length-5 c =
     let loop = c .before .before .before .before .before .before .before .before .before .before .before .before .before .before .before .before .loop in
     let step = c .before .before .before .before .before .before .before .before .before .before .step in
-    step .kept .1 .1 .1 .0 ∙ loop .inv .slotLong
+    step .kept .1 .1 .1 .1 .0 ∙ loop .inv .slotLong
 
 same-length-6 : tie.Need-same-length-6 Inv-loop μ-loop
 same-length-6 c =
     let loop = c .before .before .before .before .before .before .before .before .before .before .before .before .before .before .before .before .loop in
     let step = c .before .before .before .before .before .before .before .before .before .before .step in
-    step .kept .1 .1 .1 .1 .0 ∙ loop .inv .queueLong
+    step .kept .1 .1 .1 .1 .1 .0 ∙ loop .inv .queueLong
 
 returns-2 : tie.Need-returns-2 Inv-loop μ-loop
 returns-2 c =
     let args = c .before .before .before .before .before .before .before .before .before .before .before .before .before .before .before .before .before .before .before .before .before .args in
     let loop = c .before .before .before .before .before .before .before .before .before .before .before .before .before .before .before .before .loop in
+    let if1 = c .before .before .before .before .before .before .before .before .before .before .before .before .before .before .if1 in
     let step = c .before .before .before .before .before .before .before .before .before .before .step in
     let next = c .before .before .next in
-    turn-still (choice (args .table .now)) (world (args .state) (args .buf .now) (args .slot-mem .now) (args .queue-mem .now)) (world (loop .s) (loop .buf) (loop .slot-mem) (loop .queue-mem)) (loop .inv) (omega arith) _ _ _ _ _ (step .ensures) _ _ (next .given .1) (omega arith)
+    turn-still (choice (args .digester) (args .table .now)) (world (args .state) (args .buf .now) (args .slot-mem .now) (args .queue-mem .now)) (world (loop .s) (loop .buf) (loop .slot-mem) (loop .queue-mem)) (loop .inv) (if1 .taken) _ _ _ _ _ (step .ensures) _ _ (next .given .1) (omega arith)
 
 loop-less : tie.Need-loop-less Inv-loop μ-loop
 loop-less c =
     let args = c .before .before .before .before .before .before .before .before .before .before .before .before .before .before .before .before .before .before .before .before .before .args in
     let loop = c .before .before .before .before .before .before .before .before .before .before .before .before .before .before .before .before .loop in
+    let if1 = c .before .before .before .before .before .before .before .before .before .before .before .before .before .before .if1 in
     let step = c .before .before .before .before .before .before .before .before .before .before .step in
     let next = c .before .before .next in
-    turn-less (choice (args .table .now)) (world (args .state) (args .buf .now) (args .slot-mem .now) (args .queue-mem .now)) (world (loop .s) (loop .buf) (loop .slot-mem) (loop .queue-mem)) (loop .inv) (omega arith) _ _ _ _ _ (step .ensures) _ _ (next .given .1) (λ z. omega arith)
+    turn-less (choice (args .digester) (args .table .now)) (world (args .state) (args .buf .now) (args .slot-mem .now) (args .queue-mem .now)) (world (loop .s) (loop .buf) (loop .slot-mem) (loop .queue-mem)) (loop .inv) (if1 .taken) _ _ _ _ _ (step .ensures) _ _ (next .given .1) (λ z. omega arith)
 
 loop-again : tie.Need-loop-again Inv-loop μ-loop
 loop-again c =
     let args = c .before .before .before .before .before .before .before .before .before .before .before .before .before .before .before .before .before .before .before .before .before .args in
     let loop = c .before .before .before .before .before .before .before .before .before .before .before .before .before .before .before .before .loop in
+    let if1 = c .before .before .before .before .before .before .before .before .before .before .before .before .before .before .if1 in
     let step = c .before .before .before .before .before .before .before .before .before .before .step in
     let next = c .before .before .next in
-    turn-on (choice (args .table .now)) (world (args .state) (args .buf .now) (args .slot-mem .now) (args .queue-mem .now)) (world (loop .s) (loop .buf) (loop .slot-mem) (loop .queue-mem)) (loop .inv) (omega arith) _ _ _ _ _ (step .ensures) _ _ (next .given .1) (λ z. omega arith) (step .kept .1 .1 .0) (step .kept .1 .1 .1 .0) (step .kept .1 .1 .1 .1 .0)
+    turn-on (choice (args .digester) (args .table .now)) (world (args .state) (args .buf .now) (args .slot-mem .now) (args .queue-mem .now)) (world (loop .s) (loop .buf) (loop .slot-mem) (loop .queue-mem)) (loop .inv) (if1 .taken) _ _ _ _ _ (step .ensures) _ _ (next .given .1) (λ z. omega arith) (step .kept .1 .1 .1 .0) (step .kept .1 .1 .1 .1 .0) (step .kept .1 .1 .1 .1 .1 .0)
 
 same-length-7 : tie.Need-same-length-7 Inv-loop μ-loop
 same-length-7 c =
@@ -111,7 +114,7 @@ returns-3 : tie.Need-returns-3 Inv-loop μ-loop
 returns-3 c =
     let args = c .before .before .before .before .before .before .before .args in
     let loop = c .before .before .loop in
-    run-empty (choice (args .table .now)) (world (loop .s) (loop .buf) (loop .slot-mem) (loop .queue-mem)) (omega arith) ∙ sym (loop .inv .same)
+    run-empty (choice (args .digester) (args .table .now)) (world (loop .s) (loop .buf) (loop .slot-mem) (loop .queue-mem)) (omega arith) ∙ sym (loop .inv .same)
 
 pub run-spec : {M : Type 1} → statement M
 run-spec =

@@ -12,10 +12,10 @@ use Rattle.ingress.proofs.write_on.Statement.{statement}
 use Rattle.ingress.proofs.write_on.Tie as tie
 
 abbrev Inv-loop : tie.InvT-loop
-Inv-loop table piece buf₀ slot-mem₀ queue-mem₀ s₀ taken₀ buf slot-mem queue-mem s taken = Writes (choice table) piece (world s₀ buf₀ slot-mem₀ queue-mem₀) taken (world s buf slot-mem queue-mem)
+Inv-loop digester table piece buf₀ slot-mem₀ queue-mem₀ s₀ taken₀ buf slot-mem queue-mem s taken = Writes (choice digester table) piece (world s₀ buf₀ slot-mem₀ queue-mem₀) taken (world s buf slot-mem queue-mem)
 
 abbrev μ-loop : tie.MeasureT-loop
-μ-loop table piece buf₀ slot-mem₀ queue-mem₀ s₀ taken₀ buf slot-mem queue-mem s taken = length piece - taken
+μ-loop digester table piece buf₀ slot-mem₀ queue-mem₀ s₀ taken₀ buf slot-mem queue-mem s taken = length piece - taken
 
 loop-holds : tie.Need-loop-holds Inv-loop μ-loop
 loop-holds c =
@@ -39,31 +39,31 @@ write-once-requires c κs =
 enum-known-next : tie.Need-enum-known-next Inv-loop μ-loop
 enum-known-next c = search needs
 
-add-t24 : tie.Need-add-t24 Inv-loop μ-loop
-add-t24 c =
+add-t25 : tie.Need-add-t25 Inv-loop μ-loop
+add-t25 c =
     let args = c .before .before .before .before .before .before .before .before .before .before .before .before .before .before .before .before .before .before .before .before .args in
     let good = c .before .before .before .before .before .before .before .before .before .before .before .before .before .before .before .before .before .before .before .before .good in
     let loop = c .before .before .before .before .before .before .before .before .before .before .before .before .before .before .loop in
     let write-once = c .before .before .before .before .before .before .before .before .before .write-once in
-    record { fits = omega (arith, full-room (choice (args .table .now)) (args .piece .now) (world (args .state) (args .buf .now) (args .slot-mem .now) (args .queue-mem .now)) (loop .taken) (world (loop .s) (loop .buf) (loop .slot-mem) (loop .queue-mem)) (loop .inv) _ (rest (args .piece .now) (loop .taken)) _ _ _ _ (write-once .ensures) _ _ (c .before .next .given .1), good .1 .1 .0) }
+    record { fits = omega (arith, full-room (choice (args .digester) (args .table .now)) (args .piece .now) (world (args .state) (args .buf .now) (args .slot-mem .now) (args .queue-mem .now)) (loop .taken) (world (loop .s) (loop .buf) (loop .slot-mem) (loop .queue-mem)) (loop .inv) _ (rest (args .piece .now) (loop .taken)) _ _ _ _ (write-once .ensures) _ _ (c .before .next .given .1), good .1 .1 .0) }
 
 same-length : tie.Need-same-length Inv-loop μ-loop
 same-length c =
     let loop = c .before .before .before .before .before .before .before .before .before .before .before .before .before .before .loop in
     let write-once = c .before .before .before .before .before .before .before .before .before .write-once in
-    write-once .kept .1 .1 .1 .0 ∙ loop .inv .bufLong
+    write-once .kept .1 .1 .1 .1 .0 ∙ loop .inv .bufLong
 
 same-length-2 : tie.Need-same-length-2 Inv-loop μ-loop
 same-length-2 c =
     let loop = c .before .before .before .before .before .before .before .before .before .before .before .before .before .before .loop in
     let write-once = c .before .before .before .before .before .before .before .before .before .write-once in
-    write-once .kept .1 .1 .1 .1 .0 ∙ loop .inv .slotLong
+    write-once .kept .1 .1 .1 .1 .1 .0 ∙ loop .inv .slotLong
 
 same-length-3 : tie.Need-same-length-3 Inv-loop μ-loop
 same-length-3 c =
     let loop = c .before .before .before .before .before .before .before .before .before .before .before .before .before .before .loop in
     let write-once = c .before .before .before .before .before .before .before .before .before .write-once in
-    write-once .kept .1 .1 .1 .1 .1 .0 ∙ loop .inv .queueLong
+    write-once .kept .1 .1 .1 .1 .1 .1 .0 ∙ loop .inv .queueLong
 
 -- However the sum of the bytes taken is written.
 stops : (w : World) (x : Writing) (k n : ℕ) → n ≡ k → stopped k w ≡ x → stopped n w ≡ x
@@ -74,7 +74,7 @@ returns c =
     let args = c .before .before .before .before .before .before .before .before .before .before .before .before .before .before .before .before .before .before .before .before .args in
     let loop = c .before .before .before .before .before .before .before .before .before .before .before .before .before .before .loop in
     let write-once = c .before .before .before .before .before .before .before .before .before .write-once in
-    stops _ _ _ _ (omega arith) (on-full (choice (args .table .now)) (args .piece .now) (world (args .state) (args .buf .now) (args .slot-mem .now) (args .queue-mem .now)) (loop .taken) (world (loop .s) (loop .buf) (loop .slot-mem) (loop .queue-mem)) (loop .inv) _ (rest (args .piece .now) (loop .taken)) _ _ _ _ (write-once .ensures) _ _ (c .before .next .given .1))
+    stops _ _ _ _ (omega arith) (on-full (choice (args .digester) (args .table .now)) (args .piece .now) (world (args .state) (args .buf .now) (args .slot-mem .now) (args .queue-mem .now)) (loop .taken) (world (loop .s) (loop .buf) (loop .slot-mem) (loop .queue-mem)) (loop .inv) _ (rest (args .piece .now) (loop .taken)) _ _ _ _ (write-once .ensures) _ _ (c .before .next .given .1))
 
 enum-known-next-2 : tie.Need-enum-known-next-2 Inv-loop μ-loop
 enum-known-next-2 c = search needs
@@ -83,19 +83,19 @@ same-length-4 : tie.Need-same-length-4 Inv-loop μ-loop
 same-length-4 c =
     let loop = c .before .before .before .before .before .before .before .before .before .before .before .before .before .before .before .loop in
     let write-once = c .before .before .before .before .before .before .before .before .before .before .write-once in
-    write-once .kept .1 .1 .1 .0 ∙ loop .inv .bufLong
+    write-once .kept .1 .1 .1 .1 .0 ∙ loop .inv .bufLong
 
 same-length-5 : tie.Need-same-length-5 Inv-loop μ-loop
 same-length-5 c =
     let loop = c .before .before .before .before .before .before .before .before .before .before .before .before .before .before .before .loop in
     let write-once = c .before .before .before .before .before .before .before .before .before .before .write-once in
-    write-once .kept .1 .1 .1 .1 .0 ∙ loop .inv .slotLong
+    write-once .kept .1 .1 .1 .1 .1 .0 ∙ loop .inv .slotLong
 
 same-length-6 : tie.Need-same-length-6 Inv-loop μ-loop
 same-length-6 c =
     let loop = c .before .before .before .before .before .before .before .before .before .before .before .before .before .before .before .loop in
     let write-once = c .before .before .before .before .before .before .before .before .before .before .write-once in
-    write-once .kept .1 .1 .1 .1 .1 .0 ∙ loop .inv .queueLong
+    write-once .kept .1 .1 .1 .1 .1 .1 .0 ∙ loop .inv .queueLong
 
 returns-2 : tie.Need-returns-2 Inv-loop μ-loop
 returns-2 c =
@@ -103,7 +103,7 @@ returns-2 c =
     let loop = c .before .before .before .before .before .before .before .before .before .before .before .before .before .before .before .loop in
     let write-once = c .before .before .before .before .before .before .before .before .before .before .write-once in
     let next2 = c .before .before .next2 in
-    on-still (choice (args .table .now)) (args .piece .now) (world (args .state) (args .buf .now) (args .slot-mem .now) (args .queue-mem .now)) (loop .taken) (world (loop .s) (loop .buf) (loop .slot-mem) (loop .queue-mem)) (loop .inv) _ (rest (args .piece .now) (loop .taken)) _ _ _ _ (write-once .ensures) _ _ (next2 .given .1) (omega arith)
+    on-still (choice (args .digester) (args .table .now)) (args .piece .now) (world (args .state) (args .buf .now) (args .slot-mem .now) (args .queue-mem .now)) (loop .taken) (world (loop .s) (loop .buf) (loop .slot-mem) (loop .queue-mem)) (loop .inv) _ (rest (args .piece .now) (loop .taken)) _ _ _ _ (write-once .ensures) _ _ (next2 .given .1) (omega arith)
 
 add-taken : tie.Need-add-taken Inv-loop μ-loop
 add-taken c =
@@ -112,7 +112,7 @@ add-taken c =
     let loop = c .before .before .before .before .before .before .before .before .before .before .before .before .before .before .before .loop in
     let write-once = c .before .before .before .before .before .before .before .before .before .before .write-once in
     let next2 = c .before .before .next2 in
-    omega (arith, on-room (choice (args .table .now)) (args .piece .now) (world (args .state) (args .buf .now) (args .slot-mem .now) (args .queue-mem .now)) (loop .taken) (world (loop .s) (loop .buf) (loop .slot-mem) (loop .queue-mem)) (loop .inv) _ (rest (args .piece .now) (loop .taken)) _ _ _ _ (write-once .ensures) _ _ (next2 .given .1), good .1 .1 .0)
+    omega (arith, on-room (choice (args .digester) (args .table .now)) (args .piece .now) (world (args .state) (args .buf .now) (args .slot-mem .now) (args .queue-mem .now)) (loop .taken) (world (loop .s) (loop .buf) (loop .slot-mem) (loop .queue-mem)) (loop .inv) _ (rest (args .piece .now) (loop .taken)) _ _ _ _ (write-once .ensures) _ _ (next2 .given .1), good .1 .1 .0)
 
 loop-less : tie.Need-loop-less Inv-loop μ-loop
 loop-less c =
@@ -120,7 +120,7 @@ loop-less c =
     let loop = c .before .before .before .before .before .before .before .before .before .before .before .before .before .before .before .loop in
     let write-once = c .before .before .before .before .before .before .before .before .before .before .write-once in
     let next2 = c .before .before .next2 in
-    omega (arith, on-room (choice (args .table .now)) (args .piece .now) (world (args .state) (args .buf .now) (args .slot-mem .now) (args .queue-mem .now)) (loop .taken) (world (loop .s) (loop .buf) (loop .slot-mem) (loop .queue-mem)) (loop .inv) _ (rest (args .piece .now) (loop .taken)) _ _ _ _ (write-once .ensures) _ _ (next2 .given .1))
+    omega (arith, on-room (choice (args .digester) (args .table .now)) (args .piece .now) (world (args .state) (args .buf .now) (args .slot-mem .now) (args .queue-mem .now)) (loop .taken) (world (loop .s) (loop .buf) (loop .slot-mem) (loop .queue-mem)) (loop .inv) _ (rest (args .piece .now) (loop .taken)) _ _ _ _ (write-once .ensures) _ _ (next2 .given .1))
 
 loop-again : tie.Need-loop-again Inv-loop μ-loop
 loop-again c =
@@ -128,7 +128,7 @@ loop-again c =
     let loop = c .before .before .before .before .before .before .before .before .before .before .before .before .before .before .before .loop in
     let write-once = c .before .before .before .before .before .before .before .before .before .before .write-once in
     let next2 = c .before .before .next2 in
-    on-again (choice (args .table .now)) (args .piece .now) (world (args .state) (args .buf .now) (args .slot-mem .now) (args .queue-mem .now)) (loop .taken) (world (loop .s) (loop .buf) (loop .slot-mem) (loop .queue-mem)) (loop .inv) _ (rest (args .piece .now) (loop .taken)) _ _ _ _ (write-once .ensures) _ _ (next2 .given .1) (λ z. omega arith) (write-once .kept .1 .1 .1 .0) (write-once .kept .1 .1 .1 .1 .0) (write-once .kept .1 .1 .1 .1 .1 .0)
+    on-again (choice (args .digester) (args .table .now)) (args .piece .now) (world (args .state) (args .buf .now) (args .slot-mem .now) (args .queue-mem .now)) (loop .taken) (world (loop .s) (loop .buf) (loop .slot-mem) (loop .queue-mem)) (loop .inv) _ (rest (args .piece .now) (loop .taken)) _ _ _ _ (write-once .ensures) _ _ (next2 .given .1) (λ z. omega arith) (write-once .kept .1 .1 .1 .1 .0) (write-once .kept .1 .1 .1 .1 .1 .0) (write-once .kept .1 .1 .1 .1 .1 .1 .0)
 
 pub write-on-spec : {M : Type 1} → statement M
 write-on-spec =
@@ -142,7 +142,7 @@ write-on-spec =
     part-write-once-end
     write-once-requires
     enum-known-next
-    add-t24
+    add-t25
     same-length
     same-length-2
     same-length-3

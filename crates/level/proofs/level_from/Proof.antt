@@ -14,7 +14,7 @@ returns : tie.Need-returns
 returns c =
     let args = c .before .before .before .before .before .args in
     let skipped = c .before .before .skipped in
-    level-outermost (args .table .now) (args .s .now) (args .hints) _ (skipped .ensures) _ _ (c .before .if1 .taken) (c .outermost .ensures)
+    level-outermost (args .digester) (args .table .now) (args .s .now) (args .hints) _ (skipped .ensures) _ _ (c .before .if1 .taken) (c .outermost .ensures)
 
 below-requires : tie.Need-below-requires
 below-requires c κs = rw (c .before .skipped .ensures) (skipped-le _)
@@ -23,7 +23,7 @@ returns-2 : tie.Need-returns-2
 returns-2 c =
     let args = c .before .before .before .before .before .args in
     let skipped = c .before .before .skipped in
-    level-below (args .table .now) (args .s .now) (args .hints) _ (skipped .ensures) _ _ (c .before .if1 .left) (c .below .ensures)
+    level-below (args .digester) (args .table .now) (args .s .now) (args .hints) _ (skipped .ensures) _ _ (c .before .if1 .left) (c .below .ensures)
 
 pub level-from-spec : {M : Type 1} → statement M
 level-from-spec =

@@ -44,7 +44,7 @@ returns c =
     let successes = c .before .before .before .successes in
     let notices = c .before .before .before .before .before .before .before .before .before .notices in
     let others = c .before .before .before .before .before .before .before .others in
-    before-hit _ _ _ _ (same-successes _ (args .table .now) (customs .ensures) (args .s .now) (args .e) _ (successes .ensures)) (c .before .a2 .given .1) ∙ before-miss _ _ _ (notices .ensures .0) (ap noticedTried (others .given .1))
+    before-hit _ _ _ _ (same-successes _ (args .table .now) (customs .ensures) (args .s .now) (args .e) _ (args .digester) (successes .ensures)) (c .before .a2 .given .1) ∙ before-miss _ _ _ (notices .ensures .0) (ap noticedTried (others .given .1))
 
 enum-told : tie.Need-enum-told
 enum-told c = search needs
@@ -65,7 +65,7 @@ returns-2 c =
     let enum-told = c .before .before .before .before .enum-told in
     let notices = c .before .before .before .before .before .before .before .before .before .before .before .before .notices in
     let others = c .before .before .before .before .before .before .before .before .before .before .others in
-    before-hit _ _ _ _ (same-prompts _ (args .table .now) (customs .ensures) (args .s .now) (args .e) _ (custom-prompts .ensures)) (c .before .a3 .given .1) ∙ before-miss _ _ _ (same-successes _ (args .table .now) (customs .ensures) (args .s .now) (args .e) _ (successes .ensures)) (enum-told .given .1) ∙ before-miss _ _ _ (notices .ensures .0) (ap noticedTried (others .given .1))
+    before-hit _ _ _ _ (same-prompts _ (args .table .now) (customs .ensures) (args .s .now) (args .e) _ (custom-prompts .ensures)) (c .before .a3 .given .1) ∙ before-miss _ _ _ (same-successes _ (args .table .now) (customs .ensures) (args .s .now) (args .e) _ (args .digester) (successes .ensures)) (enum-told .given .1) ∙ before-miss _ _ _ (notices .ensures .0) (ap noticedTried (others .given .1))
 
 enum-told-2 : tie.Need-enum-told-2
 enum-told-2 c = search needs
@@ -108,7 +108,7 @@ returns-4 c =
     let enum-told = c .before .before .before .before .before .before .before .before .enum-told in
     let notices = c .before .before .before .before .before .before .before .before .before .before .before .before .before .before .before .before .notices in
     let others = c .before .before .before .before .before .before .before .before .before .before .before .before .before .before .others in
-    onward-hit _ _ _ _ (bytes-at (args .s .now) (args .e) _ (first-places .ensures) _ _ (unknown .ensures) (prompt-bytes .ensures)) (c .before .a4 .given .1) ∙ before-miss _ _ _ (same-prompts _ (args .table .now) (customs .ensures) (args .s .now) (args .e) _ (custom-prompts .ensures)) (enum-told2 .given .1) ∙ before-miss _ _ _ (same-successes _ (args .table .now) (customs .ensures) (args .s .now) (args .e) _ (successes .ensures)) (enum-told .given .1) ∙ before-miss _ _ _ (notices .ensures .0) (ap noticedTried (others .given .1))
+    onward-hit _ _ _ _ (bytes-at (args .s .now) (args .e) _ (first-places .ensures) _ _ (unknown .ensures) (prompt-bytes .ensures)) (c .before .a4 .given .1) ∙ before-miss _ _ _ (same-prompts _ (args .table .now) (customs .ensures) (args .s .now) (args .e) _ (custom-prompts .ensures)) (enum-told2 .given .1) ∙ before-miss _ _ _ (same-successes _ (args .table .now) (customs .ensures) (args .s .now) (args .e) _ (args .digester) (successes .ensures)) (enum-told .given .1) ∙ before-miss _ _ _ (notices .ensures .0) (ap noticedTried (others .given .1))
 
 returns-5 : tie.Need-returns-5
 unfolding outermost
@@ -125,7 +125,7 @@ returns-5 c =
     let enum-told = c .before .before .before .before .before .before .before .before .before .enum-told in
     let notices = c .before .before .before .before .before .before .before .before .before .before .before .before .before .before .before .before .before .notices in
     let others = c .before .before .before .before .before .before .before .before .before .before .before .before .before .before .before .others in
-    errors-at (args .s .now) (args .e) _ (first-places .ensures) _ _ _ (customs .ensures mark.Error refl) _ (c .errors .ensures) ∙ onward-miss _ _ _ _ _ (bytes-at (args .s .now) (args .e) _ (first-places .ensures) _ _ (unknown .ensures) (prompt-bytes .ensures)) (known .given .1) ∙ before-miss _ _ _ (same-prompts _ (args .table .now) (customs .ensures) (args .s .now) (args .e) _ (custom-prompts .ensures)) (enum-told2 .given .1) ∙ before-miss _ _ _ (same-successes _ (args .table .now) (customs .ensures) (args .s .now) (args .e) _ (successes .ensures)) (enum-told .given .1) ∙ before-miss _ _ _ (notices .ensures .0) (ap noticedTried (others .given .1))
+    errors-at (args .s .now) (args .e) _ (first-places .ensures) _ _ _ (customs .ensures mark.Error refl) _ (c .errors .ensures) ∙ onward-miss _ _ _ _ _ (bytes-at (args .s .now) (args .e) _ (first-places .ensures) _ _ (unknown .ensures) (prompt-bytes .ensures)) (known .given .1) ∙ before-miss _ _ _ (same-prompts _ (args .table .now) (customs .ensures) (args .s .now) (args .e) _ (custom-prompts .ensures)) (enum-told2 .given .1) ∙ before-miss _ _ _ (same-successes _ (args .table .now) (customs .ensures) (args .s .now) (args .e) _ (args .digester) (successes .ensures)) (enum-told .given .1) ∙ before-miss _ _ _ (notices .ensures .0) (ap noticedTried (others .given .1))
 
 pub outermost-spec : {M : Type 1} → statement M
 outermost-spec =

@@ -111,6 +111,15 @@ slice-aggregate-find-12 c = search needs
 find-requires-12 : tie.Need-find-requires-12
 find-requires-12 c κs = search needs
 
+enum-told-13 : tie.Need-enum-told-13
+enum-told-13 c = search needs
+
+slice-aggregate-find-13 : tie.Need-slice-aggregate-find-13
+slice-aggregate-find-13 c = search needs
+
+find-requires-13 : tie.Need-find-requires-13
+find-requires-13 c κs = search needs
+
 returns : tie.Need-returns
 returns c =
     let enum-told = c .before .before .enum-told in
@@ -171,6 +180,11 @@ returns-12 c =
     let enum-told12 = c .before .before .enum-told12 in
     rw (enum-told12 .given .1) (c .find12 .ensures)
 
+returns-13 : tie.Need-returns-13
+returns-13 c =
+    let enum-told13 = c .before .before .enum-told13 in
+    rw (enum-told13 .given .1) (c .find13 .ensures)
+
 pub find-short-spec : {M : Type 1} → statement M
 find-short-spec =
     tie.close
@@ -211,6 +225,9 @@ find-short-spec =
     enum-told-12
     slice-aggregate-find-12
     find-requires-12
+    enum-told-13
+    slice-aggregate-find-13
+    find-requires-13
     returns
     returns-2
     returns-3
@@ -222,4 +239,5 @@ find-short-spec =
     returns-9
     returns-10
     returns-11
-    returns-12)
+    returns-12
+    returns-13)

@@ -30,10 +30,16 @@ element-copy-out-t24 c = search needs
 element-copy-out-t28 : tie.Need-element-copy-out-t28
 element-copy-out-t28 c = search needs
 
+element-copy-out-t32 : tie.Need-element-copy-out-t32
+element-copy-out-t32 c = search needs
+
+element-copy-out-t36 : tie.Need-element-copy-out-t36
+element-copy-out-t36 c = search needs
+
 returns : tie.Need-returns
 returns c =
-    let kind-of = c .before .before .before .before .before .before .before .kind-of in
-    let word = c .before .before .before .before .before .word in
+    let kind-of = c .before .before .before .before .before .before .before .before .before .kind-of in
+    let word = c .before .before .before .before .before .before .before .word in
     rw (kind-of .ensures, word .ensures)
 
 pub answer-of-spec : {M : Type 1} → statement M
@@ -49,4 +55,6 @@ answer-of-spec =
     element-copy-out-t20
     element-copy-out-t24
     element-copy-out-t28
+    element-copy-out-t32
+    element-copy-out-t36
     returns)

@@ -30,6 +30,12 @@ element-write-out-6 c = search needs
 element-write-out-7 : tie.Need-element-write-out-7
 element-write-out-7 c = search needs
 
+element-write-out-8 : tie.Need-element-write-out-8
+element-write-out-8 c = search needs
+
+element-write-out-9 : tie.Need-element-write-out-9
+element-write-out-9 c = search needs
+
 returns : tie.Need-returns
 returns c = rw (c .before .kind-number .ensures)
 
@@ -46,4 +52,6 @@ lay-answer-spec =
     element-write-out-5
     element-write-out-6
     element-write-out-7
+    element-write-out-8
+    element-write-out-9
     returns)
