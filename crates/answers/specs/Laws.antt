@@ -136,6 +136,27 @@ shift-within d n a w =
       all = omega (arith, w .all);
     }
 
+-- moved twice is moved by both
+placed-twice : (len p a b : ℕ) → placed len (placed len (p + a) + b) ≡ placed len (p + (b + a))
+placed-twice zero p a b = refl
+placed-twice (suc n) p a b = omega arith
+
+pub shift-shift : (a b : ℕ) (r : Answer) → shift b (shift a r) ≡ shift (b + a) r
+unfolding shift
+shift-shift a b r =
+    let c : r .consumed + a + b ≡ r .consumed + (b + a) = omega arith in
+    λ i. record {
+      kind = r .kind;
+      number = r .number;
+      place = placed-twice (r .len) (r .place) a b i;
+      len = r .len;
+      «digits_place» = placed-twice (r .«digits_len») (r .«digits_place») a b i;
+      «digits_len» = r .«digits_len»;
+      «text_place» = placed-twice (r .«text_len») (r .«text_place») a b i;
+      «text_len» = r .«text_len»;
+      consumed = c i;
+    }
+
 -- what goes along lies within what is consumed
 pub carried-within : (n : ℕ) (a : Answer) → Within n a → carried a .start + carried a .len ≤ a .consumed
 carried-within n a w = ways (λ (p : Span). p .start + p .len ≤ a .consumed) (isNumeric (a .kind)) (λ q. w .digits) (λ q. w .payload)

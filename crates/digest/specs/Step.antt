@@ -9,6 +9,7 @@ use native.Mathlib.Omega.{arith}
 use lib.ListN.{length, take, drop, length-drop}
 use lib.Dec.{ltb}
 use borrow.Author.Tests.{ltb-true}
+use Rattle.outcome.specs.Outcome.{if_then_else_}
 use Rattle.outcome.specs.Laws.{ways, same-way}
 use Rattle.text.specs.Logic.{and-both}
 use Rattle.text.specs.Text.{isBlank, trimmed, stands, findIn}
@@ -32,7 +33,7 @@ use Rattle.answers.specs.declared.Kind.{Kind}
 use Rattle.answers.specs.declared.Kind.the-variants as kind
 use Rattle.answers.specs.declared.Answer.{Answer}
 use Rattle.answers.specs.Answer.{isFound, nothing, withPayload, shift, longest, shiftWithin, Within}
-use Rattle.answers.specs.Laws.{longer-within, bare-within, nothing-within, number-within, digits-within, payload-within, text-within, shift-within, shift-is}
+use Rattle.answers.specs.Laws.{longer-within, bare-within, nothing-within, number-within, digits-within, payload-within, text-within, shift-within, shift-is, shift-shift}
 use Rattle.items.specs.declared.Occurs.{Occurs}
 use Rattle.items.specs.declared.Occurs.the-variants as occurs
 use Rattle.items.specs.declared.Tried.{Tried}
@@ -63,14 +64,44 @@ module _ (s : List ℕ) (e : ℕ) where
   unfolding retries
   retries-room h = omega (arith, ltb-true 4 (length s - e) (and-both (stands crlf s e) (ltb 4 (length s - e)) h .1))
 
-module _ (r : Answer) (e : ℕ) (b : Bool) (p : b ≡ isFound r) where
-  pub again-lost : b ≡ false → (a : Answer) → a ≡ nothing e → a ≡ again e r
-  unfolding again
-  again-lost q a w = rw (sym p ∙ q) w
+-- An answer of the retry seen from the front, before which m bytes stand: moved; None, whose consumed count is dropped, is no answer.
+unfoldable pub seenFrom : ℕ → Answer → Tried
+seenFrom m a = if isFound a then tries.Done (shift m a) else tries.Next
 
-  pub again-found : b ≡ true → e + 2 ≤ longest → Within longest r → (a : Answer) → a ≡ shiftWithin (e + 2) r → a ≡ again e r
-  unfolding again
-  again-found q l v a w = rw (sym p ∙ q) (w ∙ shift-is (e + 2) longest r v (omega arith) l)
+module _ (a : Answer) (m : ℕ) (b : Bool) (p : b ≡ isFound a) where
+  pub seen-lost : b ≡ false → tries.Next ≡ seenFrom m a
+  unfolding seenFrom
+  seen-lost q = rw (sym p ∙ q)
+
+  pub seen-found : b ≡ true → m ≤ longest → Within longest a → (r : Answer) → r ≡ shiftWithin m a → tries.Done r ≡ seenFrom m a
+  unfolding seenFrom
+  seen-found q l v r w = rw (sym p ∙ q) (ap tries.Done (w ∙ shift-is m longest a v (omega arith) l))
+
+-- a level of the retry more, seen from the front
+seen-again : (m e : ℕ) (r : Answer) → seenFrom (m + (e + 2)) r ≡ seenFrom m (again e r)
+unfolding seenFrom again
+seen-again m e r = go (isFound r) refl
+  where
+    go : (b : Bool) → isFound r ≡ b → (if b then tries.Done (shift (m + (e + 2)) r) else tries.Next) ≡ (if isFound (if b then shift (e + 2) r else nothing e) then tries.Done (shift m (if b then shift (e + 2) r else nothing e)) else tries.Next)
+    go true q = unfold shift in rw q (ap tries.Done (sym (shift-shift (e + 2) m r)))
+    go false q = refl
+
+-- what the retry from e on gives, where nothing is moved: its answer, or rule 7's None
+abbrev orNone : Tried → ℕ → Answer
+orNone (tries.Done a) e = a
+orNone tries.Next e = nothing e
+
+seen-front : (s : List ℕ) (f : List ℕ → Answer) (e : ℕ) → orNone (seenFrom 0 (after s f e tries.Next)) e ≡ after s f e tries.Next
+unfolding after seenFrom again
+seen-front s f e = go (retries s e) (isFound (f (drop (e + 2) s))) refl
+  where
+    r : Answer
+    r = f (drop (e + 2) s)
+
+    go : (b c : Bool) → isFound r ≡ c → orNone (if isFound (if b then (if c then shift (e + 2) r else nothing e) else nothing e) then tries.Done (shift 0 (if b then (if c then shift (e + 2) r else nothing e) else nothing e)) else tries.Next) e ≡ (if b then (if c then shift (e + 2) r else nothing e) else nothing e)
+    go true true q = let i : 0 + (e + 2) ≡ e + 2 = omega arith in (unfold shift in rw q (shift-shift (e + 2) 0 r)) ∙ ap (λ (k : ℕ). shift k r) i
+    go true false q = refl
+    go false c q = refl
 
 -- induction on the length
 by-bound : (P : List ℕ → Type 0) → ((s : List ℕ) → ((l : List ℕ) → length l < length s → P l) → P s) → (n : ℕ) (s : List ℕ) → length s < n → P s
@@ -243,6 +274,10 @@ digest-within d ts = by-length (λ s. Within (length s) (digestIn d ts s)) one
         rw (digest-step d ts s)
         (after-within s (digestIn d ts) e (tried d ts s e) (skipped-le s) (tried-within s e (skipped-le s) d ts) (λ q. ih (drop (e + 2) s) (rest-shorter s e q)))
 
+-- What a level hands down: where there is a level below it, what is gone and known there.
+abbrev pub Handed : Digester → List Token → List ℕ → ℕ → Hints → Type 0
+Handed d ts s e h = retries s e ≡ true → GoneAll d ts (drop (e + 2) s) × Known (drop (e + 2) s) 0 h
+
 -- a level below the outermost one needs to be told what is gone and known
 pub said : (d : Digester) (t s : List ℕ) (h : Hints) (b : Bool) → length s ≤ 4096 → (b ≡ false → GoneAll d (tokens t) s × Known s 0 h) → (r : Level) → r ≡ levelFrom b d t s h → Says s (skipped s) (tried d (tokens t) s (skipped s)) r
 said d t s h b l w r q = rw q (level-says d t s h b l w)
@@ -253,35 +288,46 @@ module _ (d : Digester) (ts : List Token) (s : List ℕ) (r : Level) (w : Says s
   unfolding after
   digest-done a q = let z : tried d ts s (skipped s) ≡ tries.Done a = rw q at w in sym (rw z at (digest-step d ts s))
 
+  pub done-within : (a : Answer) → r ≡ level.Done a → length s ≤ 4096 → Within 4096 a
+  done-within a q l = longer-within (length s) 4096 a (rw (digest-done a q) (digest-within d ts s)) l
+
   module _ (e : ℕ) (h : Hints) (q : r ≡ level.Next e h) where
     next : (tried d ts s (skipped s) ≡ tries.Next) × ((e ≡ skipped s) × Known s (skipped s) h)
     next = rw q at w
 
-    module _ (b : Bool) (u : b ≡ retries s e) where
-      pub digest-stop : b ≡ false → (a : Answer) → a ≡ nothing e → a ≡ digestIn d ts s
-      unfolding after
-      digest-stop z a v =
-          let f : retries s (skipped s) ≡ false = ap (retries s) (sym (next .1 .0)) ∙ sym u ∙ z in
-          v ∙ ap nothing (next .1 .0) ∙ sym (rw (next .0, f) at (digest-step d ts s))
+    pub next-is : after s (digestIn d ts) e tries.Next ≡ digestIn d ts s
+    next-is = ap (λ (k : ℕ). after s (digestIn d ts) k tries.Next) (next .1 .0) ∙ ap (after s (digestIn d ts) (skipped s)) (sym (next .0)) ∙ sym (digest-step d ts s)
 
-      module _ (z : b ≡ true) where
-        pub retry-room : e + 4 < length s
-        retry-room = retries-room s e (sym u ∙ z)
+    pub next-hands : Handed d ts s e h
+    next-hands z =
+        let o = retries-room s e z in
+        rw (rest s (e + 2)) at (handed d ts s (skipped s) (e + 2) h (omega (arith, next .1 .0)) (omega (arith, o)) (next .0) (next .1 .1))
 
-        pub retry-known : GoneAll d ts (take (length s - (e + 2)) (drop (e + 2) s)) × Known (take (length s - (e + 2)) (drop (e + 2) s)) 0 h
-        retry-known = handed d ts s (skipped s) (e + 2) h (omega (arith, next .1 .0)) (omega (arith, retry-room)) (next .0) (next .1 .1)
+    -- x is what the retry from e on gave
+    module _ (x : Tried) (v : x ≡ seenFrom 0 (after s (digestIn d ts) e tries.Next)) where
+      at-next : orNone x e ≡ digestIn d ts s
+      at-next = ap (λ (y : Tried). orNone y e) v ∙ seen-front s (digestIn d ts) e ∙ next-is
 
-        module _ (a : Answer) (v : a ≡ digestIn d ts (take (length s - (e + 2)) (drop (e + 2) s))) where
-          of-rest : a ≡ digestIn d ts (drop (e + 2) s)
-          of-rest = v ∙ ap (digestIn d ts) (rest s (e + 2))
+      pub digest-again : (a : Answer) → x ≡ tries.Done a → a ≡ digestIn d ts s
+      digest-again a z = rw z at at-next
 
-          pub digest-again : (x : Answer) → x ≡ again e a → x ≡ digestIn d ts s
-          unfolding after
-          digest-again x m =
-              let f : retries s (skipped s) ≡ true = ap (retries s) (sym (next .1 .0)) ∙ sym u ∙ z in
-              m ∙ ap (again e) of-rest ∙ ap (λ (k : ℕ). again k (digestIn d ts (drop (k + 2) s))) (next .1 .0) ∙ sym (rw (next .0, f) at (digest-step d ts s))
+      pub digest-none : x ≡ tries.Next → (a : Answer) → a ≡ nothing e → a ≡ digestIn d ts s
+      digest-none z a y = y ∙ (rw z at at-next)
 
-          pub retry-within : length s ≤ 4096 → (e + 2 ≤ 4096) × Within 4096 a
-          retry-within l =
-              let x : Within (length (drop (e + 2) s)) a = rw of-rest (digest-within d ts (drop (e + 2) s)) in
-              (omega (arith, retry-room), longer-within (length (drop (e + 2) s)) 4096 a x (omega (arith, length-drop (e + 2) s)))
+-- The ways out of the retry from e on: it ends there; or its level below gave a.
+module _ (d : Digester) (ts : List Token) (s : List ℕ) (e m : ℕ) (b : Bool) (u : b ≡ retries s e) where
+  pub retry-stop : b ≡ false → tries.Next ≡ seenFrom m (after s (digestIn d ts) e tries.Next)
+  unfolding seenFrom after
+  retry-stop z = rw (sym u ∙ z)
+
+  module _ (z : b ≡ true) where
+    pub retry-room : e + 4 < length s
+    retry-room = retries-room s e (sym u ∙ z)
+
+    pub retry-handed : (h : Hints) → Handed d ts s e h → GoneAll d ts (take (length s - (e + 2)) (drop (e + 2) s)) × Known (take (length s - (e + 2)) (drop (e + 2) s)) 0 h
+    retry-handed h w = rw (rest s (e + 2)) (w (sym u ∙ z))
+
+    pub retry-is : (a : Answer) → a ≡ digestIn d ts (take (length s - (e + 2)) (drop (e + 2) s)) → (x : Tried) → x ≡ seenFrom (m + (e + 2)) a → x ≡ seenFrom m (after s (digestIn d ts) e tries.Next)
+    unfolding after
+    retry-is a w x v =
+        v ∙ ap (seenFrom (m + (e + 2))) (w ∙ ap (digestIn d ts) (rest s (e + 2))) ∙ seen-again m e (digestIn d ts (drop (e + 2) s)) ∙ rw (sym u ∙ z)

@@ -6,13 +6,14 @@ ghost use lib.ListN.{length};
 ghost use Rattle.table.specs.Table.{tokens};
 ghost use Rattle.text.specs.Text.{partOf, partAt, further};
 ghost use Rattle.answers.specs.Answer.{isFound, Within};
-ghost use Rattle.items.specs.Hints.{Known};
-ghost use Rattle.level.specs.Level.{GoneAll};
-ghost use Rattle.digest.specs.Digest.{retries, again, digestIn, digest, digestUnchecked, outcome};
+ghost use Rattle.items.specs.declared.Tried.the-variants as tries;
+ghost use Rattle.digest.specs.Digest.{retries, after, digestIn, digest, digestUnchecked, outcome};
+ghost use Rattle.digest.specs.Step.{seenFrom, Handed};
 ghost use Rattle.digest.specs.Heard.{HeardIn};
 use answers::Answer;
 use items::Hints;
 use items::Level;
+use items::Tried;
 use lines::Digester;
 use table::Checked;
 
@@ -26,47 +27,54 @@ fn retries_at(s: &[u8], e: usize) -> bool
     4 < s.len() - e
 }
 
-// Rule 6: what the retry gave, seen from the front; where that is None, its consumed count is dropped.
-fn again(r: Answer, e: usize) -> Answer
-    requires { ⌜ (e + 2 ≤ 4096) × Within 4096 r ⌝ }
-    ensures { λ x. ⌜ x ≡ again e r ⌝ }
+// Rule 6: an answer of the retry seen from the front, before which `moved` bytes stand. Where it is None its consumed count is dropped, and so all of it.
+fn seen_from(a: Answer, moved: usize) -> Tried
+    requires { ⌜ (moved ≤ 4096) × Within 4096 a ⌝ }
+    ensures { λ r. ⌜ r ≡ seenFrom moved a ⌝ }
 {
-    if !answers::is_found(r) {
-        return answers::nothing(e);
+    if !answers::is_found(a) {
+        return Tried::Next;
     }
-    answers::shifted(r, e + 2)
+    Tried::Done(answers::shifted(a, moved))
 }
 
-// Rules 1 to 7 below the outermost level, recursing on the suffix after the leading CRLF. All else of a level is done in `level_from`,
-// which has two callers, so that this function's frame doesn't hold what it needs.
-fn retry_in(digester: Digester, table: &[u8], s: &[u8], hints: Hints) -> Answer
-    requires { ⌜ (length (now s) ≤ 4096) × (GoneAll digester (tokens (now table)) (now s) × Known (now s) 0 hints) ⌝ }
-    ensures { λ r. ⌜ r ≡ digestIn digester (tokens (now (table .entry))) (now (s .entry)) ⌝ }
+// Rules 6 and 7 on a level on which rules 2 to 5 gave nothing from e on: the digester calls itself on the suffix after the leading CRLF. What it gives is told from the
+// front, so that no level touches what one below it gave. All else of a level is done in `level_from`, which has two callers, so that this function's frame doesn't hold
+// what it needs.
+fn retry_in(
+    digester: Digester,
+    table: &[u8],
+    s: &[u8],
+    e: usize,
+    hints: Hints,
+    moved: usize,
+) -> Tried
+    requires { ⌜ (moved + length (now s) ≤ 4096) × Handed digester (tokens (now table)) (now s) e hints ⌝ }
+    ensures { λ r. ⌜ r ≡ seenFrom moved (after (now (s .entry)) (digestIn digester (tokens (now (table .entry)))) e tries.Next) ⌝ }
 {
-    match level::level_from(false, digester, table, s, hints) {
-        Level::Done(a) => a,
-        Level::Next(e, known) => {
-            if !retries_at(s, e) {
-                return answers::nothing(e);
-            }
-            again(retry_in(digester, table, &s[e + 2..], known), e)
-        }
+    if !retries_at(s, e) {
+        return Tried::Next;
+    }
+    let next = e + 2;
+    let further = moved + next;
+    let rest = &s[next..];
+    match level::level_from(false, digester, table, rest, hints) {
+        Level::Done(a) => seen_from(a, further),
+        Level::Next(k, known) => retry_in(digester, table, rest, k, known, further),
     }
 }
 
-// Rules 1 to 7 under a table as it lies: the outermost level, then the retry on the suffix after the leading CRLF.
+// Rules 1 to 7 under a table as it lies: the outermost level, then the retry.
 fn digest_in(digester: Digester, table: &[u8], s: &[u8]) -> Answer
     requires { ⌜ length (now s) ≤ 4096 ⌝ }
     ensures { λ r. ⌜ r ≡ digestIn digester (tokens (now (table .entry))) (now (s .entry)) ⌝ }
 {
     match level::level_from(true, digester, table, s, items::unknown()) {
         Level::Done(a) => a,
-        Level::Next(e, known) => {
-            if !retries_at(s, e) {
-                return answers::nothing(e);
-            }
-            again(retry_in(digester, table, &s[e + 2..], known), e)
-        }
+        Level::Next(e, known) => match retry_in(digester, table, s, e, known, 0) {
+            Tried::Done(a) => a,
+            Tried::Next => answers::nothing(e),
+        },
     }
 }
 
@@ -90,10 +98,13 @@ pub fn digest(digester: Digester, table: &[u8], input: &[u8]) -> Digested
     if LONGEST < input.len() {
         return Digested::TooLong;
     }
-    match table::check(table) {
-        Checked::Faulty(k) => Digested::BadTable(k),
-        Checked::Good(_) => Digested::Is(digest_in(digester, table, input)),
+    // The empty table is good, and needs no walk.
+    if 0 < table.len() {
+        if let Checked::Faulty(k) = table::check(table) {
+            return Digested::BadTable(k);
+        }
     }
+    Digested::Is(digest_in(digester, table, input))
 }
 
 // The same under a table that the caller vouches for: it isn't checked. Under a faulty one the records count as they lie,

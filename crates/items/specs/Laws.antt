@@ -8,7 +8,8 @@ use lib.ListN.{length, take, drop, length-append}
 use lib.Dec.{leb}
 use borrow.Author.Tests.{le-leb, lt-leb, leb-true}
 use Rattle.text.specs.Logic.{and-both}
-use Rattle.text.specs.Text.{findIn}
+use Rattle.text.specs.Bytes.{bytes}
+use Rattle.text.specs.Text.{stands, findIn}
 use Rattle.text.specs.Laws.{found-at, stands-fits}
 use Rattle.text.specs.declared.Found.{Found}
 use Rattle.text.specs.declared.Found.the-variants.{At, Nothing}
@@ -19,11 +20,12 @@ use Rattle.table.specs.declared.Mark.the-variants as mark
 use Rattle.table.specs.declared.Record.{Record}
 use Rattle.table.specs.declared.Next.{Next}
 use Rattle.table.specs.declared.Next.the-variants as next
-use Rattle.lines.specs.Lines.{crlf}
+use Rattle.lines.specs.Lines.{crlf, fixedText}
 use Rattle.lines.specs.Laws.{fixed-some}
 use Rattle.lines.specs.declared.Fixed.{Fixed}
 use Rattle.lines.specs.declared.Fixed.the-variants as fixed
-use Rattle.parser.specs.Parser.{customPrompt, wrapped}
+use Rattle.parser.specs.Parser.{customPrompt, wrapped, tailAt, numericAt}
+use Rattle.parser.specs.Laws.{numeric-tail}
 use Rattle.parser.specs.declared.Digits.{Digits}
 use Rattle.parser.specs.declared.Numeric.{Numeric}
 use Rattle.parser.specs.declared.Numeric.the-variants as numeric
@@ -45,7 +47,7 @@ use Rattle.items.specs.declared.Hints.{Hints}
 use Rattle.items.specs.declared.Level.{Level}
 use Rattle.items.specs.declared.Level.the-variants as level
 use Rattle.items.specs.Rules.{orElse, occursOr, firstCustom, promptTried, customPrompts, customError, kindOf, numericTried}
-use Rattle.items.specs.Hints.{firstPlace, decided, orHint, foundHint, firstFrom, before, hinted, onward, promptBytes, numerics, firsts, allIdle}
+use Rattle.items.specs.Hints.{sought, firstPlace, decided, orHint, foundHint, firstFrom, before, hinted, onward, promptBytes, numerics, firsts, allIdle}
 
 -- A chain of rules: u is what the first rule t gave. It answered; or it didn't, and the rest r decides.
 pub hit : (t r u : Tried) (a : Answer) → u ≡ t → u ≡ tries.Done a → tries.Done a ≡ orElse t r
@@ -208,7 +210,10 @@ module _ (l : List Entry) (s : List ℕ) (e : ℕ) (r : Occurs) (p : r ≡ first
   unfolding customError
   custom-error-none q = matched customError p q
 
--- a numeric error
+-- a numeric error, whose head stands at p
+pub numeric-behind : (h : Fixed) (s : List ℕ) (p : ℕ) → stands (fixedText h) s p ≡ true → (n : ℕ) → n ≡ length (fixedText h) → (r : Numeric) → r ≡ tailAt s (p + n) → r ≡ numericAt (fixedText h) s p
+numeric-behind h s p e n l r w = w ∙ ap (λ (k : ℕ). tailAt s (p + k)) l ∙ numeric-tail (fixedText h) s p e
+
 module _ (h : Fixed) (n r : Numeric) (p : r ≡ n) where
   pub numeric-hit : (d : Digits) → r ≡ numeric.Is d → (k : Kind) → k ≡ kindOf h → (a : Answer) → a ≡ withDigits k (d .code) (record { start = d .start; len = d .stop - d .start }) (d .end) → tries.Done a ≡ numericTried h n
   unfolding numericTried
@@ -242,6 +247,15 @@ place-within first.Cme s e p = place-some s e p fixed.Cme
 place-within first.Cms s e p = place-some s e p fixed.Cms
 place-within first.Modem s e p = place-some s e p fixed.Modem
 
+-- what is sought stands at its first place
+pub place-here : (x : First) (s : List ℕ) (e : ℕ) (p : Places) (k : ℕ) → firstPlace x s e p ≡ At k → stands (sought x) s k ≡ true
+unfolding placeIn
+place-here first.Greater s e p k q = found-at (bytes ">") s e k q .here
+place-here first.Sign s e p k q = found-at (bytes "@") s e k q .here
+place-here first.Cme s e p k q = found-at (fixedText fixed.Cme) s (p .from) k q .here
+place-here first.Cms s e p k q = found-at (fixedText fixed.Cms) s (p .from) k q .here
+place-here first.Modem s e p k q = found-at (fixedText fixed.Modem) s (p .from) k q .here
+
 -- The ways out of `first_from`: idle, nowhere, or by what the rule gives at its place.
 module _ (x : First) (s : List ℕ) (e : ℕ) (p : Places) (d : ℕ) where
   pub from-idle : (n : ℕ) → n ≡ length s - e → d ≤ n → hint.Next d ≡ firstFrom x s e p d
@@ -260,6 +274,9 @@ module _ (x : First) (s : List ℕ) (e : ℕ) (p : Places) (d : ℕ) where
     module _ (k : ℕ) (w : r ≡ At k) where
       pub from-inside : k < length s
       from-inside = place-within x s e p k (sym q ∙ w)
+
+      pub from-here : stands (sought x) s k ≡ true
+      from-here = place-here x s e p k (sym q ∙ w)
 
       module _ (u : Tried) (v : u ≡ decided x s (At k)) where
         at-place : orHint u (length s - k) ≡ firstFrom x s e p d

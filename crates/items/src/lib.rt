@@ -1,15 +1,17 @@
 // What rules 3 to 5 find in buf, each at its first place: custom lines and prompts, `>` and `@`, numeric errors.
 // Of the last five only the first occurrence counts: where that is no answer, one further on may be, on a level of the retry below; hints say what need not be looked for there again.
 ghost use mathlib.Core.Path.{_≡_};
+ghost use mathlib.Core.Bool.{true};
 ghost use Prim.Native.Nat.{_<_, _-_};
 ghost use lib.ListN.{length};
 ghost use Rattle.table.specs.Table.{entries};
 ghost use Rattle.table.specs.declared.Mark.the-variants as mark;
+ghost use Rattle.text.specs.Text.{stands};
 ghost use Rattle.text.specs.declared.Found.the-variants as found;
 ghost use Rattle.lines.specs.Lines.{fixedText};
 ghost use Rattle.parser.specs.Parser.{onlyBlanks, numericAt};
 ghost use Rattle.items.specs.Rules.{firstCustom, kindOf, customPrompts, promptTried, customError, numericTried};
-ghost use Rattle.items.specs.Hints.{firstPlace, decided, firstFrom, promptBytes, numerics, firsts, unknown, allIdle};
+ghost use Rattle.items.specs.Hints.{sought, firstPlace, decided, firstFrom, promptBytes, numerics, firsts, unknown, allIdle};
 use answers::Answer;
 use answers::Kind;
 use lines::Fixed;
@@ -158,10 +160,11 @@ fn prompt_at(s: &[u8], place: usize, byte: u8) -> Tried
 
 // Rule 5: a numeric error, its head at its first place; with its digits as they came (R-2).
 fn numeric_at(s: &[u8], place: usize, kind: Kind, head: Fixed) -> Tried
-    requires { ⌜ kind ≡ kindOf head ⌝ }
+    requires { ⌜ (kind ≡ kindOf head) × (stands (fixedText head) (now s) place ≡ true) ⌝ }
     ensures { λ r. ⌜ r ≡ numericTried head (numericAt (fixedText head) (now (s .entry)) place) ⌝ }
 {
-    match parser::numeric_at(s, place, head) {
+    let behind = place + lines::fixed_len(head);
+    match parser::tail_at(s, behind) {
         Numeric::Is(d) => {
             let len = d.stop - d.start;
             let digits = Span {
@@ -189,7 +192,7 @@ fn first_place(rule: First, s: &[u8], e: usize, places: Places) -> Found
 
 // What the rule gives there.
 fn first_at(rule: First, s: &[u8], place: usize) -> Tried
-    requires { ⌜ place < length (now s) ⌝ }
+    requires { ⌜ stands (sought rule) (now s) place ≡ true ⌝ }
     ensures { λ r. ⌜ r ≡ decided rule (now (s .entry)) (found.At place) ⌝ }
 {
     match rule {

@@ -6,8 +6,8 @@ use Rattle.parser.proofs as calls
 pub line-ending-one : One calls.line_ending.Reads.Post
 line-ending-one κs a x y s t = determined
 
-pub numeric-at-one : One calls.numeric_at.Reads.Post
-numeric-at-one κs a x y s t = determined
+pub tail-at-one : One calls.tail_at.Reads.Post
+tail-at-one κs a x y s t = determined
 
 pub find-byte-one : One calls.find_byte.Reads.Post
 find-byte-one κs a x y s t = determined

@@ -146,10 +146,6 @@ module _ (s : List ℕ) (p a : ℕ) (u : a ≡ past (isBlank blanks.Run) s p) (r
 
 -- `numericAt`
 module _ (h s : List ℕ) where
-  pub numeric-off : (p : ℕ) → stands h s p ≡ false → numeric.Nothing ≡ numericAt h s p
-  unfolding numericAt
-  numeric-off p e = rw e
-
   pub numeric-tail : (p : ℕ) → stands h s p ≡ true → tailAt s (p + length h) ≡ numericAt h s p
   unfolding numericAt
   numeric-tail p e = rw e

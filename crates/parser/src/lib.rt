@@ -91,7 +91,7 @@ pub enum Numeric {
 }
 
 // The rest of a numeric error behind its head: run blanks, the digits, LF or CRLF.
-fn tail_at(buf: &[u8], place: usize) -> Numeric
+pub fn tail_at(buf: &[u8], place: usize) -> Numeric
     ensures { λ r. ⌜ r ≡ tailAt (now (buf .entry)) place ⌝ }
 {
     let start = text::skip(Blanks::Run, buf, place);
@@ -111,17 +111,6 @@ fn tail_at(buf: &[u8], place: usize) -> Numeric
         stop: stop,
         end: stop + ending,
     })
-}
-
-// The numeric error with this head that begins at `place`.
-pub fn numeric_at(buf: &[u8], place: usize, head: Fixed) -> Numeric
-    ensures { λ r. ⌜ r ≡ numericAt (fixedText head) (now (buf .entry)) place ⌝ }
-{
-    if !lines::fixed_at(buf, place, head) {
-        return Numeric::Nothing;
-    }
-    let tail = place + lines::fixed_len(head);
-    tail_at(buf, tail)
 }
 
 // The byte's first place at or after `from`.

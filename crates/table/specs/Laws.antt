@@ -239,6 +239,11 @@ pub ruling-two : (t : List ℕ) (n : ℕ) (v : List ℕ) → ruling t ≡ refuse
 unfolding ruling
 ruling-two t n v e = sym (ap numberOf e) ∙ ruling-by-two 64 t 0 0
 
+-- the empty table is good
+pub ruling-empty : (t : List ℕ) → length t ≡ 0 → answered 0 ≡ ruling t
+unfolding ruling rulingBy thenRule goodAt goodIf recordAt
+ruling-empty t e = rw e
+
 -- the loop of `check`: n records are good, and the ruling is that on the rest
 pub record Counting (t : List ℕ) (at n : ℕ) : Type 0 where
   pub few : n ≤ 64

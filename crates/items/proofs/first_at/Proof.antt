@@ -1,4 +1,8 @@
 -- `first_at` meets its contract, rule by rule.
+use mathlib.Core.Path.{refl}
+use native.Mathlib.Omega.{arith}
+use Rattle.text.specs.Bytes.{bytes}
+use Rattle.text.specs.Laws.{stands-fits}
 use Rattle.parser.specs.Parser.{atFound}
 use borrow.Author.Needs.{needs}
 use Rattle.items.proofs.first_at.Statement.{statement}
@@ -8,31 +12,37 @@ enum-told : tie.Need-enum-told
 enum-told c = search needs
 
 prompt-at-requires : tie.Need-prompt-at-requires
-prompt-at-requires c κs = search needs
+prompt-at-requires c κs =
+    let args = c .before .before .before .args in
+    let pre = c .before .before .before .pre in
+    omega (arith, stands-fits (bytes ">") (args .s .now) (args .place) (omega arith) (rw (c .enum-told .given .1) at pre))
 
 enum-told-2 : tie.Need-enum-told-2
 enum-told-2 c = search needs
 
 prompt-at-requires-2 : tie.Need-prompt-at-requires-2
-prompt-at-requires-2 c κs = search needs
+prompt-at-requires-2 c κs =
+    let args = c .before .before .before .args in
+    let pre = c .before .before .before .pre in
+    omega (arith, stands-fits (bytes "@") (args .s .now) (args .place) (omega arith) (rw (c .enum-told2 .given .1) at pre))
 
 enum-told-3 : tie.Need-enum-told-3
 enum-told-3 c = search needs
 
 numeric-at-requires : tie.Need-numeric-at-requires
-numeric-at-requires c κs = search needs
+numeric-at-requires c κs = (refl, rw (c .enum-told3 .given .1) at (c .before .before .before .pre))
 
 enum-told-4 : tie.Need-enum-told-4
 enum-told-4 c = search needs
 
 numeric-at-requires-2 : tie.Need-numeric-at-requires-2
-numeric-at-requires-2 c κs = search needs
+numeric-at-requires-2 c κs = (refl, rw (c .enum-told4 .given .1) at (c .before .before .before .pre))
 
 enum-told-5 : tie.Need-enum-told-5
 enum-told-5 c = search needs
 
 numeric-at-requires-3 : tie.Need-numeric-at-requires-3
-numeric-at-requires-3 c κs = search needs
+numeric-at-requires-3 c κs = (refl, rw (c .enum-told5 .given .1) at (c .before .before .before .pre))
 
 returns : tie.Need-returns
 returns c = rw (c .before .enum-told .given .1) (c .prompt-at .ensures)

@@ -1,6 +1,6 @@
 -- `first_from` meets its contract: one law for each way out.
 use native.Mathlib.Omega.{arith}
-use Rattle.items.specs.Laws.{from-idle, from-nowhere, from-inside, from-done, from-passed}
+use Rattle.items.specs.Laws.{from-idle, from-nowhere, from-inside, from-here, from-done, from-passed}
 use borrow.Author.Needs.{needs}
 use Rattle.items.proofs.first_from.Statement.{statement}
 use Rattle.items.proofs.first_from.Tie as tie
@@ -34,7 +34,7 @@ first-at-requires c κs =
     let args = c .before .before .before .before .before .before .before .args in
     let behind = c .before .before .before .before .before .behind in
     let first-place = c .before .before .before .first-place in
-    from-inside (args .rule) (args .s .now) (args .e) (args .places) (args .d) _ (behind .ensures) (omega arith) _ (first-place .ensures) _ (c .before .place .given .1)
+    from-here (args .rule) (args .s .now) (args .e) (args .places) (args .d) _ (behind .ensures) (omega arith) _ (first-place .ensures) _ (c .before .place .given .1)
 
 enum-known-a : tie.Need-enum-known-a
 enum-known-a c = search needs
