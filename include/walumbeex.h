@@ -44,8 +44,8 @@
  * A notice is a line that is the text, or the text, `:` and more: +UUSORD hears "+UUSORD: 0,4", and +IPD doesn't hear "+IPD,12:abc". A custom success or error is a
  * line that is the text, letter case exact; a custom prompt is an input that ends in the text, blanks aside.
  *
- * The stack: a digest recurses once for each CRLF at the front of what is left. It took 129 bytes of stack for each byte of the input, or of the bytes in the
- * buffer, where that is all CRLFs: 517 KiB for WX_LONGEST. No proof covers it: where the stack is too short, as for 2,048 CRLFs (4,096 bytes) on a thread with
+ * The stack: a digest recurses once for each CRLF at the front of what is left. It took 138 bytes of stack for each byte of the input, or of the bytes in the
+ * buffer, where that is all CRLFs: 549 KiB for WX_LONGEST. No proof covers it: where the stack is too short, as for 2,048 CRLFs (4,096 bytes) on a thread with
  * 512 KiB, the program ends by SIGSEGV. Give a thread 160 bytes for each byte of the buffer, 640 KiB for WX_LONGEST (the tests run that), or lend a shorter buffer.
  *
  * Work: a digest's grows with its input, and no faster: twice the input takes at most 2.2 times the instructions (docs/BENCHMARKS.md; at most some 1.2 million for

@@ -327,7 +327,7 @@ module _ (d : Digester) (ts : List Token) (s : List ℕ) (e m : ℕ) (b : Bool) 
     pub retry-handed : (h : Hints) → Handed d ts s e h → GoneAll d ts (take (length s - (e + 2)) (drop (e + 2) s)) × Known (take (length s - (e + 2)) (drop (e + 2) s)) 0 h
     retry-handed h w = rw (rest s (e + 2)) (w (sym u ∙ z))
 
-    pub retry-is : (a : Answer) → a ≡ digestIn d ts (take (length s - (e + 2)) (drop (e + 2) s)) → (x : Tried) → x ≡ seenFrom (m + (e + 2)) a → x ≡ seenFrom m (after s (digestIn d ts) e tries.Next)
+    pub retry-is : (n : ℕ) → n ≡ m + (e + 2) → (a : Answer) → a ≡ digestIn d ts (take (length s - (e + 2)) (drop (e + 2) s)) → (x : Tried) → x ≡ seenFrom n a → x ≡ seenFrom m (after s (digestIn d ts) e tries.Next)
     unfolding after
-    retry-is a w x v =
-        v ∙ ap (seenFrom (m + (e + 2))) (w ∙ ap (digestIn d ts) (rest s (e + 2))) ∙ seen-again m e (digestIn d ts (drop (e + 2) s)) ∙ rw (sym u ∙ z)
+    retry-is n i a w x v =
+        v ∙ ap (λ (k : ℕ). seenFrom k a) i ∙ ap (seenFrom (m + (e + 2))) (w ∙ ap (digestIn d ts) (rest s (e + 2))) ∙ seen-again m e (digestIn d ts (drop (e + 2) s)) ∙ rw (sym u ∙ z)

@@ -116,7 +116,7 @@ retry-in-returns-2 t c =
     let if1 = c .before .before .before .before .before .before .if1 in
     let level-from = c .before .before .before .before .level-from in
     let a = c .before .before .a in
-    retry-is (args .digester) (tokens (args .table .now)) (args .s .now) (args .e) (args .moved) _ (retries-at .ensures) (not-false _ (if1 .left)) _ (digest-done (args .digester) (tokens (args .table .now)) (take (length (args .s .now) - (args .e + 2)) (drop (args .e + 2) (args .s .now))) _ (said (args .digester) (args .table .now) (take (length (args .s .now) - (args .e + 2)) (drop (args .e + 2) (args .s .now))) _ false (rw (length-take, length-drop) (omega (arith, pre .1 .0))) (λ z. retry-handed (args .digester) (tokens (args .table .now)) (args .s .now) (args .e) (args .moved) _ (retries-at .ensures) (not-false _ (if1 .left)) _ (pre .1 .1)) _ (level-from .ensures)) _ (a .given .1)) _ (c .seen-from .ensures)
+    retry-is (args .digester) (tokens (args .table .now)) (args .s .now) (args .e) (args .moved) _ (retries-at .ensures) (not-false _ (if1 .left)) _ (omega arith) _ (digest-done (args .digester) (tokens (args .table .now)) (take (length (args .s .now) - (args .e + 2)) (drop (args .e + 2) (args .s .now))) _ (said (args .digester) (args .table .now) (take (length (args .s .now) - (args .e + 2)) (drop (args .e + 2) (args .s .now))) _ false (rw (length-take, length-drop) (omega (arith, pre .1 .0))) (λ z. retry-handed (args .digester) (tokens (args .table .now)) (args .s .now) (args .e) (args .moved) _ (retries-at .ensures) (not-false _ (if1 .left)) _ (pre .1 .1)) _ (level-from .ensures)) _ (a .given .1)) _ (c .seen-from .ensures)
 
 retry-in-returns-3 : (t : ℕ) → retry-in-lts.Need-returns-3 (calls t) (retry-in-at t) retry-in.Post
 retry-in-returns-3 t c =
@@ -126,7 +126,7 @@ retry-in-returns-3 t c =
     let if1 = c .before .before .before .before .before .before .if1 in
     let level-from = c .before .before .before .before .level-from in
     let k = c .before .before .k in
-    retry-is (args .digester) (tokens (args .table .now)) (args .s .now) (args .e) (args .moved) _ (retries-at .ensures) (not-false _ (if1 .left)) _ (next-is (args .digester) (tokens (args .table .now)) (take (length (args .s .now) - (args .e + 2)) (drop (args .e + 2) (args .s .now))) _ (said (args .digester) (args .table .now) (take (length (args .s .now) - (args .e + 2)) (drop (args .e + 2) (args .s .now))) _ false (rw (length-take, length-drop) (omega (arith, pre .1 .0))) (λ z. retry-handed (args .digester) (tokens (args .table .now)) (args .s .now) (args .e) (args .moved) _ (retries-at .ensures) (not-false _ (if1 .left)) _ (pre .1 .1)) _ (level-from .ensures)) _ _ (k .given .1)) _ (c .retry-in .ensures)
+    retry-is (args .digester) (tokens (args .table .now)) (args .s .now) (args .e) (args .moved) _ (retries-at .ensures) (not-false _ (if1 .left)) _ (omega arith) _ (next-is (args .digester) (tokens (args .table .now)) (take (length (args .s .now) - (args .e + 2)) (drop (args .e + 2) (args .s .now))) _ (said (args .digester) (args .table .now) (take (length (args .s .now) - (args .e + 2)) (drop (args .e + 2) (args .s .now))) _ false (rw (length-take, length-drop) (omega (arith, pre .1 .0))) (λ z. retry-handed (args .digester) (tokens (args .table .now)) (args .s .now) (args .e) (args .moved) _ (retries-at .ensures) (not-false _ (if1 .left)) _ (pre .1 .1)) _ (level-from .ensures)) _ _ (k .given .1)) _ (c .retry-in .ensures)
 
 pub +retry-in-spec : {M : Type 1} → statement M
 +retry-in-spec = close μ-retry-in λ t. retry-in-lts.spec (calls t)

@@ -36,14 +36,16 @@ digest-in-requires c κs = search needs
 returns-3 : tie.Need-returns-3
 returns-3 c =
     let lent = c .before .before .before .before .before .args in
+    let came = c .before .if2 .came in
+    let said = c .digest-in .ensures in
     ⊎-elim
     (λ w.
     let good = ap outcome (sym (w .3 .given .1)) ∙ w .1 .ensures in
-    (digest-is (lent .digester) (lent .table .now) (lent .input .now) (omega arith) _ good _ (c .digest-in .ensures), digest-heard (lent .digester) (lent .table .now) (lent .input .now) _ (sym good) _ (c .digest-in .ensures)))
+    (digest-is (lent .digester) (lent .table .now) (lent .input .now) (omega arith) _ good _ said, digest-heard (lent .digester) (lent .table .now) (lent .input .now) _ (sym good) _ said))
     (λ w.
     let good = ruling-empty (lent .table .now) (omega (arith, w .left)) in
-    (digest-is (lent .digester) (lent .table .now) (lent .input .now) (omega arith) _ good _ (c .digest-in .ensures), digest-heard (lent .digester) (lent .table .now) (lent .input .now) _ (sym good) _ (c .digest-in .ensures)))
-    (c .before .if2 .came)
+    (digest-is (lent .digester) (lent .table .now) (lent .input .now) (omega arith) _ good _ said, digest-heard (lent .digester) (lent .table .now) (lent .input .now) _ (sym good) _ said))
+    came
 
 pub digest-spec : {M : Type 1} → statement M
 digest-spec =
