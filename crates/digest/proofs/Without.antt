@@ -3,14 +3,12 @@
 use mathlib.Core.Path.{_≡_, refl, sym, ap, _∙_}
 use mathlib.Core.Bool.{Bool, true, false}
 use mathlib.Core.List.{List, []}
-use Prim.Native.Nat.{ℕ, _+_, _-_, _<_}
-use native.Mathlib.Omega.{arith}
+use Prim.Native.Nat.{ℕ, _+_, _-_}
 use lib.ListN.{length, drop}
 use lib.Seq.{drop-drop}
 use lib.Dec.{leb, ltb}
 use borrow.Author.Tests.{leb-false}
 use Rattle.outcome.specs.Outcome.{Outcome, answered, refused, if_then_else_}
-use Rattle.outcome.specs.Laws.{same-way}
 use Rattle.text.specs.Bytes.{bytes}
 use Rattle.text.specs.Logic.{false-true}
 use Rattle.text.specs.Text.{findIn}
@@ -25,7 +23,7 @@ use Rattle.lines.specs.declared.Digester.the-variants as digester
 use Rattle.lines.specs.declared.Fixed.the-variants as fixed
 use Rattle.items.specs.declared.Tried.{Tried}
 use Rattle.items.specs.declared.Tried.the-variants as tries
-use Rattle.items.specs.Rules.{orElse, skipped, notices, firstCustom, customSuccess, lineSuccess, throughCrlf, connectAt, firstConnect, connected, connectSuccess, successes, prompts, errors, tried}
+use Rattle.items.specs.Rules.{orElse, skipped, notices, firstCustom, customSuccess, lineSuccess, throughCrlf, firstConnect, connected, connectSuccess, successes, prompts, errors, tried}
 use Rattle.items.specs.Connect.{connect-bare, connect-text, behind-head}
 use Rattle.answers.specs.declared.Answer.{Answer}
 use Rattle.digest.specs.Digest.{after, digestIn, underTable, digest}

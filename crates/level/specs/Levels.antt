@@ -37,7 +37,7 @@ use Rattle.items.specs.declared.First.the-variants as first
 use Rattle.items.specs.declared.Hints.{Hints}
 use Rattle.items.specs.declared.Level.{Level}
 use Rattle.items.specs.declared.Level.the-variants as level
-use Rattle.items.specs.Rules.{orElse, firstOf, skipped, heard, notices, occursOr, firstCustom, success, customSuccess, lineSuccess, connectAt, successes, promptTried, customPrompts, prompts, customError, numericTried, numericErrors, errorLines, lineTried, lineErrors, notAllowed, errors, tried}
+use Rattle.items.specs.Rules.{orElse, firstOf, skipped, heard, notices, occursOr, firstCustom, success, customSuccess, lineSuccess, successes, promptTried, customPrompts, prompts, customError, numericTried, numericErrors, errorLines, lineTried, lineErrors, notAllowed, errors, tried}
 use Rattle.items.specs.Hints.{given, promptBytes, numerics, firsts, unknown, hintOf, Known, Says}
 use Rattle.items.specs.Connect.{connect-none, connect-next, connect-lost}
 use Rattle.items.specs.Laws.{next-both, both-next, done-next, or-next, or-assoc, custom-error-none, prompt-miss}
