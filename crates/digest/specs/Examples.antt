@@ -5,7 +5,7 @@ use mathlib.Core.List.{List, [], _∷_, map}
 use Prim.Native.Nat.{ℕ}
 use Prim.Native.String.{String}
 use Rattle.text.specs.Bytes.{bytes}
-use Rattle.text.specs.Text.{isBlank, past, keep, trimmed, stands, findIn, partOf}
+use Rattle.text.specs.Text.{isBlank, past, keep, trimmed, trimmedPart, stands, findIn, partOf}
 use Rattle.outcome.specs.Outcome.{Outcome, answered, refused}
 use Rattle.table.specs.Table.{ruling, tokens, ofMark}
 use Rattle.parser.specs.Parser.{numericError, promptFrom, customPrompt, noticeAt}
@@ -14,7 +14,6 @@ use Rattle.answers.specs.declared.Kind.{Kind}
 use Rattle.answers.specs.declared.Kind.the-variants.{None, Ok, Prompt, Cme, Cms, NotAllowed, Notice}
 use Rattle.answers.specs.declared.Answer.{Answer}
 use Rattle.answers.specs.Answer.{Number, none, number, numberOf}
-use Rattle.items.specs.Rules.{trimmedPart}
 use Rattle.digest.specs.Digest.{digest}
 
 pub record Known : Type 0 where

@@ -9,7 +9,7 @@ use lib.ListN.{length, getD, take, drop, length-drop}
 use lib.Seq.{drop-drop, getD-drop}
 use borrow.Author.Tests.{lt-ltb, ltb-true}
 use Rattle.text.specs.Logic.{false-true, not-true-false, order}
-use Rattle.text.specs.Text.{stands, findIn}
+use Rattle.text.specs.Text.{trimmedPart, stands, findIn}
 use Rattle.text.specs.Bytes.{bytes}
 use Rattle.text.specs.Laws.{FoundAt, found-at, stands-drop, stands-front, stands-fits, stands-getD}
 use Rattle.text.specs.declared.Found.{Found}
@@ -38,7 +38,7 @@ use Rattle.items.specs.declared.Tried.the-variants as tries
 use Rattle.outcome.specs.Outcome.{if_then_else_}
 use Rattle.answers.specs.Answer.{hasNumber, stored, kindFound, isFound, isNumeric, placed, bare, nothing, withNumber, withDigits, withPayload, withText}
 use Rattle.answers.specs.Laws.{numbered-some, placed-some}
-use Rattle.items.specs.Rules.{orElse, firstOf, trimmedPart, heard, notices, occursOr, firstCustom, kindOf, success, customSuccess, lineSuccess, connectAt, firstConnect, connected, connectSuccess, successes, promptTried, customPrompts, prompts, customError, heads, numericTried, numericErrors, errorLines, lineTried, lineErrors, notAllowed, errors, tried}
+use Rattle.items.specs.Rules.{orElse, firstOf, heard, notices, occursOr, firstCustom, kindOf, success, customSuccess, lineSuccess, connectAt, firstConnect, connected, connectSuccess, successes, promptTried, customPrompts, prompts, customError, heads, numericTried, numericErrors, errorLines, lineTried, lineErrors, notAllowed, errors, tried}
 use Rattle.items.specs.Connect.{TextAt, connect-told}
 use Rattle.items.specs.Laws.{next-both, done-next, wrapped-length}
 use Rattle.parser.specs.Moved.{ending-moved, shiftNotice, notice-moved, prompt-moved, custom-moved, shiftNumeric, numeric-moved}

@@ -12,9 +12,8 @@ use borrow.Author.Tests.{ltb-true}
 use Rattle.outcome.specs.Outcome.{if_then_else_}
 use Rattle.outcome.specs.Laws.{ways, same-way}
 use Rattle.text.specs.Logic.{and-both}
-use Rattle.text.specs.Text.{isBlank, trimmed, stands, findIn}
-use Rattle.text.specs.Laws.{rest}
-use Rattle.text.specs.declared.Blanks.the-variants as blanks
+use Rattle.text.specs.Text.{trimmedPart, stands, findIn}
+use Rattle.text.specs.Laws.{rest, trimmed-room}
 use Rattle.text.specs.declared.Found.{Found}
 use Rattle.text.specs.declared.Found.the-variants.{At, Nothing}
 use Rattle.table.specs.Table.{Token, Entry, ofMark, tokens}
@@ -41,12 +40,12 @@ use Rattle.items.specs.declared.Tried.the-variants as tries
 use Rattle.items.specs.declared.Hints.{Hints}
 use Rattle.items.specs.declared.Level.{Level}
 use Rattle.items.specs.declared.Level.the-variants as level
-use Rattle.items.specs.Rules.{orElse, firstOf, skipped, trimmedPart, heard, notices, firstCustom, kindOf, success, customSuccess, lineSuccess, connectAt, firstConnect, connected, connectSuccess, successes, promptTried, customPrompts, prompts, customError, heads, numericTried, numericErrors, errorLines, lineTried, lineErrors, notAllowed, errors, tried}
+use Rattle.items.specs.Rules.{orElse, firstOf, skipped, heard, notices, firstCustom, kindOf, success, customSuccess, lineSuccess, connectAt, firstConnect, connected, connectSuccess, successes, promptTried, customPrompts, prompts, customError, heads, numericTried, numericErrors, errorLines, lineTried, lineErrors, notAllowed, errors, tried}
 use Rattle.items.specs.Hints.{Known, Says}
 use Rattle.items.specs.Laws.{occurs-room}
 use Rattle.items.specs.Connect.{LeastSays, least-connect, connect-room}
 use Rattle.level.specs.Level.{levelFrom, GoneAll}
-use Rattle.level.specs.Laws.{trim-room, line-room, na-room, skipped-le}
+use Rattle.level.specs.Laws.{line-room, na-room, skipped-le}
 use Rattle.level.specs.Levels.{handed, level-says}
 use Rattle.digest.specs.Digest.{retries, again, after, digestBy, digestIn}
 
@@ -155,10 +154,7 @@ first-has P f w (l ∷ ls) = either-has P (f l) (firstOf f ls) (w l) (first-has 
 
 module _ (s : List ℕ) (e : ℕ) where
   part-within : (k : Kind) (m to c : ℕ) → e ≤ to → to ≤ c → c ≤ length s → Within (length s) (withPayload k m (trimmedPart s e to) c)
-  unfolding trimmedPart
-  part-within k m to c h f g =
-      let t = trimmed (isBlank blanks.Trim) (take (to - e) (drop e s)) in
-      payload-within k m (record { start = e + t .start; len = t .len }) c (length s) (omega (arith, trim-room s e to h (omega arith) t refl)) g
+  part-within k m to c h f g = payload-within k m (trimmedPart s e to) c (length s) (omega (arith, trimmed-room s e to h (omega arith))) g
 
   heard-within : e ≤ length s → (x : List ℕ) (n : ℕ) (r : Notice) → noticeAt x s e ≡ r → TriedHas (Within (length s)) (heard r n s e)
   unfolding heard
@@ -187,11 +183,10 @@ module _ (s : List ℕ) (e : ℕ) where
   line-success-within l Nothing p = tt
 
   connected-within : (d : Digester) (k : ℕ) → e ≤ k → (r : Found) → connectAt d s k ≡ r → TriedHas (Within (length s)) (connected s e k r)
-  unfolding connected trimmedPart
+  unfolding connected
   connected-within d k h (At end) p =
       let w = connect-room d s k end p in
-      let t = trimmed (isBlank blanks.Trim) (take (k - e) (drop e s)) in
-      text-within (record { start = e + t .start; len = t .len }) (record { start = k + 10; len = end - (k + 12) }) end (length s) (omega (arith, w .0, trim-room s e k h (omega (arith, w .0, w .1)) t refl)) (omega (arith, w .0)) (w .1)
+      text-within (trimmedPart s e k) (record { start = k + 10; len = end - (k + 12) }) end (length s) (omega (arith, w .0, trimmed-room s e k h (omega (arith, w .0, w .1)))) (omega (arith, w .0)) (w .1)
   connected-within d k h Nothing p = tt
 
   connect-within : (d : Digester) (r : Found) → LeastSays d s e r → TriedHas (Within (length s)) (connectSuccess d s e r)

@@ -3,13 +3,12 @@
 use mathlib.Core.Bool.{Bool, _&&_}
 use mathlib.Core.List.{List, [], _∷_}
 use Prim.Native.Nat.{ℕ, _+_, _-_}
-use lib.ListN.{length, take, drop}
+use lib.ListN.{length}
 use Rattle.outcome.specs.Outcome.{if_then_else_}
-use Rattle.text.specs.Text.{isBlank, past, trimmed, stands, findIn}
+use Rattle.text.specs.Text.{isBlank, past, trimmedPart, stands, findIn}
 use Rattle.text.specs.declared.Blanks.the-variants as blanks
 use Rattle.text.specs.declared.Found.{Found}
 use Rattle.text.specs.declared.Found.the-variants.{At, Nothing}
-use Rattle.text.specs.declared.Span.{Span}
 use Rattle.table.specs.Table.{Token, Entry, ofMark}
 use Rattle.table.specs.declared.Mark.the-variants as mark
 use Rattle.lines.specs.Lines.{hearsText, crlf, fixedText, connectPlace}
@@ -48,12 +47,6 @@ foundOr Nothing a = a
 unfoldable pub skipped : List ℕ → ℕ
 unfolding foundOr
 skipped s = let a = past (isBlank blanks.Space) s 0 in foundOr (findIn crlf s a) a
-
--- what stands from e up to `to`, trimmed, as a part of s
-unfoldable pub trimmedPart : List ℕ → ℕ → ℕ → Span
-trimmedPart s e to =
-    let t = trimmed (isBlank blanks.Trim) (take (to - e) (drop e s)) in
-    record { start = e + t .start; len = t .len }
 
 -- Rule 2. The payload is the line, trimmed. An unfinished notice: the answer at once is None, e.
 unfoldable pub heard : Notice → ℕ → List ℕ → ℕ → Tried

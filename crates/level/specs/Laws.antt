@@ -4,11 +4,11 @@ use mathlib.Core.Bool.{Bool, true, false, _||_}
 use mathlib.Core.List.{List, []}
 use Prim.Native.Nat.{ℕ, _+_, _-_, _≤_}
 use native.Mathlib.Omega.{arith}
-use lib.ListN.{length, take, drop}
+use lib.ListN.{length}
 use lib.Dec.{ltb}
 use borrow.Author.Tests.{ltb-false}
-use Rattle.text.specs.Text.{isBlank, past, trimmed, stands, findIn}
-use Rattle.text.specs.Laws.{found-at, past-bounds, stands-fits, trimmed-fits, length-part}
+use Rattle.text.specs.Text.{isBlank, past, trimmedPart, stands, findIn}
+use Rattle.text.specs.Laws.{found-at, past-bounds, stands-fits}
 use Rattle.text.specs.declared.Blanks.the-variants as blanks
 use Rattle.text.specs.declared.Span.{Span}
 use Rattle.text.specs.declared.Found.{Found}
@@ -26,7 +26,6 @@ use Rattle.lines.specs.declared.Digester.{Digester}
 use Rattle.lines.specs.declared.Fixed.{Fixed}
 use Rattle.lines.specs.declared.Fixed.the-variants as fixed
 use Rattle.parser.specs.Parser.{noticeAt}
-use Rattle.parser.specs.Laws.{notice-bounds}
 use Rattle.parser.specs.declared.Notice.{Notice}
 use Rattle.parser.specs.declared.Notice.the-variants as notice
 use Rattle.places.specs.Places.{firstPlaces, placeIn, FirstPlaces, connect-first}
@@ -42,7 +41,7 @@ use Rattle.items.specs.declared.Tried.{Tried}
 use Rattle.items.specs.declared.Tried.the-variants as tries
 use Rattle.items.specs.declared.Hints.{Hints}
 use Rattle.items.specs.declared.Level.{Level}
-use Rattle.items.specs.Rules.{orElse, foundOr, skipped, trimmedPart, heard, notices, firstCustom, kindOf, success, customSuccess, lineSuccess, throughCrlf, connectAt, firstConnect, connected, connectSuccess, successes, customPrompts, lineTried, notAllowed}
+use Rattle.items.specs.Rules.{orElse, foundOr, skipped, heard, notices, firstCustom, kindOf, success, customSuccess, lineSuccess, throughCrlf, connectAt, firstConnect, connected, connectSuccess, successes, customPrompts, lineTried, notAllowed}
 use Rattle.items.specs.Hints.{promptBytes, firsts, unknown}
 use Rattle.items.specs.Laws.{partIn, no-more, one-more, text-is, matched}
 use Rattle.items.specs.Connect.{Least, least-connect, connect-bare, begun-fits, connect-begun}
@@ -75,16 +74,6 @@ skipped-le s =
     let a = past (isBlank blanks.Space) s 0 in
     foundOr-le s a (findIn crlf s a) refl (past-bounds (isBlank blanks.Space) s 0 .1 (omega arith))
 
--- what is trimmed lies between its ends
-pub trim-room : (s : List ℕ) (e to : ℕ) → e ≤ to → to ≤ length s → (t : Span) → t ≡ trimmed (isBlank blanks.Trim) (take (to - e) (drop e s)) → e + t .start + t .len ≤ to
-trim-room s e to h g t p =
-    let w : t .start + t .len ≤ length (take (to - e) (drop e s)) = rw p (trimmed-fits (isBlank blanks.Trim) (take (to - e) (drop e s))) in
-    omega (arith, w, length-part s e to h g)
-
-pub trimmed-is : (s : List ℕ) (e to : ℕ) (t : Span) → t ≡ trimmed (isBlank blanks.Trim) (take (to - e) (drop e s)) → _≡_ {A = Span} (record { start = e + t .start; len = t .len }) (trimmedPart s e to)
-unfolding trimmedPart
-trimmed-is s e to t p = ap (λ (x : Span). record { start = e + x .start; len = x .len }) p
-
 -- rule 2 for one record
 module _ (s : List ℕ) (e n : ℕ) (x : List ℕ) (r : Notice) (p : r ≡ noticeAt x s e) where
   at-heard : heard r n s e ≡ heard (noticeAt x s e) n s e
@@ -101,9 +90,6 @@ module _ (s : List ℕ) (e n : ℕ) (x : List ℕ) (r : Notice) (p : r ≡ notic
   pub heard-nothing : r ≡ notice.Nothing → tries.Next ≡ heard (noticeAt x s e) n s e
   unfolding heard
   heard-nothing q = rw q at at-heard
-
-  pub ended-room : (end : ℕ) → r ≡ notice.Ended end → (e ≤ end) × (end ≤ length s)
-  ended-room end q = notice-bounds x s e end (sym p ∙ q)
 
 -- rule 2: the rule on all the records is the rule on those from `at` on
 module _ (t s : List ℕ) (e at n : ℕ) (w : notices (entries mark.Notice t 0 0) s e ≡ notices (entries mark.Notice t at n) s e) (q : Next) (p : q ≡ nextOf mark.Notice t at n) where

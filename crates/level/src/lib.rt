@@ -10,7 +10,7 @@ ghost use Rattle.text.specs.Text.{findIn};
 ghost use Rattle.lines.specs.Lines.{crlf, fixedText};
 ghost use Rattle.parser.specs.Parser.{lineEnding, noticeAt};
 ghost use Rattle.places.specs.Places.{FirstPlaces, placeIn};
-ghost use Rattle.items.specs.Rules.{skipped, trimmedPart, heard, notices, firstCustom, kindOf, success, customSuccess, lineSuccess, throughCrlf, firstConnect, connected, connectSuccess, successes, lineTried, lineErrors, notAllowed};
+ghost use Rattle.items.specs.Rules.{skipped, heard, notices, firstCustom, kindOf, success, customSuccess, lineSuccess, throughCrlf, firstConnect, connected, connectSuccess, successes, lineTried, lineErrors, notAllowed};
 ghost use Rattle.level.specs.Level.{Unless, SameCustoms, OthersTold, noticedTried, errorsFrom, outermost, below, levelFrom};
 use answers::Answer;
 use answers::Kind;
@@ -45,18 +45,6 @@ fn skipped(s: &[u8]) -> usize
     }
 }
 
-// What stands from e up to `to`, trimmed.
-fn trimmed_part(s: &[u8], e: usize, to: usize) -> Span
-    requires { ⌜ (e ≤ to) × (to ≤ length (now s)) ⌝ }
-    ensures { λ r. ⌜ r ≡ trimmedPart (now (s .entry)) e to ⌝ }
-{
-    let t = text::trim(Blanks::Trim, &s[e..to]);
-    Span {
-        start: e + t.start,
-        len: t.len,
-    }
-}
-
 // Rule 2 for one record: a notice, or an unfinished one, which is None at once. The line ending that it begins with is `ending` bytes long.
 fn one_notice(s: &[u8], e: usize, ending: usize, x: &[u8], n: u32) -> Tried
     requires { ⌜ (e ≤ length (now s)) × (ending ≡ lineEnding (now s) e) ⌝ }
@@ -67,7 +55,7 @@ fn one_notice(s: &[u8], e: usize, ending: usize, x: &[u8], n: u32) -> Tried
     }
     match parser::notice_text(s, e + ending, x) {
         Notice::Ended(end) => {
-            let line = trimmed_part(s, e, end);
+            let line = text::trimmed_part(s, e, end);
             Tried::Done(answers::with_payload(Kind::Notice, n, line, end))
         }
         Notice::Unfinished => Tried::Done(answers::nothing(e)),
@@ -118,10 +106,9 @@ fn customs(table: &[u8], others: bool) -> &[u8]
 
 // Rule 3: an Ok whose line stands at k and ends at `end`.
 fn success(s: &[u8], e: usize, k: usize, end: usize) -> Tried
-    requires { ⌜ (e ≤ k) × (k ≤ length (now s)) ⌝ }
     ensures { λ r. ⌜ r ≡ success (now (s .entry)) e k end ⌝ }
 {
-    let before = trimmed_part(s, e, k);
+    let before = text::trimmed_part(s, e, k);
     Tried::Done(answers::with_payload(Kind::Ok, 0, before, end))
 }
 
@@ -151,14 +138,14 @@ fn line_success(s: &[u8], e: usize, line: Fixed, first: Found) -> Tried
 
 // Rule 3, R-3: a CONNECT line with text whose head stands at k: everything through the next CRLF, the text in front of that.
 fn text_success(s: &[u8], e: usize, k: usize) -> Tried
-    requires { ⌜ (e ≤ k) × (k + 10 ≤ length (now s)) ⌝ }
+    requires { ⌜ k + 10 ≤ length (now s) ⌝ }
     ensures { λ r. ⌜ r ≡ connected (now (s .entry)) e k (throughCrlf (findIn crlf (now (s .entry)) (k + 10))) ⌝ }
 {
     let start = k + lines::fixed_len(Fixed::ConnectText);
     let Found::At(end) = lines::find_crlf(s, start) else {
         return Tried::Next;
     };
-    let before = trimmed_part(s, e, k);
+    let before = text::trimmed_part(s, e, k);
     let len = end - start;
     let text = Span {
         start: start,

@@ -4,7 +4,7 @@ use mathlib.Core.Path.{_≡_, refl, sym, ap, _∙_}
 use mathlib.Core.Logic.{⊎-elim}
 use mathlib.Core.Bool.{Bool, true, false, _&&_, and-true, and-assoc}
 use mathlib.Core.List.{List, [], _∷_, _++_}
-use Prim.Native.Nat.{ℕ, zero, suc, _+_, _-_, _≤_, _<_}
+use Prim.Native.Nat.{ℕ, zero, suc, _+_, _-_, _≤_, _<_, min}
 use native.Mathlib.Numerals.{add-one, sub-one}
 use native.Mathlib.Nat.{add-zero, zero-add, not-suc-le-zero, le-of-suc-le-suc, eq-or-lt-of-le}
 use native.Mathlib.Omega.{arith}
@@ -15,8 +15,9 @@ use borrow.Author.Tests.{eq-eqb, ne-eqb, eqb-true, eqb-false, le-leb, lt-leb}
 use Rattle.outcome.specs.Outcome.{if_then_else_}
 use Rattle.outcome.specs.Laws.{ways}
 use Rattle.text.specs.Logic.{false-true, not-true-false, and-both, order}
-use Rattle.text.specs.Text.{lead, past, keep, trimmed, begins, stands, search, findIn, partOf, partAt, further}
+use Rattle.text.specs.Text.{isBlank, lead, past, keep, trimmed, trimmedPart, begins, stands, search, findIn, partOf, partAt, further}
 use Rattle.text.specs.Steps.{stands-past, find-here, find-next, find-end}
+use Rattle.text.specs.declared.Blanks.the-variants.{Trim}
 use Rattle.text.specs.declared.Span.{Span}
 use Rattle.text.specs.declared.Found.{Found}
 use Rattle.text.specs.declared.Found.the-variants.{At, Nothing}
@@ -335,3 +336,33 @@ trim-is f s a n p q =
     let l : a ≡ lead f s = p ∙ omega arith in
     let e : n ≡ keep f (drop (lead f s) s) = q ∙ ap (keep f) (rest s a) ∙ ap (λ (k : ℕ). keep f (drop k s)) l in
     λ i. record { start = l i; len = e i }
+
+-- a part up to a place past the end, e being what of it lies in s
+module _ (s : List ℕ) (i k e : ℕ) (h : e ≡ min k (length s)) where
+  part-upto : take (e - i) (drop i s) ≡ take (k - i) (drop i s)
+  part-upto =
+      ⊎-elim
+      (λ (q : length s < k). let z : e ≡ length s = omega arith in ap (λ (n : ℕ). take (n - i) (drop i s)) z ∙ rest s i ∙ sym (take-all (k - i) (drop i s) (rw length-drop (omega arith))))
+      (λ (q : k ≤ length s). let z : e ≡ k = omega arith in ap (λ (n : ℕ). take (n - i) (drop i s)) z)
+      (order (length s) k)
+
+  pub trimmed-none : e < i → _≡_ {A = Span} (record { start = i; len = 0 }) (trimmedPart s i k)
+  unfolding trimmedPart trimmed lead keep
+  trimmed-none g =
+      let z : e - i ≡ 0 = omega arith in
+      let n : take (k - i) (drop i s) ≡ [] = sym part-upto ∙ ap (λ (m : ℕ). take m (drop i s)) z in
+      rw (n, add-zero)
+
+  pub trimmed-is : (t : Span) → t ≡ trimmed (isBlank Trim) (take (e - i) (drop i s)) → _≡_ {A = Span} (record { start = i + t .start; len = t .len }) (trimmedPart s i k)
+  unfolding trimmedPart
+  trimmed-is t p = ap (λ (x : Span). record { start = i + x .start; len = x .len }) (p ∙ ap (trimmed (isBlank Trim)) part-upto)
+
+-- what is trimmed lies between its ends
+pub trim-room : (s : List ℕ) (i k : ℕ) → i ≤ k → k ≤ length s → (t : Span) → t ≡ trimmed (isBlank Trim) (take (k - i) (drop i s)) → i + t .start + t .len ≤ k
+trim-room s i k h g t p =
+    let w : t .start + t .len ≤ length (take (k - i) (drop i s)) = rw p (trimmed-fits (isBlank Trim) (take (k - i) (drop i s))) in
+    omega (arith, w, length-part s i k h g)
+
+pub trimmed-room : (s : List ℕ) (i k : ℕ) → i ≤ k → k ≤ length s → trimmedPart s i k .start + trimmedPart s i k .len ≤ k
+unfolding trimmedPart
+trimmed-room s i k h g = trim-room s i k h g (trimmed (isBlank Trim) (take (k - i) (drop i s))) refl

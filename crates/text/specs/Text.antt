@@ -1,7 +1,7 @@
 -- Blanks, trimming and searching as functions on lists that compute. A place is a number of bytes from the front.
 use mathlib.Core.Bool.{Bool, true, false, _&&_, _||_}
 use mathlib.Core.List.{List, [], _∷_}
-use Prim.Native.Nat.{ℕ, zero, suc, _+_}
+use Prim.Native.Nat.{ℕ, zero, suc, _+_, _-_}
 use lib.ListN.{length, take, drop}
 use lib.Dec.{eqb, leb}
 use Rattle.outcome.specs.Outcome.{if_then_else_}
@@ -46,6 +46,12 @@ keep f (x ∷ s) = let n = keep f s in if f x && eqb n 0 then zero else suc n
 unfoldable pub trimmed : (ℕ → Bool) → List ℕ → Span
 unfolding lead keep
 trimmed f s = let a = lead f s in record { start = a; len = keep f (drop a s) }
+
+-- what stands from i up to k without the trim blanks at its two ends, as a part of s
+unfoldable pub trimmedPart : List ℕ → ℕ → ℕ → Span
+trimmedPart s i k =
+    let t = trimmed (isBlank Trim) (take (k - i) (drop i s)) in
+    record { start = i + t .start; len = t .len }
 
 -- does s begin with t?
 unfoldable pub begins : List ℕ → List ℕ → Bool

@@ -2,10 +2,10 @@
 // They answer as the slice methods that atat's digest.rs leans on (trim_ascii, nom's multispace0 and take_until), by places in the caller's bytes.
 // Every public function is total: none has a `requires`, and a place past the end has a stated answer.
 ghost use mathlib.Core.Path.{_≡_};
-ghost use Prim.Native.Nat.{_≤_, _+_};
+ghost use Prim.Native.Nat.{_≤_, _+_, min};
 ghost use lib.ListN.{length};
 ghost use lib.Dec.{eqb};
-ghost use Rattle.text.specs.Text.{isBlank, past, keep, trimmed, stands, findIn, partOf, partAt, further};
+ghost use Rattle.text.specs.Text.{isBlank, past, keep, trimmed, trimmedPart, stands, findIn, partOf, partAt, further};
 
 // Which bytes count as blank: the space alone, document 01's run blanks, or its trim blanks.
 pub enum Blanks {
@@ -99,6 +99,35 @@ pub fn trim(set: Blanks, s: &[u8]) -> Span
     let a = skip(set, s, 0);
     let n = kept(set, &s[a..]);
     Span { start: a, len: n }
+}
+
+// A place of s, or its end where the place lies past it.
+fn upto(s: &[u8], place: usize) -> usize
+    ensures { λ r. ⌜ r ≡ min place (length (now (s .entry))) ⌝ }
+{
+    if s.len() < place {
+        return s.len();
+    }
+    place
+}
+
+// What stands from `from` up to `to` without the trim blanks at its two ends, as a part of s; a `to` past the end counts as the end.
+// Where `from` lies behind that, nothing stands there, and `from` is the part's place.
+pub fn trimmed_part(s: &[u8], from: usize, to: usize) -> Span
+    ensures { λ r. ⌜ r ≡ trimmedPart (now (s .entry)) from to ⌝ }
+{
+    let end = upto(s, to);
+    if end < from {
+        return Span {
+            start: from,
+            len: 0,
+        };
+    }
+    let t = trim(Blanks::Trim, &s[from..end]);
+    Span {
+        start: from + t.start,
+        len: t.len,
+    }
 }
 
 // A byte as it is compared: itself. Letter case is exact: the crate's `tag_no_case` runs behind a search that is.

@@ -37,12 +37,7 @@ add-success c =
     record { fits = omega (arith, c .fixed-len .ensures, bare-room (args .s .now) (args .e) (args .digester) (args .places) pre _ (connect .ensures) _ (k .given .1) _ (fixed-at .ensures) (c .before .if1 .taken)) }
 
 success-requires : tie.Need-success-requires
-success-requires c κs =
-    let args = c .before .before .before .before .before .before .before .before .args in
-    let pre = c .before .before .before .before .before .before .before .before .pre in
-    let connect = c .before .before .before .before .before .before .connect in
-    let k = c .before .before .before .before .k in
-    let w = connect-inside (args .s .now) (args .e) (args .digester) (args .places) pre _ (connect .ensures) _ (k .given .1) in (w .0, omega (arith, w .1))
+success-requires c κs = search needs
 
 returns-2 : tie.Need-returns-2
 returns-2 c =
@@ -59,7 +54,7 @@ text-success-requires c κs =
     let pre = c .before .before .before .before .before .before .before .pre in
     let connect = c .before .before .before .before .before .connect in
     let k = c .before .before .before .k in
-    connect-inside (args .s .now) (args .e) (args .digester) (args .places) pre _ (connect .ensures) _ (k .given .1)
+    connect-inside (args .s .now) (args .e) (args .digester) (args .places) pre _ (connect .ensures) _ (k .given .1) .1
 
 returns-3 : tie.Need-returns-3
 returns-3 c =

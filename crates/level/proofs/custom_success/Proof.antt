@@ -33,10 +33,7 @@ add-success-2 c =
     record { fits = omega (arith, occurs-room (entries mark.Success (args .table .now) 0 0) (args .s .now) (args .e) _ (first-custom .ensures) _ _ _ (c .before .len .given .1)) }
 
 success-requires : tie.Need-success-requires
-success-requires c κs =
-    let args = c .before .before .before .before .before .before .before .args in
-    let first-custom = c .before .before .before .first-custom in
-    let w = occurs-room (entries mark.Success (args .table .now) 0 0) (args .s .now) (args .e) _ (first-custom .ensures) _ _ _ (c .before .len .given .1) in (w .0, omega (arith, w .1))
+success-requires c κs = search needs
 
 enum-told : tie.Need-enum-told
 enum-told c = search needs

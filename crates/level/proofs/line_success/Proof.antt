@@ -19,11 +19,7 @@ add-success c =
     record { fits = omega (arith, c .fixed-len .ensures, line-room (args .s .now) (args .e) (args .line) (args .first) pre _ (first .given .1)) }
 
 success-requires : tie.Need-success-requires
-success-requires c κs =
-    let args = c .before .before .before .before .before .args in
-    let pre = c .before .before .before .before .before .pre in
-    let first = c .before .before .first in
-    let w = line-room (args .s .now) (args .e) (args .line) (args .first) pre _ (first .given .1) in (w .0, omega (arith, w .1))
+success-requires c κs = search needs
 
 enum-told : tie.Need-enum-told
 enum-told c = search needs

@@ -2,7 +2,7 @@
 use mathlib.Core.Path.{refl, _∙_}
 use native.Mathlib.Omega.{arith}
 use Rattle.parser.specs.Laws.{notice-none, notice-is, ending-fits}
-use Rattle.level.specs.Laws.{heard-ended, heard-broken, heard-nothing, ended-room}
+use Rattle.level.specs.Laws.{heard-ended, heard-broken, heard-nothing}
 use borrow.Author.Needs.{needs}
 use Rattle.level.proofs.one_notice.Statement.{statement}
 use Rattle.level.proofs.one_notice.Tie as tie
@@ -26,11 +26,7 @@ enum-known-end : tie.Need-enum-known-end
 enum-known-end c = search needs
 
 trimmed-part-requires : tie.Need-trimmed-part-requires
-trimmed-part-requires c κs =
-    let args = c .before .before .before .before .before .before .before .args in
-    let notice-text = c .before .before .before .notice-text in
-    let pre = c .before .before .before .before .before .before .before .pre in
-    ended-room (args .s .now) (args .e) (args .n) (args .x .now) _ (notice-text .ensures ∙ notice-is (args .x .now) (args .s .now) (args .e) _ (pre .1) (λ z. omega arith)) _ (c .before .end .given .1)
+trimmed-part-requires c κs = search needs
 
 with-payload-requires : tie.Need-with-payload-requires
 with-payload-requires c κs = search needs

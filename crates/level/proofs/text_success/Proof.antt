@@ -11,7 +11,7 @@ fixed-len-requires c κs = search needs
 add-start : tie.Need-add-start
 add-start c =
     let pre = c .before .before .pre in
-    record { fits = omega (arith, c .fixed-len .ensures, pre .1) }
+    record { fits = omega (arith, c .fixed-len .ensures, pre) }
 
 find-crlf-requires : tie.Need-find-crlf-requires
 find-crlf-requires c κs = search needs
@@ -30,9 +30,7 @@ returns c =
     text-none (args .s .now) (args .e) (args .k) _ (omega (arith, fixed-len .ensures)) _ (find-crlf .ensures) (c .enum-told .given .1)
 
 trimmed-part-requires : tie.Need-trimmed-part-requires
-trimmed-part-requires c κs =
-    let pre = c .before .before .before .before .before .before .pre in
-    (pre .0, omega (arith, pre .1))
+trimmed-part-requires c κs = search needs
 
 sub-len : tie.Need-sub-len
 sub-len c =

@@ -1,0 +1,32 @@
+-- `trimmed_part` meets its contract: by whether anything stands there.
+use native.Mathlib.Omega.{arith}
+use Rattle.text.specs.Laws.{trim-room, trimmed-none, trimmed-is}
+use borrow.Author.Needs.{needs}
+use Rattle.text.proofs.trimmed_part.Statement.{statement}
+use Rattle.text.proofs.trimmed_part.Tie as tie
+
+upto-requires : tie.Need-upto-requires
+upto-requires c κs = search needs
+
+returns : tie.Need-returns
+returns c = trimmed-none (c .before .before .before .args .s .now) (c .before .before .before .args .from) (c .before .before .before .args .to) _ (c .before .upto .ensures) (c .if1 .taken)
+
+part-trim-start : tie.Need-part-trim-start
+part-trim-start c = search needs
+
+part-trim-end : tie.Need-part-trim-end
+part-trim-end c = search needs
+
+trim-requires : tie.Need-trim-requires
+trim-requires c κs = search needs
+
+add-t9 : tie.Need-add-t9
+add-t9 c = record { fits = omega (arith, trim-room (c .before .before .before .before .before .before .args .s .now) (c .before .before .before .before .before .before .args .from) _ (c .before .before .before .if1 .left) (omega (arith, c .before .before .before .before .upto .ensures)) _ (c .before .trim .ensures)) }
+
+returns-2 : tie.Need-returns-2
+returns-2 c = trimmed-is (c .before .before .before .before .before .before .args .s .now) (c .before .before .before .before .before .before .args .from) (c .before .before .before .before .before .before .args .to) _ (c .before .before .before .before .upto .ensures) _ (c .before .trim .ensures)
+
+pub trimmed-part-spec : {M : Type 1} → statement M
+trimmed-part-spec =
+    tie.close
+    (tie.spec upto-requires returns part-trim-start part-trim-end trim-requires add-t9 returns-2)
