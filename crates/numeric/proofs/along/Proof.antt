@@ -1,0 +1,50 @@
+-- `along` meets its contract: 0, 1, 2, and the rest.
+use borrow.Author.Tests.{ne-eqb}
+use Rattle.numeric.specs.Numeric.{along}
+use borrow.Author.Needs.{needs}
+use Rattle.numeric.proofs.along.Statement.{statement}
+use Rattle.numeric.proofs.along.Tie as tie
+
+behind-requires : tie.Need-behind-requires
+behind-requires c κs = search needs
+
+trimmed-part-requires : tie.Need-trimmed-part-requires
+trimmed-part-requires c κs = search needs
+
+behind-requires-2 : tie.Need-behind-requires-2
+behind-requires-2 c κs = search needs
+
+trimmed-part-requires-2 : tie.Need-trimmed-part-requires-2
+trimmed-part-requires-2 c κs = search needs
+
+returns : tie.Need-returns
+unfolding along
+returns c = rw (c .before .before .match .keys1, c .trimmed-part .ensures, c .before .behind .ensures)
+
+returns-2 : tie.Need-returns-2
+unfolding along
+returns-2 c = rw (c .before .before .match .keys2, c .trimmed-part2 .ensures, c .before .behind2 .ensures)
+
+returns-3 : tie.Need-returns-3
+unfolding along
+returns-3 c = rw (c .match .keys3)
+
+returns-4 : tie.Need-returns-4
+unfolding along
+returns-4 c =
+    let b = c .before .before .args .b in
+    let n = c .match .rest in
+    rw (ne-eqb b 48 (n .0 .0 .1), ne-eqb b 49 (n .0 .1), ne-eqb b 50 (n .1))
+
+pub along-spec : {M : Type 1} → statement M
+along-spec =
+    tie.close
+    (tie.spec
+    behind-requires
+    trimmed-part-requires
+    behind-requires-2
+    trimmed-part-requires-2
+    returns
+    returns-2
+    returns-3
+    returns-4)

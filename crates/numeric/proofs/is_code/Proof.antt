@@ -1,0 +1,35 @@
+-- `is_code` meets its contract: the digit, then the CR.
+use mathlib.Core.Path.{sym, _∙_}
+use borrow.Author.Tests.{not-true, not-false}
+use borrow.Author.Needs.{needs}
+use Rattle.numeric.proofs.is_code.Statement.{statement}
+use Rattle.numeric.proofs.is_code.Tie as tie
+
+shared-slice-read-is-digit : tie.Need-shared-slice-read-is-digit
+shared-slice-read-is-digit c = search needs
+
+is-digit-requires : tie.Need-is-digit-requires
+is-digit-requires c κs = search needs
+
+returns : tie.Need-returns
+returns c = rw (sym (c .before .is-digit .ensures) ∙ not-true _ (c .if1 .taken))
+
+add-is-lone : tie.Need-add-is-lone
+add-is-lone c = search needs
+
+is-lone-requires : tie.Need-is-lone-requires
+is-lone-requires c κs = search needs
+
+returns-2 : tie.Need-returns-2
+returns-2 c = rw (sym (c .before .before .is-digit .ensures) ∙ not-false _ (c .before .if1 .left)) (c .is-lone .ensures)
+
+pub is-code-spec : {M : Type 1} → statement M
+is-code-spec =
+    tie.close
+    (tie.spec
+    shared-slice-read-is-digit
+    is-digit-requires
+    returns
+    add-is-lone
+    is-lone-requires
+    returns-2)

@@ -1,0 +1,62 @@
+-- `leftmost` meets its contract: each line start is walked to, and no code is passed over. The measure is what is left of s.
+use mathlib.Core.Path.{sym, _∙_}
+use Prim.Native.Nat.{_-_}
+use native.Mathlib.Omega.{arith}
+use lib.ListN.{length}
+use Rattle.numeric.specs.Laws.{cr-inside, Walked, walked-first, walk-found, walk-end, walk-last, walk-on, walk-less}
+use borrow.Author.Needs.{needs}
+use Rattle.numeric.proofs.leftmost.Statement.{statement}
+use Rattle.numeric.proofs.leftmost.Tie as tie
+
+abbrev Inv-loop : tie.InvT-loop
+Inv-loop s p₀ p = Walked s p
+
+abbrev μ-loop : tie.MeasureT-loop
+μ-loop s p₀ p = length s - p
+
+loop-holds : tie.Need-loop-holds Inv-loop μ-loop
+loop-holds c = walked-first (c .before .args .s .now)
+
+is-code-requires : tie.Need-is-code-requires Inv-loop μ-loop
+is-code-requires c κs = c .loop-test .taken
+
+returns : tie.Need-returns Inv-loop μ-loop
+returns c = walk-found (c .before .before .before .before .before .args .s .now) (c .before .before .before .loop .p) (c .before .before .before .loop .inv) (sym (c .before .is-code .ensures) ∙ c .if1 .taken)
+
+next-cr-requires : tie.Need-next-cr-requires Inv-loop μ-loop
+next-cr-requires c κs = tt
+
+returns-2 : tie.Need-returns-2 Inv-loop μ-loop
+returns-2 c = walk-last (c .before .before .before .before .before .before .before .args .s .now) (c .before .before .before .before .before .loop .p) (c .before .before .before .before .before .loop .inv) (sym (c .before .before .before .is-code .ensures) ∙ c .before .before .if1 .left) _ (c .before .next-cr .ensures) (omega (arith, c .if2 .taken))
+
+start-behind-requires : tie.Need-start-behind-requires Inv-loop μ-loop
+start-behind-requires c κs = cr-inside (c .before .before .before .before .before .before .before .args .s .now) (c .before .before .before .before .before .loop .p) (c .before .before .before .before .loop-test .taken) _ (c .before .next-cr .ensures) (c .if2 .left)
+
+loop-less : tie.Need-loop-less Inv-loop μ-loop
+loop-less c =
+    let g = cr-inside (c .before .before .before .before .before .before .before .before .args .s .now) (c .before .before .before .before .before .before .loop .p) (c .before .before .before .before .before .loop-test .taken) _ (c .before .before .next-cr .ensures) (c .before .if2 .left) in
+    omega (arith, c .start-behind .ensures, c .before .before .before .before .before .loop-test .taken, walk-less (c .before .before .before .before .before .before .before .before .args .s .now) (c .before .before .before .before .before .before .loop .p) (c .before .before .before .before .before .before .loop .inv) (sym (c .before .before .before .before .is-code .ensures) ∙ c .before .before .before .if1 .left) _ (c .before .before .next-cr .ensures) g)
+
+loop-again : tie.Need-loop-again Inv-loop μ-loop
+loop-again c =
+    let g = cr-inside (c .before .before .before .before .before .before .before .before .args .s .now) (c .before .before .before .before .before .before .loop .p) (c .before .before .before .before .before .loop-test .taken) _ (c .before .before .next-cr .ensures) (c .before .if2 .left) in
+    rw (c .start-behind .ensures) (walk-on (c .before .before .before .before .before .before .before .before .args .s .now) (c .before .before .before .before .before .before .loop .p) (c .before .before .before .before .before .before .loop .inv) (sym (c .before .before .before .before .is-code .ensures) ∙ c .before .before .before .if1 .left) _ (c .before .before .next-cr .ensures) g)
+
+returns-3 : tie.Need-returns-3 Inv-loop μ-loop
+returns-3 c = walk-end (c .before .before .before .args .s .now) (c .before .loop .p) (c .before .loop .inv) (c .loop-test .left)
+
+pub leftmost-spec : {M : Type 1} → statement M
+leftmost-spec =
+    tie.close
+    (tie.spec
+    Inv-loop
+    μ-loop
+    loop-holds
+    is-code-requires
+    returns
+    next-cr-requires
+    returns-2
+    start-behind-requires
+    loop-less
+    loop-again
+    returns-3)

@@ -1,0 +1,34 @@
+-- `said` meets its contract.
+use Rattle.numeric.specs.Calls.{said-is}
+use borrow.Author.Needs.{needs}
+use Rattle.numeric.proofs.said.Statement.{statement}
+use Rattle.numeric.proofs.said.Tie as tie
+
+shared-slice-read-b : tie.Need-shared-slice-read-b
+shared-slice-read-b c = search needs
+
+kind-of-requires : tie.Need-kind-of-requires
+kind-of-requires c κs = search needs
+
+along-requires : tie.Need-along-requires
+along-requires c κs = search needs
+
+add-with-payload : tie.Need-add-with-payload
+add-with-payload c = search needs
+
+with-payload-requires : tie.Need-with-payload-requires
+with-payload-requires c κs = search needs
+
+returns : tie.Need-returns
+returns c = said-is (c .before .before .before .before .before .args .s .now) (c .before .before .before .before .before .args .p) _ (c .before .before .kind-of .ensures) _ (c .before .along .ensures) _ (c .with-payload .ensures)
+
+pub said-spec : {M : Type 1} → statement M
+said-spec =
+    tie.close
+    (tie.spec
+    shared-slice-read-b
+    kind-of-requires
+    along-requires
+    add-with-payload
+    with-payload-requires
+    returns)

@@ -1,0 +1,4 @@
+pub mod Numeric
+pub mod Heard
+pub mod Laws
+pub mod Calls
