@@ -172,6 +172,10 @@ pub ruled-empty : (t : List ℕ) → length t ≤ 0 → answered 0 ≡ ruled t
 ruled-empty [] h = refl
 ruled-empty (x ∷ t) h = absurd (omega arith)
 
+pub ruled-two : (t : List ℕ) (n : ℕ) (v : List ℕ) → ruled t ≡ refused n v → n ≡ 2
+ruled-two [] n v e = let z : _≡_ {A = ℕ} 0 1 = cc in absurd (omega arith)
+ruled-two (x ∷ t) n v e = cc
+
 pub digest-bad : (t s : List ℕ) → length s ≤ 4096 → 0 < length t → refused 2 (0 ∷ []) ≡ digest t s
 digest-bad t s l h = ap (λ (x : Outcome ℕ). underTable x s) (ruled-bad t h) ∙ at-table t s l
 
