@@ -49,7 +49,7 @@ written-back s (takes.Full x n) = refl
 same-memories : {A : Type 0} (x y : Result A) → x ≡ y → (x .left .buf ≡ y .left .buf) × ((x .left .slotMemory ≡ y .left .slotMemory) × (x .left .queueMemory ≡ y .left .queueMemory))
 same-memories x y e = (ap (λ z. z .left .buf) e, (ap (λ z. z .left .slotMemory) e, ap (λ z. z .left .queueMemory) e))
 
--- behind state, commit or piece, digester and table: the buffer, the slot's memory, the queue's memory
+-- behind state, commit or piece, selector and table: the buffer, the slot's memory, the queue's memory
 pub advance-one : Alike calls.advance.Reads.Post (λ κs x y s t. (x ≡ y) × ((s .1 .1 .1 .1 .0 .now ≡ t .1 .1 .1 .1 .0 .now) × ((s .1 .1 .1 .1 .1 .0 .now ≡ t .1 .1 .1 .1 .1 .0 .now) × (s .1 .1 .1 .1 .1 .1 .0 .now ≡ t .1 .1 .1 .1 .1 .1 .0 .now))))
 advance-one κs a x y s t h g =
     let e = determined (h .0) (g .0) in

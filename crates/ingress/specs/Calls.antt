@@ -10,7 +10,8 @@ use Rattle.slot.specs.Slot.{wasReset}
 use Rattle.slot.specs.declared.Slot.{Slot}
 use Rattle.queue.specs.Queue.{ours, taken, Got, got, empty, Arrival}
 use Rattle.queue.specs.declared.Queue.{Queue}
-use Rattle.turn.specs.Turn.{withSlot, withQueue, World, world, withState, held, Choice, says, payloadOf}
+use Rattle.selector.specs.Selector.{Choice}
+use Rattle.turn.specs.Turn.{withSlot, withQueue, World, world, withState, held, says, payloadOf}
 use Rattle.ingress.specs.Ingress.{advanced, written}
 use Rattle.ingress.specs.Story.{Stretch, Event, consumed, noticeOf, cameBy, wentBy, deliveredBy, handedBy, flat, waitingIn, emptied, Story, takesBytes, committedBytes, tookOf}
 

@@ -15,9 +15,8 @@ use Rattle.moves.specs.Moves.{put}
 use Rattle.moves.specs.Laws.{put-length, put-held}
 use Rattle.outcome.specs.Outcome.{Outcome, answered, refused, if_then_else_}
 use Rattle.outcome.specs.Laws.{ways}
-use Rattle.table.specs.Table.{ruling}
-use Rattle.table.specs.Laws.{ruling-two}
-use Rattle.turn.specs.Turn.{withEnd, isRefused, World, world, held, Choice, Quiet}
+use Rattle.selector.specs.Selector.{Choice}
+use Rattle.turn.specs.Turn.{withEnd, isRefused, World, world, held, Quiet}
 use Rattle.turn.specs.Kept.{Good}
 use Rattle.ingress.specs.Ingress.{Result, refusedAt, run, isSound, underTable, checks, judged, unlessRefused, committed, advanced, Writing, wrote, stopped, copied, afterCopy, writeOnce, thenWrite, writeBy, writeOn, answering, written}
 use Rattle.ingress.specs.Laws.{passed, bytes-of, once-taken}
@@ -96,12 +95,12 @@ abbrev number-of : {A : Type 0} → Outcome A → ℕ
 number-of (answered x) = 0
 number-of (refused n v) = n
 
-low-by : (t : List ℕ) (a x : Bool) (r : Outcome ℕ) → ruling t ≡ r → (n : ℕ) (v : List ℕ) → _≡_ {A = Outcome (Unit {0})} (refused n v) (if a then refused 1 [] else underTable r (if not x then refused 3 [] else answered tt)) → n < 5
+low-by : (c : Choice) (a x : Bool) (r : Outcome ℕ) → c .rules ≡ r → (n : ℕ) (v : List ℕ) → _≡_ {A = Outcome (Unit {0})} (refused n v) (if a then refused 1 [] else underTable r (if not x then refused 3 [] else answered tt)) → n < 5
 unfolding underTable
-low-by t false true (answered k) q n v e = let z : _≡_ {A = ℕ} 0 1 = cc in absurd (omega arith)
-low-by t false false (answered k) q n v e = omega (arith, ap number-of e)
-low-by t false x (refused k u) q n v e = omega (arith, ap number-of e, ruling-two t k u q)
-low-by t true x r q n v e = omega (arith, ap number-of e)
+low-by c false true (answered k) q n v e = let z : _≡_ {A = ℕ} 0 1 = cc in absurd (omega arith)
+low-by c false false (answered k) q n v e = omega (arith, ap number-of e)
+low-by c false x (refused k u) q n v e = omega (arith, ap number-of e, c .two k u q)
+low-by c true x r q n v e = omega (arith, ap number-of e)
 
 -- a call that is refused 1 to 4 keeps everything
 module _ {A : Type 0} (c : Choice) (w : World) (b : List ℕ) (n : ℕ) (v : List ℕ) where
@@ -111,7 +110,7 @@ module _ {A : Type 0} (c : Choice) (w : World) (b : List ℕ) (n : ℕ) (v : Lis
 
   refused-keeps : refused n v ≡ judged c w → Keeps {A = A} c w b (refusedAt n v w)
   unfolding checks
-  refused-keeps e = low-keeps (low-by (c .table) (ltb 4096 (length (w .buf))) (isSound (w .state) (length (w .buf)) (length (w .slotMemory)) (length (w .queueMemory))) (ruling (c .table)) refl n v e)
+  refused-keeps e = low-keeps (low-by c (ltb 4096 (length (w .buf))) (isSound (w .state) (length (w .buf)) (length (w .slotMemory)) (length (w .queueMemory))) (c .rules) refl n v e)
 
 -- What an advance promises.
 abbrev pub AdvanceKeeps : Choice → ℕ → World → Result (Unit {0}) → Type 0

@@ -6,9 +6,9 @@ use lib.ListN.{length, take, drop}
 use lib.Dec.{leb, ltb}
 use Rattle.moves.specs.Moves.{put}
 use Rattle.outcome.specs.Outcome.{Outcome, answered, refused, if_then_else_}
-use Rattle.table.specs.Table.{ruling}
 use Rattle.queue.specs.Queue.{ours, capacityOf, inBounds}
-use Rattle.turn.specs.Turn.{withEnd, isRefused, World, world, withState, Choice, Step, went, stuck, once}
+use Rattle.selector.specs.Selector.{Choice}
+use Rattle.turn.specs.Turn.{withEnd, isRefused, World, world, withState, Step, went, stuck, once}
 use Rattle.turn.specs.declared.State.{State}
 use Rattle.ingress.specs.declared.Checks.{Checks}
 use Rattle.ingress.specs.declared.Checks.the-variants as judges
@@ -60,10 +60,10 @@ unfoldable pub underTable : {A : Type 0} → Outcome ℕ → Outcome A → Outco
 underTable (answered k) r = r
 underTable (refused n v) r = refused n v
 
--- Refusals 1, 2 and 3, in this order: the buffer is over 4,096 bytes, the table breaks a rule, the state isn't sound.
-unfoldable pub checks : List ℕ → State → ℕ → ℕ → ℕ → Outcome (Unit {0})
+-- Refusals 1, 2 and 3, in this order: the buffer is over 4,096 bytes, the table is none that the digester takes, the state isn't sound. What it says of the table is r.
+unfoldable pub checks : Outcome ℕ → State → ℕ → ℕ → ℕ → Outcome (Unit {0})
 unfolding underTable isSound
-checks t s b m n = if ltb 4096 b then refused 1 [] else underTable (ruling t) (if not (isSound s b m n) then refused 3 [] else answered tt)
+checks r s b m n = if ltb 4096 b then refused 1 [] else underTable r (if not (isSound s b m n) then refused 3 [] else answered tt)
 
 abbrev pub refusal : Checks → Outcome (Unit {0})
 refusal judges.Good = answered tt
@@ -72,7 +72,7 @@ refusal (judges.BadTable k) = refused 2 (k ∷ [])
 refusal judges.BadState = refused 3 []
 
 abbrev pub judged : Choice → World → Outcome (Unit {0})
-judged c w = checks (c .table) (w .state) (length (w .buf)) (length (w .slotMemory)) (length (w .queueMemory))
+judged c w = checks (c .rules) (w .state) (length (w .buf)) (length (w .slotMemory)) (length (w .queueMemory))
 
 -- A call that is refused 1, 2 or 3 leaves everything.
 unfoldable pub unlessRefused : {A : Type 0} → Outcome (Unit {0}) → World → Result A → Result A

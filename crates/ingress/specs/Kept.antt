@@ -15,7 +15,8 @@ use Rattle.answers.specs.Answer.{isNotice}
 use Rattle.answers.specs.declared.Answer.{Answer}
 use Rattle.queue.specs.Queue.{ours, Arrival, adds}
 use Rattle.queue.specs.Waiting.{take-waits}
-use Rattle.turn.specs.Turn.{withQueue, isRefused, World, withState, held, Choice, says, Quiet, payloadOf, delivering, Step, went, stuck, once}
+use Rattle.selector.specs.Selector.{Choice}
+use Rattle.turn.specs.Turn.{withQueue, isRefused, World, withState, held, says, Quiet, payloadOf, delivering, Step, went, stuck, once}
 use Rattle.turn.specs.Says.{held-long, says-within, notice-found}
 use Rattle.turn.specs.Laws.{once-went, once-stuck, once-end}
 use Rattle.turn.specs.Kept.{Good, trusted, idle, idle-next, kept, next-good, next-held, waits-full, stays}

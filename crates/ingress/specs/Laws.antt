@@ -12,12 +12,12 @@ use Rattle.text.specs.Logic.{and-both}
 use Rattle.moves.specs.Moves.{put}
 use Rattle.outcome.specs.Outcome.{Outcome, answered, refused, if_then_else_}
 use Rattle.outcome.specs.Laws.{ways, same-way}
-use Rattle.table.specs.Table.{ruling}
 use Rattle.queue.specs.Queue.{ours, capacityOf, inBounds}
+use Rattle.selector.specs.Selector.{Choice}
 use Rattle.turn.specs.declared.State.{State}
 use Rattle.turn.specs.declared.Stepped.{Stepped}
 use Rattle.turn.specs.declared.Stepped.the-variants as steps
-use Rattle.turn.specs.Turn.{withEnd, isRefused, World, world, withState, Choice, Step, went, stuck, once, stepped}
+use Rattle.turn.specs.Turn.{withEnd, isRefused, World, world, withState, Step, went, stuck, once, stepped}
 use Rattle.turn.specs.Laws.{left-by, once-end, once-less}
 use Rattle.turn.specs.Kept.{Good}
 use Rattle.ingress.specs.declared.Checks.{Checks}
@@ -117,17 +117,17 @@ module _ (s : State) (b m n : ℕ) where
       (leb-true (s .end) b (x .0), (leb-true (s .slot .len) m (y .0), y .1))
 
 -- `checks`
-module _ (t : List ℕ) (s : State) (b m n : ℕ) where
-  pub checks-long : 4096 < b → refused 1 [] ≡ checks t s b m n
+module _ (r : Outcome ℕ) (s : State) (b m n : ℕ) where
+  pub checks-long : 4096 < b → refused 1 [] ≡ checks r s b m n
   unfolding checks
   checks-long h = rw (lt-ltb 4096 b h)
 
   module _ (l : b ≤ 4096) where
-    pub checks-table : (k : ℕ) → refused 2 (k ∷ []) ≡ ruling t → refused 2 (k ∷ []) ≡ checks t s b m n
+    pub checks-table : (k : ℕ) → refused 2 (k ∷ []) ≡ r → refused 2 (k ∷ []) ≡ checks r s b m n
     unfolding checks underTable
     checks-table k e = rw (le-ltb 4096 b l, sym e)
 
-    pub checks-state : (k : ℕ) → answered k ≡ ruling t → (x : Bool) → isSound s b m n ≡ x → _≡_ {A = Outcome (Unit {0})} (if not x then refused 3 [] else answered tt) (checks t s b m n)
+    pub checks-state : (k : ℕ) → answered k ≡ r → (x : Bool) → isSound s b m n ≡ x → _≡_ {A = Outcome (Unit {0})} (if not x then refused 3 [] else answered tt) (checks r s b m n)
     unfolding checks underTable
     checks-state k e x h = rw (le-ltb 4096 b l, sym e, h)
 
@@ -137,7 +137,7 @@ module _ (c : Choice) (w : World) where
   judged-as r e x q = ap refusal (sym q) ∙ e
 
   -- what isn't refused 1, 2 or 3 is good
-  passed-is : (a x : Bool) (r : Outcome ℕ) → ltb 4096 (length (w .buf)) ≡ a → isSound (w .state) (length (w .buf)) (length (w .slotMemory)) (length (w .queueMemory)) ≡ x → ruling (c .table) ≡ r → _≡_ {A = Outcome (Unit {0})} (answered tt) (if a then refused 1 [] else underTable r (if not x then refused 3 [] else answered tt)) → Good c w
+  passed-is : (a x : Bool) (r : Outcome ℕ) → ltb 4096 (length (w .buf)) ≡ a → isSound (w .state) (length (w .buf)) (length (w .slotMemory)) (length (w .queueMemory)) ≡ x → c .rules ≡ r → _≡_ {A = Outcome (Unit {0})} (answered tt) (if a then refused 1 [] else underTable r (if not x then refused 3 [] else answered tt)) → Good c w
   unfolding underTable
   passed-is false true (answered k) l s q e =
       let p = sound-parts (w .state) (length (w .buf)) (length (w .slotMemory)) (length (w .queueMemory)) s in

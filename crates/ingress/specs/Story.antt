@@ -14,7 +14,8 @@ use Rattle.slot.specs.declared.Slot.{Slot}
 use Rattle.queue.specs.Queue.{ours, capacityOf, taken, got, Arrival, waiting, adds}
 use Rattle.queue.specs.declared.Queue.{Queue}
 use Rattle.queue.specs.declared.Notice.{Notice}
-use Rattle.turn.specs.Turn.{withEnd, withSlot, withQueue, isRefused, World, world, withState, held, Choice, says, Quiet, payloadOf, went, once}
+use Rattle.selector.specs.Selector.{Choice}
+use Rattle.turn.specs.Turn.{withEnd, withSlot, withQueue, isRefused, World, world, withState, held, says, Quiet, payloadOf, went, once}
 use Rattle.ingress.specs.Ingress.{judged, cleared, Result}
 
 -- a stretch of bytes that a turn consumed, and what the digester said it was

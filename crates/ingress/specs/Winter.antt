@@ -20,7 +20,8 @@ use Rattle.queue.specs.Waiting.{put-room, take-kept, take-empty, adds-one}
 use Rattle.queue.specs.declared.Put.the-variants as puts
 use Rattle.queue.specs.declared.Queue.{Queue}
 use Rattle.queue.specs.declared.Notice.{Notice}
-use Rattle.turn.specs.Turn.{withEnd, withSlot, withQueue, Delivery, deliver, World, withState, held, Choice, says, payloadOf, delivering}
+use Rattle.selector.specs.Selector.{Choice}
+use Rattle.turn.specs.Turn.{withEnd, withSlot, withQueue, Delivery, deliver, World, withState, held, says, payloadOf, delivering}
 use Rattle.turn.specs.Says.{held-long, says-same, says-within, notice-found}
 use Rattle.turn.specs.Laws.{to-queue, next, once-goes}
 use Rattle.turn.specs.Kept.{Good, trusted, next-good, notice-carries}

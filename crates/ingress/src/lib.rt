@@ -4,10 +4,11 @@
 ghost use mathlib.Core.Path.{_≡_};
 ghost use Prim.Native.Nat.{_≤_};
 ghost use lib.ListN.{length, take};
-ghost use Rattle.turn.specs.Turn.{world, choice};
+ghost use Rattle.selector.specs.Selector.{choice};
+ghost use Rattle.turn.specs.Turn.{world};
 ghost use Rattle.ingress.specs.Ingress.{run, ran, isSound, checks, refusal, advanced, result, writeOnce, writing, writeOn, written, taking, cleared};
 ghost use Rattle.ingress.specs.Story.{Keeps, committedBytes, NothingLeft, NothingAfter, tookOf};
-use lines::Digester;
+use selector::Selector;
 use table::Checked;
 use turn::State;
 use turn::Stepped;
@@ -20,18 +21,18 @@ pub enum Ran {
 
 // Turns until the digest consumes 0 or nothing is left.
 fn run(
-    digester: Digester,
+    selector: Selector,
     table: &[u8],
     state: State,
     buf: &mut [u8],
     slot_mem: &mut [u8],
     queue_mem: &mut [u8],
 ) -> Ran
-    ensures { λ r. ⌜ ran r (now (buf .exit)) (now («slot_mem» .exit)) (now («queue_mem» .exit)) ≡ run (choice digester (now (table .entry))) (world state (now (buf .entry)) (now («slot_mem» .entry)) (now («queue_mem» .entry))) ⌝ }
+    ensures { λ r. ⌜ ran r (now (buf .exit)) (now («slot_mem» .exit)) (now («queue_mem» .exit)) ≡ run (choice selector (now (table .entry))) (world state (now (buf .entry)) (now («slot_mem» .entry)) (now («queue_mem» .entry))) ⌝ }
 {
     let mut s = state;
     while 0 < s.end {
-        match turn::step(digester, table, s, buf, slot_mem, queue_mem) {
+        match turn::step(selector, table, s, buf, slot_mem, queue_mem) {
             Stepped::Full => {
                 return Ran::Full(s);
             }
@@ -69,14 +70,21 @@ pub enum Checks {
     BadState,
 }
 
-// Refusals 1, 2 and 3 in this order, for memories of these lengths.
-fn judge(state: State, table: &[u8], buf: usize, slot_mem: usize, queue_mem: usize) -> Checks
-    ensures { λ r. ⌜ refusal r ≡ checks (now (table .entry)) state buf «slot_mem» «queue_mem» ⌝ }
+// Refusals 1, 2 and 3 in this order, by what the digester says of the table, for memories of these lengths.
+fn judge(
+    selector: Selector,
+    state: State,
+    table: &[u8],
+    buf: usize,
+    slot_mem: usize,
+    queue_mem: usize,
+) -> Checks
+    ensures { λ r. ⌜ refusal r ≡ checks (choice selector (now (table .entry)) .rules) state buf «slot_mem» «queue_mem» ⌝ }
 {
     if digest::LONGEST < buf {
         return Checks::TooLong;
     }
-    if let Checked::Faulty(k) = table::check(table) {
+    if let Checked::Faulty(k) = selector::check(selector, table) {
         return Checks::BadTable(k);
     }
     if !is_sound(state, buf, slot_mem, queue_mem) {
@@ -100,18 +108,18 @@ pub enum Advanced {
 pub fn advance(
     state: State,
     commit: usize,
-    digester: Digester,
+    selector: Selector,
     table: &[u8],
     buf: &mut [u8],
     slot_mem: &mut [u8],
     queue_mem: &mut [u8],
 ) -> Advanced
-    ensures { λ r. ⌜ result state r (now (buf .exit)) (now («slot_mem» .exit)) (now («queue_mem» .exit)) ≡ advanced (choice digester (now (table .entry))) commit (world state (now (buf .entry)) (now («slot_mem» .entry)) (now («queue_mem» .entry))) ⌝ }
-    ensures keeps { λ r. ⌜ Keeps (choice digester (now (table .entry))) (world state (now (buf .entry)) (now («slot_mem» .entry)) (now («queue_mem» .entry))) (committedBytes (world state (now (buf .entry)) (now («slot_mem» .entry)) (now («queue_mem» .entry))) commit) (result state r (now (buf .exit)) (now («slot_mem» .exit)) (now («queue_mem» .exit))) ⌝ }
-    ensures nothing_left { λ r. ⌜ NothingLeft (choice digester (now (table .entry))) (result state r (now (buf .exit)) (now («slot_mem» .exit)) (now («queue_mem» .exit))) ⌝ }
+    ensures { λ r. ⌜ result state r (now (buf .exit)) (now («slot_mem» .exit)) (now («queue_mem» .exit)) ≡ advanced (choice selector (now (table .entry))) commit (world state (now (buf .entry)) (now («slot_mem» .entry)) (now («queue_mem» .entry))) ⌝ }
+    ensures keeps { λ r. ⌜ Keeps (choice selector (now (table .entry))) (world state (now (buf .entry)) (now («slot_mem» .entry)) (now («queue_mem» .entry))) (committedBytes (world state (now (buf .entry)) (now («slot_mem» .entry)) (now («queue_mem» .entry))) commit) (result state r (now (buf .exit)) (now («slot_mem» .exit)) (now («queue_mem» .exit))) ⌝ }
+    ensures nothing_left { λ r. ⌜ NothingLeft (choice selector (now (table .entry))) (result state r (now (buf .exit)) (now («slot_mem» .exit)) (now («queue_mem» .exit))) ⌝ }
 {
     let room = buf.len();
-    match judge(state, table, room, slot_mem.len(), queue_mem.len()) {
+    match judge(selector, state, table, room, slot_mem.len(), queue_mem.len()) {
         Checks::TooLong => Advanced::TooLong,
         Checks::BadTable(k) => Advanced::BadTable(k),
         Checks::BadState => Advanced::BadState,
@@ -121,7 +129,7 @@ pub fn advance(
                 return Advanced::NoRoom;
             }
             match run(
-                digester,
+                selector,
                 table,
                 state.with_end(end + commit),
                 buf,
@@ -143,7 +151,7 @@ pub enum Wrote {
 
 // Copies what fits of the bytes behind those held, and runs turns. Where nothing fits, nothing is digested.
 fn write_once(
-    digester: Digester,
+    selector: Selector,
     table: &[u8],
     state: State,
     bytes: &[u8],
@@ -152,7 +160,7 @@ fn write_once(
     queue_mem: &mut [u8],
 ) -> Wrote
     requires { ⌜ state .end ≤ length (now buf) ⌝ }
-    ensures { λ r. ⌜ writing r (now (buf .exit)) (now («slot_mem» .exit)) (now («queue_mem» .exit)) ≡ writeOnce (choice digester (now (table .entry))) (now (bytes .entry)) (world state (now (buf .entry)) (now («slot_mem» .entry)) (now («queue_mem» .entry))) ⌝ }
+    ensures { λ r. ⌜ writing r (now (buf .exit)) (now («slot_mem» .exit)) (now («queue_mem» .exit)) ≡ writeOnce (choice selector (now (table .entry))) (now (bytes .entry)) (world state (now (buf .entry)) (now («slot_mem» .entry)) (now («queue_mem» .entry))) ⌝ }
 {
     let end = state.end;
     let n = turn::fitting(bytes.len(), buf.len() - end);
@@ -161,7 +169,7 @@ fn write_once(
     }
     moves::put(buf, end, &bytes[..n]);
     match run(
-        digester,
+        selector,
         table,
         state.with_end(end + n),
         buf,
@@ -175,7 +183,7 @@ fn write_once(
 
 // Copies until the piece is used up or there is no room.
 fn write_on(
-    digester: Digester,
+    selector: Selector,
     table: &[u8],
     state: State,
     piece: &[u8],
@@ -184,13 +192,13 @@ fn write_on(
     queue_mem: &mut [u8],
 ) -> Wrote
     requires { ⌜ state .end ≤ length (now buf) ⌝ }
-    ensures { λ r. ⌜ writing r (now (buf .exit)) (now («slot_mem» .exit)) (now («queue_mem» .exit)) ≡ writeOn (choice digester (now (table .entry))) (now (piece .entry)) 0 (world state (now (buf .entry)) (now («slot_mem» .entry)) (now («queue_mem» .entry))) ⌝ }
+    ensures { λ r. ⌜ writing r (now (buf .exit)) (now («slot_mem» .exit)) (now («queue_mem» .exit)) ≡ writeOn (choice selector (now (table .entry))) (now (piece .entry)) 0 (world state (now (buf .entry)) (now («slot_mem» .entry)) (now («queue_mem» .entry))) ⌝ }
 {
     let mut s = state;
     let mut taken = 0;
     loop {
         match write_once(
-            digester,
+            selector,
             table,
             s,
             &piece[taken..],
@@ -227,21 +235,21 @@ pub enum Written {
 pub fn write(
     state: State,
     piece: &[u8],
-    digester: Digester,
+    selector: Selector,
     table: &[u8],
     buf: &mut [u8],
     slot_mem: &mut [u8],
     queue_mem: &mut [u8],
 ) -> Written
-    ensures { λ r. ⌜ taking state r (now (buf .exit)) (now («slot_mem» .exit)) (now («queue_mem» .exit)) ≡ written (choice digester (now (table .entry))) (now (piece .entry)) (world state (now (buf .entry)) (now («slot_mem» .entry)) (now («queue_mem» .entry))) ⌝ }
-    ensures keeps { λ r. ⌜ Keeps (choice digester (now (table .entry))) (world state (now (buf .entry)) (now («slot_mem» .entry)) (now («queue_mem» .entry))) (take (tookOf (taking state r (now (buf .exit)) (now («slot_mem» .exit)) (now («queue_mem» .exit)) .said)) (now (piece .entry))) (taking state r (now (buf .exit)) (now («slot_mem» .exit)) (now («queue_mem» .exit))) ⌝ }
-    ensures nothing_left { λ r. ⌜ NothingAfter (choice digester (now (table .entry))) (taking state r (now (buf .exit)) (now («slot_mem» .exit)) (now («queue_mem» .exit))) ⌝ }
+    ensures { λ r. ⌜ taking state r (now (buf .exit)) (now («slot_mem» .exit)) (now («queue_mem» .exit)) ≡ written (choice selector (now (table .entry))) (now (piece .entry)) (world state (now (buf .entry)) (now («slot_mem» .entry)) (now («queue_mem» .entry))) ⌝ }
+    ensures keeps { λ r. ⌜ Keeps (choice selector (now (table .entry))) (world state (now (buf .entry)) (now («slot_mem» .entry)) (now («queue_mem» .entry))) (take (tookOf (taking state r (now (buf .exit)) (now («slot_mem» .exit)) (now («queue_mem» .exit)) .said)) (now (piece .entry))) (taking state r (now (buf .exit)) (now («slot_mem» .exit)) (now («queue_mem» .exit))) ⌝ }
+    ensures nothing_left { λ r. ⌜ NothingAfter (choice selector (now (table .entry))) (taking state r (now (buf .exit)) (now («slot_mem» .exit)) (now («queue_mem» .exit))) ⌝ }
 {
-    match judge(state, table, buf.len(), slot_mem.len(), queue_mem.len()) {
+    match judge(selector, state, table, buf.len(), slot_mem.len(), queue_mem.len()) {
         Checks::TooLong => Written::TooLong,
         Checks::BadTable(k) => Written::BadTable(k),
         Checks::BadState => Written::BadState,
-        Checks::Good => match write_on(digester, table, state, piece, buf, slot_mem, queue_mem) {
+        Checks::Good => match write_on(selector, table, state, piece, buf, slot_mem, queue_mem) {
             Wrote::Is(s, n) => Written::Is(s, n),
             Wrote::Full(s, n) => Written::Full(s, n),
         },

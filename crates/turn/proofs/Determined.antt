@@ -32,7 +32,7 @@ module _ (s : State) (b m n : List ℕ) where
   stepped-back (steps.Is x k) = (refl, (refl, (refl, refl)))
   stepped-back steps.Full = (refl, (refl, (refl, refl)))
 
--- behind digester, table and state: the buffer, the slot's memory, the queue's memory
+-- behind selector, table and state: the buffer, the slot's memory, the queue's memory
 pub step-one : Alike calls.step.Reads.Post (λ κs x y s t. (x ≡ y) × ((s .1 .1 .1 .0 .now ≡ t .1 .1 .1 .0 .now) × ((s .1 .1 .1 .1 .0 .now ≡ t .1 .1 .1 .1 .0 .now) × (s .1 .1 .1 .1 .1 .0 .now ≡ t .1 .1 .1 .1 .1 .0 .now))))
 step-one κs a x y s t h g =
     let e = determined h g in

@@ -9,9 +9,8 @@ use Rattle.text.specs.Logic.{false-true, not-true-false}
 use Rattle.moves.specs.Moves.{moved}
 use Rattle.moves.specs.Laws.{moved-length, moved-held, moved-still}
 use Rattle.outcome.specs.Outcome.{Outcome, answered, refused, if_then_else_}
-use Rattle.table.specs.Table.{ruling}
 use Rattle.answers.specs.Answer.{isFound, isNotice}
-use Rattle.answers.specs.Laws.{notice-plain}
+use Rattle.answers.specs.Laws.{none-only, notice-plain}
 use Rattle.outcome.specs.Laws.{same-way}
 use Rattle.answers.specs.declared.Answer.{Answer}
 use Rattle.slot.specs.Slot.{isResponse, signalled}
@@ -22,9 +21,10 @@ use Rattle.queue.specs.Queue.{ours, putInto, capacityOf, inBounds, waiting, add
 use Rattle.queue.specs.Queue as queues
 use Rattle.queue.specs.Waiting.{put-waits, put-kept, put-stuck, put-full-only}
 use Rattle.queue.specs.declared.Queue.{Queue}
+use Rattle.selector.specs.Selector.{Trusted, Choice}
 use Rattle.turn.specs.declared.State.{State}
-use Rattle.turn.specs.Turn.{withEnd, Delivery, isRefused, toQueue, toSlot, deliver, World, world, held, Choice, says, Quiet, payloadOf, carriedOf, delivering}
-use Rattle.turn.specs.Says.{held-long, says-within, Trusted, says-trusted}
+use Rattle.turn.specs.Turn.{withEnd, Delivery, isRefused, toQueue, toSlot, deliver, World, world, held, says, Quiet, payloadOf, carriedOf, delivering}
+use Rattle.turn.specs.Says.{held-long, says-within, says-trusted}
 use Rattle.turn.specs.Laws.{next, waitsAt}
 
 -- A delivery that doesn't wait stays within the bounds, and adds the notice that it was given.
@@ -82,11 +82,11 @@ module _ (s : State) (a : Answer) (p m n : List ℕ) (f : s .slot .len ≤ lengt
   unfolding deliver
   delivers-none e h = ap (toSlot s n) (signal-none (s .slot) a p m f h) ∙ rw e
 
--- a state that fits its memories, a buffer of at most 4,096 bytes and a table that breaks no rule
+-- a state that fits its memories, a buffer of at most 4,096 bytes and a table that the digester takes
 pub record Good (c : Choice) (w : World) : Type 0 where
   pub long : length (w .buf) ≤ 4096
   pub records : ℕ
-  pub ruled : ruling (c .table) ≡ answered records
+  pub ruled : c .rules ≡ answered records
   pub inside : w .state .end ≤ length (w .buf)
   pub slotFits : w .state .slot .len ≤ length (w .slotMemory)
   pub queueFits : inBounds (capacityOf ours (length (w .queueMemory))) (w .state .queue) ≡ true
@@ -100,7 +100,7 @@ module _ (c : Choice) (w : World) (g : Good c w) where
   ends-there : length (held w) ≡ w .state .end
   ends-there = omega (arith, held-long w, g .inside)
 
-  pub trusted : Trusted c w (says c w)
+  pub trusted : Trusted (says c w) (Quiet c w)
   trusted = says-trusted c w (omega (arith, ends-there, g .inside, g .long)) (g .records) (g .ruled)
 
   -- where nothing is consumed, nothing is finished, and the turn changes nothing
@@ -113,7 +113,7 @@ module _ (c : Choice) (w : World) (g : Good c w) where
 
     pub idle-next : next c w ≡ w
     idle-next =
-        let k = trusted .nothing unheard in
+        let k = none-only (says c w .kind) unheard in
         let d : toSlot (w .state) (w .queueMemory) (slots.after (answered (w .state .slot)) (w .slotMemory)) ≡ delivering c w = delivers-none (w .state) (says c w) (carriedOf (held w) (says c w)) (w .slotMemory) (w .queueMemory) (g .slotFits) (g .queueFits) (ap isNotice k) (ap isResponse k) in
         let e : length (held w) - says c w .consumed ≡ w .state .end = omega (arith, ends-there) in
         let b : moved (w .buf) (says c w .consumed) (length (held w)) ≡ w .buf = ap (λ (n : ℕ). moved (w .buf) n (length (held w))) z ∙ moved-still (w .buf) (length (held w)) in

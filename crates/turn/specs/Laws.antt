@@ -10,9 +10,8 @@ use Rattle.outcome.specs.Laws.{ways}
 use Rattle.text.specs.Text.{partOf}
 use Rattle.text.specs.declared.Span.{Span}
 use Rattle.answers.specs.Answer.{isNotice, carried}
-use Rattle.lines.specs.declared.Digester.{Digester}
 use Rattle.answers.specs.declared.Answer.{Answer}
-use Rattle.digest.specs.Digest.{digestUnchecked}
+use Rattle.selector.specs.Selector.{Choice}
 use Rattle.slot.specs.Slot.{signalled}
 use Rattle.slot.specs.Slot as slots
 use Rattle.slot.specs.declared.Slot.{Slot}
@@ -26,7 +25,7 @@ use Rattle.queue.specs.declared.Queue.{Queue}
 use Rattle.turn.specs.declared.State.{State}
 use Rattle.turn.specs.declared.Delivered.{Delivered}
 use Rattle.turn.specs.declared.Delivered.the-variants as delivers
-use Rattle.turn.specs.Turn.{withEnd, withSlot, withQueue, toQueue, toSlot, deliver, delivery, World, world, held, Choice, choice, says, carriedOf, delivering, Step, went, stuck, onward, once}
+use Rattle.turn.specs.Turn.{withEnd, withSlot, withQueue, toQueue, toSlot, deliver, delivery, World, world, held, says, carriedOf, delivering, Step, went, stuck, onward, once}
 use Rattle.turn.specs.Says.{held-long, held-is, says-is, says-within, says-byte}
 
 -- where a delivery went: r is what the queue or the slot answered, k the memory that it left
@@ -48,29 +47,29 @@ module _ (s : State) (a : Answer) (p m n : List ℕ) where
     slot-is x q y v = ap (λ (z : State). delivery s (delivers.Is z) k n) v ∙ to-slot (turns.Is x) q
 
 -- the ways out of `step`, e being where the bytes held end
-module _ (d : Digester) (t : List ℕ) (s : State) (b m n : List ℕ) (e : ℕ) (h : e ≡ min (s .end) (length b)) (a : Answer) (ea : a ≡ digestUnchecked d t (take e b)) where
+module _ (c : Choice) (s : State) (b m n : List ℕ) (e : ℕ) (h : e ≡ min (s .end) (length b)) (a : Answer) (ea : a ≡ c .answers (take e b)) where
   -- what is consumed lies in what is held
   pub step-room : a .consumed ≤ e
-  step-room = omega (arith, h, ap (λ (x : Answer). x .consumed) (ea ∙ says-is s b m n e h d t), says-within (choice d t) (world s b m n), held-long (world s b m n))
+  step-room = omega (arith, h, ap (λ (x : Answer). x .consumed) (ea ∙ says-is s b m n e h c), says-within c (world s b m n), held-long (world s b m n))
 
   -- and a notice's number fits its record
   pub step-number : isNotice (a .kind) ≡ true → a .number < 256
-  step-number = rw (ea ∙ says-is s b m n e h d t) (says-byte (choice d t) (world s b m n))
+  step-number = rw (ea ∙ says-is s b m n e h c) (says-byte c (world s b m n))
 
   module _ (q : Span) (eq : q ≡ carried a) (p : List ℕ) (ep : p ≡ partOf (take e b) (q .start) (q .len)) (r : Delivered) (k l : List ℕ) (er : delivery s r k l ≡ deliver s a p m n) where
-    at-delivery : onward (world s b m n) a (delivery s r k l) ≡ once (choice d t) (world s b m n)
+    at-delivery : onward (world s b m n) a (delivery s r k l) ≡ once c (world s b m n)
     unfolding once
     at-delivery =
         ap (onward (world s b m n) a) (er ∙ ap (λ (x : List ℕ). deliver s a x m n) (ep ∙ ap (λ (y : Span). partOf (take e b) (y .start) (y .len)) eq ∙ ap (λ (y : List ℕ). carriedOf y a) (held-is s b m n e h)))
-        ∙ ap (λ (x : Answer). onward (world s b m n) x (deliver s x (carriedOf (held (world s b m n)) x) m n)) (ea ∙ says-is s b m n e h d t)
+        ∙ ap (λ (x : Answer). onward (world s b m n) x (deliver s x (carriedOf (held (world s b m n)) x) m n)) (ea ∙ says-is s b m n e h c)
 
-    pub step-full : r ≡ delivers.Waits → stuck (world s b k l) ≡ once (choice d t) (world s b m n)
+    pub step-full : r ≡ delivers.Waits → stuck (world s b k l) ≡ once c (world s b m n)
     unfolding onward
     step-full f = rw f at at-delivery
 
-    pub step-is : (x : State) → r ≡ delivers.Is x → (c : List ℕ) → c ≡ moved b (a .consumed) e → (y : State) → y ≡ withEnd x (e - a .consumed) → went (world y c k l) (a .consumed) ≡ once (choice d t) (world s b m n)
+    pub step-is : (x : State) → r ≡ delivers.Is x → (o : List ℕ) → o ≡ moved b (a .consumed) e → (y : State) → y ≡ withEnd x (e - a .consumed) → went (world y o k l) (a .consumed) ≡ once c (world s b m n)
     unfolding onward
-    step-is x f c v y u =
+    step-is x f o v y u =
         let z : e ≡ length (held (world s b m n)) = h ∙ sym (held-long (world s b m n)) in
         (λ i. went (world (u i) (v i) k l) (a .consumed))
         ∙ (λ i. went (world (withEnd x (z i - a .consumed)) (moved b (a .consumed) (z i)) k l) (a .consumed))

@@ -1,24 +1,20 @@
--- All that the ingress relies on of a digester, as laws of `says`, from those that the digester exports. No other file opens `says`.
+-- All that the ingress relies on of a digester, as laws of `says`: what a `Choice` has. No other file opens `says`.
 use mathlib.Core.Path.{_≡_, refl, sym, ap, _∙_}
 use mathlib.Core.Bool.{Bool, true, false}
 use mathlib.Core.Logic.{⊎-elim}
 use mathlib.Core.List.{List}
-use Prim.Native.Nat.{ℕ, _+_, _≤_, _<_, min}
+use Prim.Native.Nat.{ℕ, _≤_, _<_, min}
 use native.Mathlib.Omega.{arith}
 use lib.ListN.{length, take, length-take}
 use lib.Seq.{take-all, take-length}
 use Rattle.text.specs.Logic.{false-true, order}
 use Rattle.outcome.specs.Outcome.{answered}
-use Rattle.table.specs.Table.{ruling}
 use Rattle.answers.specs.Answer.{isFound, isNotice}
-use Rattle.lines.specs.declared.Digester.{Digester}
 use Rattle.answers.specs.declared.Answer.{Answer}
-use Rattle.answers.specs.declared.Kind.the-variants as kind
-use Rattle.digest.specs.Digest.{digestUnchecked}
 use Rattle.answers.specs.Laws.{none-only}
-use Rattle.digest.specs.Calls.{unchecked-heard, unchecked-within, unchecked-below}
+use Rattle.selector.specs.Selector.{Trusted, Choice}
 use Rattle.turn.specs.declared.State.{State}
-use Rattle.turn.specs.Turn.{World, world, held, Choice, choice, says, Quiet}
+use Rattle.turn.specs.Turn.{World, world, held, says, Quiet}
 
 -- the bytes held, as a beginning of the buffer
 pub held-long : (w : World) → length (held w) ≡ min (w .state .end) (length (w .buf))
@@ -32,38 +28,29 @@ module _ (s : State) (b m n : List ℕ) (e : ℕ) (h : e ≡ min (s .end) (lengt
       (λ l. let z : e ≡ length b = omega arith in ap (λ (k : ℕ). take k b) z ∙ take-length b ∙ sym (take-all (s .end) b l))
       (order (s .end) (length b))
 
-  pub says-is : (d : Digester) (t : List ℕ) → digestUnchecked d t (take e b) ≡ says (choice d t) (world s b m n)
+  pub says-is : (c : Choice) → c .answers (take e b) ≡ says c (world s b m n)
   unfolding says
-  says-is d t = ap (digestUnchecked d t) held-is
+  says-is c = ap (c .answers) held-is
 
 -- It is said of the bytes held alone.
 pub says-same : (c : Choice) (w v : World) → held w ≡ held v → says c w ≡ says c v
 unfolding says
-says-same c w v e = ap (digestUnchecked (c .digester) (c .table)) e
+says-same c w v e = ap (c .answers) e
 
 -- Whatever it says, it consumes at most what is held.
 pub says-within : (c : Choice) (w : World) → says c w .consumed ≤ length (held w)
 unfolding says
-says-within c w = unchecked-within (c .digester) (c .table) (held w)
+says-within c w = c .within (held w)
 
 -- A notice's number fits a byte, so that a record's number is the notice's.
 pub says-byte : (c : Choice) (w : World) → isNotice (says c w .kind) ≡ true → says c w .number < 256
 unfolding says
-says-byte c w q = omega (arith, unchecked-below (c .digester) (c .table) (held w) q)
+says-byte c w = c .byte (held w)
 
--- Under a good table and of at most 4,096 bytes: an answer that found something consumes at least one byte, and its payload lies in what it consumes;
--- one that found nothing is None, and then nothing is finished.
-pub record Trusted (c : Choice) (w : World) (a : Answer) : Type 0 where
-  pub some : isFound a ≡ true → 1 ≤ a .consumed
-  pub payload : isFound a ≡ true → a .place + a .len ≤ a .consumed
-  pub nothing : isFound a ≡ false → a .kind ≡ kind.None
-  pub quiet : isFound a ≡ false → Quiet c w
-
-pub says-trusted : (c : Choice) (w : World) → length (held w) ≤ 4096 → (n : ℕ) → ruling (c .table) ≡ answered n → Trusted c w (says c w)
+-- Under a table that it takes and of at most 4,096 bytes: what it found, or that nothing is finished.
+pub says-trusted : (c : Choice) (w : World) → length (held w) ≤ 4096 → (n : ℕ) → c .rules ≡ answered n → Trusted (says c w) (Quiet c w)
 unfolding says
-says-trusted c w h n e =
-    let x = unchecked-heard (c .digester) (c .table) (held w) h n e in
-    record { some = x .some; payload = λ f. x .item f .payload; nothing = none-only (digestUnchecked (c .digester) (c .table) (held w) .kind); quiet = x .none }
+says-trusted c w h n e = c .trusted n e (held w) h
 
 -- a notice is something found
 pub notice-found : (a : Answer) → isNotice (a .kind) ≡ true → isFound a ≡ true

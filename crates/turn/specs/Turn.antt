@@ -6,12 +6,9 @@ use lib.ListN.{length, take}
 use Rattle.text.specs.Text.{partOf}
 use Rattle.moves.specs.Moves.{moved}
 use Rattle.outcome.specs.Outcome.{Outcome, answered, refused, if_then_else_}
-use Rattle.table.specs.Table.{tokens}
 use Rattle.answers.specs.Answer.{isNotice, carried}
-use Rattle.lines.specs.declared.Digester.{Digester}
 use Rattle.answers.specs.declared.Answer.{Answer}
-use Rattle.digest.specs.Digest.{digestUnchecked}
-use Rattle.digest.specs.Finished.{NothingFinished}
+use Rattle.selector.specs.Selector.{Choice}
 use Rattle.slot.specs.Slot.{signalled}
 use Rattle.slot.specs.Slot as slots
 use Rattle.slot.specs.declared.Slot.{Slot}
@@ -83,21 +80,13 @@ withState w s = world s (w .buf) (w .slotMemory) (w .queueMemory)
 abbrev pub held : World → List ℕ
 held w = take (w .state .end) (w .buf)
 
--- what the caller chooses: the digester (R-3), and its token table
-pub record Choice : Type 0 where
-  pub digester : Digester
-  pub table : List ℕ
-
-abbrev pub choice : Digester → List ℕ → Choice
-choice d t = record { digester = d; table = t }
-
--- what the digester says of the bytes held
+-- what the chosen digester says of the bytes held
 unfoldable pub says : Choice → World → Answer
-says c w = digestUnchecked (c .digester) (c .table) (held w)
+says c w = c .answers (held w)
 
--- no line start of the bytes held holds a finished item
+-- no line start of the bytes held holds a finished item, by the digester's own line starts and items
 abbrev pub Quiet : Choice → World → Type 0
-Quiet c w = NothingFinished (c .digester) (tokens (c .table)) (held w)
+Quiet c w = c .Quiet (held w)
 
 abbrev pub payloadOf : List ℕ → Answer → List ℕ
 payloadOf s a = partOf s (a .place) (a .len)

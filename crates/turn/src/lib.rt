@@ -5,11 +5,12 @@ ghost use mathlib.Core.Path.{_≡_};
 ghost use mathlib.Core.Bool.{true};
 ghost use Prim.Native.Nat.{_<_, min};
 ghost use Rattle.answers.specs.Answer.{isNotice};
-ghost use Rattle.turn.specs.Turn.{withEnd, withSlot, withQueue, deliver, delivery, world, choice, once, stepped};
+ghost use Rattle.selector.specs.Selector.{choice};
+ghost use Rattle.turn.specs.Turn.{withEnd, withSlot, withQueue, deliver, delivery, world, once, stepped};
 use answers::Answer;
-use lines::Digester;
 use queue::Put;
 use queue::Queue;
+use selector::Selector;
 use slot::Slot;
 use slot::Turned;
 
@@ -110,17 +111,17 @@ pub enum Stepped {
 
 // Digests what is in the buffer, delivers, and moves the rest to the front. An end past the buffer counts as the buffer's.
 pub fn step(
-    digester: Digester,
+    selector: Selector,
     table: &[u8],
     state: State,
     buf: &mut [u8],
     slot_mem: &mut [u8],
     queue_mem: &mut [u8],
 ) -> Stepped
-    ensures { λ r. ⌜ stepped state r (now (buf .exit)) (now («slot_mem» .exit)) (now («queue_mem» .exit)) ≡ once (choice digester (now (table .entry))) (world state (now (buf .entry)) (now («slot_mem» .entry)) (now («queue_mem» .entry))) ⌝ }
+    ensures { λ r. ⌜ stepped state r (now (buf .exit)) (now («slot_mem» .exit)) (now («queue_mem» .exit)) ≡ once (choice selector (now (table .entry))) (world state (now (buf .entry)) (now («slot_mem» .entry)) (now («queue_mem» .entry))) ⌝ }
 {
     let end = fitting(state.end, buf.len());
-    let a = digest::digest_unchecked(digester, table, &buf[..end]);
+    let a = selector::digest_unchecked(selector, table, &buf[..end]);
     let n = a.consumed;
     let part = answers::carried(a);
     let p = digest::payload(&buf[..end], part.start, part.len);

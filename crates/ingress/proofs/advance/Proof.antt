@@ -1,6 +1,7 @@
 -- `advance` meets its contract: the refusals in their order, then the loop.
 use native.Mathlib.Omega.{arith}
-use Rattle.turn.specs.Turn.{world, choice}
+use Rattle.selector.specs.Selector.{choice}
+use Rattle.turn.specs.Turn.{world}
 use Rattle.ingress.specs.Laws.{judged-as, passed, advance-refused, advance-room, advance-ran}
 use Rattle.ingress.specs.Conserved.{advance-whole}
 use borrow.Author.Needs.{needs}
@@ -26,13 +27,13 @@ sub-if1 : tie.Need-sub-if1
 sub-if1 c =
     let args = c .before .before .before .before .before .before .before .args in
     let judge = c .before .before .judge in
-    passed (choice (args .digester) (args .table .now)) (world (args .state) (args .buf .now) (args .slot-mem .now) (args .queue-mem .now)) (judged-as (choice (args .digester) (args .table .now)) (world (args .state) (args .buf .now) (args .slot-mem .now) (args .queue-mem .now)) _ (judge .ensures) _ (c .enum-told3 .given .1)) .inside
+    passed (choice (args .selector) (args .table .now)) (world (args .state) (args .buf .now) (args .slot-mem .now) (args .queue-mem .now)) (judged-as (choice (args .selector) (args .table .now)) (world (args .state) (args .buf .now) (args .slot-mem .now) (args .queue-mem .now)) _ (judge .ensures) _ (c .enum-told3 .given .1)) .inside
 
 returns : tie.Need-returns
 returns c =
     let args = c .before .before .before .before .before .before .before .before .args in
     let judge = c .before .before .before .judge in
-    advance-whole (choice (args .digester) (args .table .now)) (args .commit) (world (args .state) (args .buf .now) (args .slot-mem .now) (args .queue-mem .now)) _ (advance-room (choice (args .digester) (args .table .now)) (args .commit) (world (args .state) (args .buf .now) (args .slot-mem .now) (args .queue-mem .now)) (judged-as (choice (args .digester) (args .table .now)) (world (args .state) (args .buf .now) (args .slot-mem .now) (args .queue-mem .now)) _ (judge .ensures) _ (c .before .enum-told3 .given .1)) (omega arith))
+    advance-whole (choice (args .selector) (args .table .now)) (args .commit) (world (args .state) (args .buf .now) (args .slot-mem .now) (args .queue-mem .now)) _ (advance-room (choice (args .selector) (args .table .now)) (args .commit) (world (args .state) (args .buf .now) (args .slot-mem .now) (args .queue-mem .now)) (judged-as (choice (args .selector) (args .table .now)) (world (args .state) (args .buf .now) (args .slot-mem .now) (args .queue-mem .now)) _ (judge .ensures) _ (c .before .enum-told3 .given .1)) (omega arith))
 
 add-with-end : tie.Need-add-with-end
 add-with-end c = search needs
@@ -53,19 +54,19 @@ returns-2 : tie.Need-returns-2
 returns-2 c =
     let args = c .before .before .before .before .before .before .before .args in
     let judge = c .before .before .judge in
-    advance-whole (choice (args .digester) (args .table .now)) (args .commit) (world (args .state) (args .buf .now) (args .slot-mem .now) (args .queue-mem .now)) _ (advance-refused (choice (args .digester) (args .table .now)) (args .commit) (world (args .state) (args .buf .now) (args .slot-mem .now) (args .queue-mem .now)) 1 _ (judged-as (choice (args .digester) (args .table .now)) (world (args .state) (args .buf .now) (args .slot-mem .now) (args .queue-mem .now)) _ (judge .ensures) _ (c .enum-told .given .1)))
+    advance-whole (choice (args .selector) (args .table .now)) (args .commit) (world (args .state) (args .buf .now) (args .slot-mem .now) (args .queue-mem .now)) _ (advance-refused (choice (args .selector) (args .table .now)) (args .commit) (world (args .state) (args .buf .now) (args .slot-mem .now) (args .queue-mem .now)) 1 _ (judged-as (choice (args .selector) (args .table .now)) (world (args .state) (args .buf .now) (args .slot-mem .now) (args .queue-mem .now)) _ (judge .ensures) _ (c .enum-told .given .1)))
 
 returns-3 : tie.Need-returns-3
 returns-3 c =
     let args = c .before .before .before .before .before .before .before .before .args in
     let judge = c .before .before .before .judge in
-    advance-whole (choice (args .digester) (args .table .now)) (args .commit) (world (args .state) (args .buf .now) (args .slot-mem .now) (args .queue-mem .now)) _ (advance-refused (choice (args .digester) (args .table .now)) (args .commit) (world (args .state) (args .buf .now) (args .slot-mem .now) (args .queue-mem .now)) 2 _ (judged-as (choice (args .digester) (args .table .now)) (world (args .state) (args .buf .now) (args .slot-mem .now) (args .queue-mem .now)) _ (judge .ensures) _ (c .before .k .given .1)))
+    advance-whole (choice (args .selector) (args .table .now)) (args .commit) (world (args .state) (args .buf .now) (args .slot-mem .now) (args .queue-mem .now)) _ (advance-refused (choice (args .selector) (args .table .now)) (args .commit) (world (args .state) (args .buf .now) (args .slot-mem .now) (args .queue-mem .now)) 2 _ (judged-as (choice (args .selector) (args .table .now)) (world (args .state) (args .buf .now) (args .slot-mem .now) (args .queue-mem .now)) _ (judge .ensures) _ (c .before .k .given .1)))
 
 returns-4 : tie.Need-returns-4
 returns-4 c =
     let args = c .before .before .before .before .before .before .before .args in
     let judge = c .before .before .judge in
-    advance-whole (choice (args .digester) (args .table .now)) (args .commit) (world (args .state) (args .buf .now) (args .slot-mem .now) (args .queue-mem .now)) _ (advance-refused (choice (args .digester) (args .table .now)) (args .commit) (world (args .state) (args .buf .now) (args .slot-mem .now) (args .queue-mem .now)) 3 _ (judged-as (choice (args .digester) (args .table .now)) (world (args .state) (args .buf .now) (args .slot-mem .now) (args .queue-mem .now)) _ (judge .ensures) _ (c .enum-told2 .given .1)))
+    advance-whole (choice (args .selector) (args .table .now)) (args .commit) (world (args .state) (args .buf .now) (args .slot-mem .now) (args .queue-mem .now)) _ (advance-refused (choice (args .selector) (args .table .now)) (args .commit) (world (args .state) (args .buf .now) (args .slot-mem .now) (args .queue-mem .now)) 3 _ (judged-as (choice (args .selector) (args .table .now)) (world (args .state) (args .buf .now) (args .slot-mem .now) (args .queue-mem .now)) _ (judge .ensures) _ (c .enum-told2 .given .1)))
 
 same-length : tie.Need-same-length
 same-length c = search needs
@@ -84,7 +85,7 @@ returns-5 c =
     let if1 = c .before .before .before .before .before .before .before .before .before .before .before .before .before .before .if1 in
     let with-end = c .before .before .before .before .before .before .before .before .before .before .before .before .before .with-end in
     let run = c .before .before .before .before .before .before .before .before .before .run in
-    advance-whole (choice (args .digester) (args .table .now)) (args .commit) (world (args .state) (args .buf .now) (args .slot-mem .now) (args .queue-mem .now)) _ (advance-ran (choice (args .digester) (args .table .now)) (args .commit) (world (args .state) (args .buf .now) (args .slot-mem .now) (args .queue-mem .now)) (judged-as (choice (args .digester) (args .table .now)) (world (args .state) (args .buf .now) (args .slot-mem .now) (args .queue-mem .now)) _ (judge .ensures) _ (enum-told3 .given .1)) (omega (arith, if1 .left)) _ _ _ _ _ (with-end .ensures) (run .ensures) _ (c .before .s .given .1))
+    advance-whole (choice (args .selector) (args .table .now)) (args .commit) (world (args .state) (args .buf .now) (args .slot-mem .now) (args .queue-mem .now)) _ (advance-ran (choice (args .selector) (args .table .now)) (args .commit) (world (args .state) (args .buf .now) (args .slot-mem .now) (args .queue-mem .now)) (judged-as (choice (args .selector) (args .table .now)) (world (args .state) (args .buf .now) (args .slot-mem .now) (args .queue-mem .now)) _ (judge .ensures) _ (enum-told3 .given .1)) (omega (arith, if1 .left)) _ _ _ _ _ (with-end .ensures) (run .ensures) _ (c .before .s .given .1))
 
 same-length-4 : tie.Need-same-length-4
 same-length-4 c = search needs
@@ -103,7 +104,7 @@ returns-6 c =
     let if1 = c .before .before .before .before .before .before .before .before .before .before .before .before .before .before .if1 in
     let with-end = c .before .before .before .before .before .before .before .before .before .before .before .before .before .with-end in
     let run = c .before .before .before .before .before .before .before .before .before .run in
-    advance-whole (choice (args .digester) (args .table .now)) (args .commit) (world (args .state) (args .buf .now) (args .slot-mem .now) (args .queue-mem .now)) _ (advance-ran (choice (args .digester) (args .table .now)) (args .commit) (world (args .state) (args .buf .now) (args .slot-mem .now) (args .queue-mem .now)) (judged-as (choice (args .digester) (args .table .now)) (world (args .state) (args .buf .now) (args .slot-mem .now) (args .queue-mem .now)) _ (judge .ensures) _ (enum-told3 .given .1)) (omega (arith, if1 .left)) _ _ _ _ _ (with-end .ensures) (run .ensures) _ (c .before .s2 .given .1))
+    advance-whole (choice (args .selector) (args .table .now)) (args .commit) (world (args .state) (args .buf .now) (args .slot-mem .now) (args .queue-mem .now)) _ (advance-ran (choice (args .selector) (args .table .now)) (args .commit) (world (args .state) (args .buf .now) (args .slot-mem .now) (args .queue-mem .now)) (judged-as (choice (args .selector) (args .table .now)) (world (args .state) (args .buf .now) (args .slot-mem .now) (args .queue-mem .now)) _ (judge .ensures) _ (enum-told3 .given .1)) (omega (arith, if1 .left)) _ _ _ _ _ (with-end .ensures) (run .ensures) _ (c .before .s2 .given .1))
 
 pub advance-spec : {M : Type 1} → statement M
 advance-spec =

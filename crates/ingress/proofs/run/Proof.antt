@@ -1,17 +1,18 @@
 -- `run` meets its contract: what is to be run from the first state is what is to be run from this one. The measure is the end.
 use mathlib.Core.Path.{refl, sym, _∙_}
 use native.Mathlib.Omega.{arith}
-use Rattle.turn.specs.Turn.{world, choice}
+use Rattle.selector.specs.Selector.{choice}
+use Rattle.turn.specs.Turn.{world}
 use Rattle.ingress.specs.Laws.{Going, run-empty, turn-full, turn-still, turn-less, turn-on}
 use borrow.Author.Needs.{needs}
 use Rattle.ingress.proofs.run.Statement.{statement}
 use Rattle.ingress.proofs.run.Tie as tie
 
 abbrev Inv-loop : tie.InvT-loop
-Inv-loop digester table buf₀ slot-mem₀ queue-mem₀ s₀ buf slot-mem queue-mem s = Going (choice digester table) (world s₀ buf₀ slot-mem₀ queue-mem₀) (world s buf slot-mem queue-mem)
+Inv-loop selector table buf₀ slot-mem₀ queue-mem₀ s₀ buf slot-mem queue-mem s = Going (choice selector table) (world s₀ buf₀ slot-mem₀ queue-mem₀) (world s buf slot-mem queue-mem)
 
 abbrev μ-loop : tie.MeasureT-loop
-μ-loop digester table buf₀ slot-mem₀ queue-mem₀ s₀ buf slot-mem queue-mem s = s .end
+μ-loop selector table buf₀ slot-mem₀ queue-mem₀ s₀ buf slot-mem queue-mem s = s .end
 
 loop-holds : tie.Need-loop-holds Inv-loop μ-loop
 loop-holds c = record { same = refl; bufLong = refl; slotLong = refl; queueLong = refl }
@@ -45,7 +46,7 @@ returns c =
     let args = c .before .before .before .before .before .before .before .before .before .before .before .before .before .before .before .before .before .before .before .args in
     let loop = c .before .before .before .before .before .before .before .before .before .before .before .before .before .before .loop in
     let step = c .before .before .before .before .before .before .before .before .step in
-    turn-full (choice (args .digester) (args .table .now)) (world (args .state) (args .buf .now) (args .slot-mem .now) (args .queue-mem .now)) (world (loop .s) (loop .buf) (loop .slot-mem) (loop .queue-mem)) (loop .inv) (omega arith) _ _ _ _ _ (step .ensures) (c .enum-told .given .1)
+    turn-full (choice (args .selector) (args .table .now)) (world (args .state) (args .buf .now) (args .slot-mem .now) (args .queue-mem .now)) (world (loop .s) (loop .buf) (loop .slot-mem) (loop .queue-mem)) (loop .inv) (omega arith) _ _ _ _ _ (step .ensures) (c .enum-told .given .1)
 
 enum-known-next : tie.Need-enum-known-next Inv-loop μ-loop
 enum-known-next c = search needs
@@ -75,7 +76,7 @@ returns-2 c =
     let if1 = c .before .before .before .before .before .before .before .before .before .before .before .before .before .before .if1 in
     let step = c .before .before .before .before .before .before .before .before .before .before .step in
     let next = c .before .before .next in
-    turn-still (choice (args .digester) (args .table .now)) (world (args .state) (args .buf .now) (args .slot-mem .now) (args .queue-mem .now)) (world (loop .s) (loop .buf) (loop .slot-mem) (loop .queue-mem)) (loop .inv) (if1 .taken) _ _ _ _ _ (step .ensures) _ _ (next .given .1) (omega arith)
+    turn-still (choice (args .selector) (args .table .now)) (world (args .state) (args .buf .now) (args .slot-mem .now) (args .queue-mem .now)) (world (loop .s) (loop .buf) (loop .slot-mem) (loop .queue-mem)) (loop .inv) (if1 .taken) _ _ _ _ _ (step .ensures) _ _ (next .given .1) (omega arith)
 
 loop-less : tie.Need-loop-less Inv-loop μ-loop
 loop-less c =
@@ -84,7 +85,7 @@ loop-less c =
     let if1 = c .before .before .before .before .before .before .before .before .before .before .before .before .before .before .if1 in
     let step = c .before .before .before .before .before .before .before .before .before .before .step in
     let next = c .before .before .next in
-    turn-less (choice (args .digester) (args .table .now)) (world (args .state) (args .buf .now) (args .slot-mem .now) (args .queue-mem .now)) (world (loop .s) (loop .buf) (loop .slot-mem) (loop .queue-mem)) (loop .inv) (if1 .taken) _ _ _ _ _ (step .ensures) _ _ (next .given .1) (λ z. omega arith)
+    turn-less (choice (args .selector) (args .table .now)) (world (args .state) (args .buf .now) (args .slot-mem .now) (args .queue-mem .now)) (world (loop .s) (loop .buf) (loop .slot-mem) (loop .queue-mem)) (loop .inv) (if1 .taken) _ _ _ _ _ (step .ensures) _ _ (next .given .1) (λ z. omega arith)
 
 loop-again : tie.Need-loop-again Inv-loop μ-loop
 loop-again c =
@@ -93,7 +94,7 @@ loop-again c =
     let if1 = c .before .before .before .before .before .before .before .before .before .before .before .before .before .before .if1 in
     let step = c .before .before .before .before .before .before .before .before .before .before .step in
     let next = c .before .before .next in
-    turn-on (choice (args .digester) (args .table .now)) (world (args .state) (args .buf .now) (args .slot-mem .now) (args .queue-mem .now)) (world (loop .s) (loop .buf) (loop .slot-mem) (loop .queue-mem)) (loop .inv) (if1 .taken) _ _ _ _ _ (step .ensures) _ _ (next .given .1) (λ z. omega arith) (step .kept .1 .1 .1 .0) (step .kept .1 .1 .1 .1 .0) (step .kept .1 .1 .1 .1 .1 .0)
+    turn-on (choice (args .selector) (args .table .now)) (world (args .state) (args .buf .now) (args .slot-mem .now) (args .queue-mem .now)) (world (loop .s) (loop .buf) (loop .slot-mem) (loop .queue-mem)) (loop .inv) (if1 .taken) _ _ _ _ _ (step .ensures) _ _ (next .given .1) (λ z. omega arith) (step .kept .1 .1 .1 .0) (step .kept .1 .1 .1 .1 .0) (step .kept .1 .1 .1 .1 .1 .0)
 
 same-length-7 : tie.Need-same-length-7 Inv-loop μ-loop
 same-length-7 c =
@@ -114,7 +115,7 @@ returns-3 : tie.Need-returns-3 Inv-loop μ-loop
 returns-3 c =
     let args = c .before .before .before .before .before .before .before .args in
     let loop = c .before .before .loop in
-    run-empty (choice (args .digester) (args .table .now)) (world (loop .s) (loop .buf) (loop .slot-mem) (loop .queue-mem)) (omega arith) ∙ sym (loop .inv .same)
+    run-empty (choice (args .selector) (args .table .now)) (world (loop .s) (loop .buf) (loop .slot-mem) (loop .queue-mem)) (omega arith) ∙ sym (loop .inv .same)
 
 pub run-spec : {M : Type 1} → statement M
 run-spec =

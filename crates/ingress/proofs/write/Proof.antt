@@ -1,5 +1,6 @@
 -- `write` meets its contract: the refusals in their order, then the loop.
-use Rattle.turn.specs.Turn.{world, choice}
+use Rattle.selector.specs.Selector.{choice}
+use Rattle.turn.specs.Turn.{world}
 use Rattle.ingress.specs.Laws.{judged-as, passed, write-refused, write-wrote}
 use Rattle.ingress.specs.Conserved.{write-whole}
 use borrow.Author.Needs.{needs}
@@ -26,7 +27,7 @@ write-on-requires c κs =
     let args = c .before .before .before .before .before .before .before .before .before .before .before .args in
     let judge = c .before .before .before .before .before .judge in
     let enum-told3 = c .before .before .before .enum-told3 in
-    passed (choice (args .digester) (args .table .now)) (world (args .state) (args .buf .now) (args .slot-mem .now) (args .queue-mem .now)) (judged-as (choice (args .digester) (args .table .now)) (world (args .state) (args .buf .now) (args .slot-mem .now) (args .queue-mem .now)) _ (judge .ensures) _ (enum-told3 .given .1)) .inside
+    passed (choice (args .selector) (args .table .now)) (world (args .state) (args .buf .now) (args .slot-mem .now) (args .queue-mem .now)) (judged-as (choice (args .selector) (args .table .now)) (world (args .state) (args .buf .now) (args .slot-mem .now) (args .queue-mem .now)) _ (judge .ensures) _ (enum-told3 .given .1)) .inside
 
 enum-known-s : tie.Need-enum-known-s
 enum-known-s c = search needs
@@ -38,19 +39,19 @@ returns : tie.Need-returns
 returns c =
     let args = c .before .before .before .before .before .before .before .before .args in
     let judge = c .before .before .judge in
-    write-whole (choice (args .digester) (args .table .now)) (args .piece .now) (world (args .state) (args .buf .now) (args .slot-mem .now) (args .queue-mem .now)) _ (write-refused (choice (args .digester) (args .table .now)) (args .piece .now) (world (args .state) (args .buf .now) (args .slot-mem .now) (args .queue-mem .now)) 1 _ (judged-as (choice (args .digester) (args .table .now)) (world (args .state) (args .buf .now) (args .slot-mem .now) (args .queue-mem .now)) _ (judge .ensures) _ (c .enum-told .given .1)))
+    write-whole (choice (args .selector) (args .table .now)) (args .piece .now) (world (args .state) (args .buf .now) (args .slot-mem .now) (args .queue-mem .now)) _ (write-refused (choice (args .selector) (args .table .now)) (args .piece .now) (world (args .state) (args .buf .now) (args .slot-mem .now) (args .queue-mem .now)) 1 _ (judged-as (choice (args .selector) (args .table .now)) (world (args .state) (args .buf .now) (args .slot-mem .now) (args .queue-mem .now)) _ (judge .ensures) _ (c .enum-told .given .1)))
 
 returns-2 : tie.Need-returns-2
 returns-2 c =
     let args = c .before .before .before .before .before .before .before .before .before .args in
     let judge = c .before .before .before .judge in
-    write-whole (choice (args .digester) (args .table .now)) (args .piece .now) (world (args .state) (args .buf .now) (args .slot-mem .now) (args .queue-mem .now)) _ (write-refused (choice (args .digester) (args .table .now)) (args .piece .now) (world (args .state) (args .buf .now) (args .slot-mem .now) (args .queue-mem .now)) 2 _ (judged-as (choice (args .digester) (args .table .now)) (world (args .state) (args .buf .now) (args .slot-mem .now) (args .queue-mem .now)) _ (judge .ensures) _ (c .before .k .given .1)))
+    write-whole (choice (args .selector) (args .table .now)) (args .piece .now) (world (args .state) (args .buf .now) (args .slot-mem .now) (args .queue-mem .now)) _ (write-refused (choice (args .selector) (args .table .now)) (args .piece .now) (world (args .state) (args .buf .now) (args .slot-mem .now) (args .queue-mem .now)) 2 _ (judged-as (choice (args .selector) (args .table .now)) (world (args .state) (args .buf .now) (args .slot-mem .now) (args .queue-mem .now)) _ (judge .ensures) _ (c .before .k .given .1)))
 
 returns-3 : tie.Need-returns-3
 returns-3 c =
     let args = c .before .before .before .before .before .before .before .before .args in
     let judge = c .before .before .judge in
-    write-whole (choice (args .digester) (args .table .now)) (args .piece .now) (world (args .state) (args .buf .now) (args .slot-mem .now) (args .queue-mem .now)) _ (write-refused (choice (args .digester) (args .table .now)) (args .piece .now) (world (args .state) (args .buf .now) (args .slot-mem .now) (args .queue-mem .now)) 3 _ (judged-as (choice (args .digester) (args .table .now)) (world (args .state) (args .buf .now) (args .slot-mem .now) (args .queue-mem .now)) _ (judge .ensures) _ (c .enum-told2 .given .1)))
+    write-whole (choice (args .selector) (args .table .now)) (args .piece .now) (world (args .state) (args .buf .now) (args .slot-mem .now) (args .queue-mem .now)) _ (write-refused (choice (args .selector) (args .table .now)) (args .piece .now) (world (args .state) (args .buf .now) (args .slot-mem .now) (args .queue-mem .now)) 3 _ (judged-as (choice (args .selector) (args .table .now)) (world (args .state) (args .buf .now) (args .slot-mem .now) (args .queue-mem .now)) _ (judge .ensures) _ (c .enum-told2 .given .1)))
 
 same-length : tie.Need-same-length
 same-length c = search needs
@@ -67,7 +68,7 @@ returns-4 c =
     let judge = c .before .before .before .before .before .before .before .before .before .before .before .before .before .before .before .judge in
     let enum-told3 = c .before .before .before .before .before .before .before .before .before .before .before .before .before .enum-told3 in
     let write-on = c .before .before .before .before .before .before .before .before .before .write-on in
-    write-whole (choice (args .digester) (args .table .now)) (args .piece .now) (world (args .state) (args .buf .now) (args .slot-mem .now) (args .queue-mem .now)) _ (write-wrote (choice (args .digester) (args .table .now)) (args .piece .now) (world (args .state) (args .buf .now) (args .slot-mem .now) (args .queue-mem .now)) (judged-as (choice (args .digester) (args .table .now)) (world (args .state) (args .buf .now) (args .slot-mem .now) (args .queue-mem .now)) _ (judge .ensures) _ (enum-told3 .given .1)) _ _ _ _ (write-on .ensures) _ (c .before .s .given .1))
+    write-whole (choice (args .selector) (args .table .now)) (args .piece .now) (world (args .state) (args .buf .now) (args .slot-mem .now) (args .queue-mem .now)) _ (write-wrote (choice (args .selector) (args .table .now)) (args .piece .now) (world (args .state) (args .buf .now) (args .slot-mem .now) (args .queue-mem .now)) (judged-as (choice (args .selector) (args .table .now)) (world (args .state) (args .buf .now) (args .slot-mem .now) (args .queue-mem .now)) _ (judge .ensures) _ (enum-told3 .given .1)) _ _ _ _ (write-on .ensures) _ (c .before .s .given .1))
 
 same-length-4 : tie.Need-same-length-4
 same-length-4 c = search needs
@@ -84,7 +85,7 @@ returns-5 c =
     let judge = c .before .before .before .before .before .before .before .before .before .before .before .before .before .before .before .judge in
     let enum-told3 = c .before .before .before .before .before .before .before .before .before .before .before .before .before .enum-told3 in
     let write-on = c .before .before .before .before .before .before .before .before .before .write-on in
-    write-whole (choice (args .digester) (args .table .now)) (args .piece .now) (world (args .state) (args .buf .now) (args .slot-mem .now) (args .queue-mem .now)) _ (write-wrote (choice (args .digester) (args .table .now)) (args .piece .now) (world (args .state) (args .buf .now) (args .slot-mem .now) (args .queue-mem .now)) (judged-as (choice (args .digester) (args .table .now)) (world (args .state) (args .buf .now) (args .slot-mem .now) (args .queue-mem .now)) _ (judge .ensures) _ (enum-told3 .given .1)) _ _ _ _ (write-on .ensures) _ (c .before .s2 .given .1))
+    write-whole (choice (args .selector) (args .table .now)) (args .piece .now) (world (args .state) (args .buf .now) (args .slot-mem .now) (args .queue-mem .now)) _ (write-wrote (choice (args .selector) (args .table .now)) (args .piece .now) (world (args .state) (args .buf .now) (args .slot-mem .now) (args .queue-mem .now)) (judged-as (choice (args .selector) (args .table .now)) (world (args .state) (args .buf .now) (args .slot-mem .now) (args .queue-mem .now)) _ (judge .ensures) _ (enum-told3 .given .1)) _ _ _ _ (write-on .ensures) _ (c .before .s2 .given .1))
 
 pub write-spec : {M : Type 1} → statement M
 write-spec =

@@ -4,7 +4,8 @@ use Prim.Native.Nat.{ℕ, _-_}
 use native.Mathlib.Omega.{arith}
 use lib.ListN.{length}
 use Rattle.text.specs.Laws.{rest}
-use Rattle.turn.specs.Turn.{World, world, choice}
+use Rattle.selector.specs.Selector.{choice}
+use Rattle.turn.specs.Turn.{World, world}
 use Rattle.ingress.specs.Ingress.{Writing, stopped}
 use Rattle.ingress.specs.Laws.{Writes, on-full, full-room, on-still, on-room, on-again}
 use borrow.Author.Needs.{needs}
@@ -12,10 +13,10 @@ use Rattle.ingress.proofs.write_on.Statement.{statement}
 use Rattle.ingress.proofs.write_on.Tie as tie
 
 abbrev Inv-loop : tie.InvT-loop
-Inv-loop digester table piece buf₀ slot-mem₀ queue-mem₀ s₀ taken₀ buf slot-mem queue-mem s taken = Writes (choice digester table) piece (world s₀ buf₀ slot-mem₀ queue-mem₀) taken (world s buf slot-mem queue-mem)
+Inv-loop selector table piece buf₀ slot-mem₀ queue-mem₀ s₀ taken₀ buf slot-mem queue-mem s taken = Writes (choice selector table) piece (world s₀ buf₀ slot-mem₀ queue-mem₀) taken (world s buf slot-mem queue-mem)
 
 abbrev μ-loop : tie.MeasureT-loop
-μ-loop digester table piece buf₀ slot-mem₀ queue-mem₀ s₀ taken₀ buf slot-mem queue-mem s taken = length piece - taken
+μ-loop selector table piece buf₀ slot-mem₀ queue-mem₀ s₀ taken₀ buf slot-mem queue-mem s taken = length piece - taken
 
 loop-holds : tie.Need-loop-holds Inv-loop μ-loop
 loop-holds c =
@@ -45,7 +46,7 @@ add-t25 c =
     let good = c .before .before .before .before .before .before .before .before .before .before .before .before .before .before .before .before .before .before .before .before .good in
     let loop = c .before .before .before .before .before .before .before .before .before .before .before .before .before .before .loop in
     let write-once = c .before .before .before .before .before .before .before .before .before .write-once in
-    record { fits = omega (arith, full-room (choice (args .digester) (args .table .now)) (args .piece .now) (world (args .state) (args .buf .now) (args .slot-mem .now) (args .queue-mem .now)) (loop .taken) (world (loop .s) (loop .buf) (loop .slot-mem) (loop .queue-mem)) (loop .inv) _ (rest (args .piece .now) (loop .taken)) _ _ _ _ (write-once .ensures) _ _ (c .before .next .given .1), good .1 .1 .0) }
+    record { fits = omega (arith, full-room (choice (args .selector) (args .table .now)) (args .piece .now) (world (args .state) (args .buf .now) (args .slot-mem .now) (args .queue-mem .now)) (loop .taken) (world (loop .s) (loop .buf) (loop .slot-mem) (loop .queue-mem)) (loop .inv) _ (rest (args .piece .now) (loop .taken)) _ _ _ _ (write-once .ensures) _ _ (c .before .next .given .1), good .1 .1 .0) }
 
 same-length : tie.Need-same-length Inv-loop μ-loop
 same-length c =
@@ -74,7 +75,7 @@ returns c =
     let args = c .before .before .before .before .before .before .before .before .before .before .before .before .before .before .before .before .before .before .before .before .args in
     let loop = c .before .before .before .before .before .before .before .before .before .before .before .before .before .before .loop in
     let write-once = c .before .before .before .before .before .before .before .before .before .write-once in
-    stops _ _ _ _ (omega arith) (on-full (choice (args .digester) (args .table .now)) (args .piece .now) (world (args .state) (args .buf .now) (args .slot-mem .now) (args .queue-mem .now)) (loop .taken) (world (loop .s) (loop .buf) (loop .slot-mem) (loop .queue-mem)) (loop .inv) _ (rest (args .piece .now) (loop .taken)) _ _ _ _ (write-once .ensures) _ _ (c .before .next .given .1))
+    stops _ _ _ _ (omega arith) (on-full (choice (args .selector) (args .table .now)) (args .piece .now) (world (args .state) (args .buf .now) (args .slot-mem .now) (args .queue-mem .now)) (loop .taken) (world (loop .s) (loop .buf) (loop .slot-mem) (loop .queue-mem)) (loop .inv) _ (rest (args .piece .now) (loop .taken)) _ _ _ _ (write-once .ensures) _ _ (c .before .next .given .1))
 
 enum-known-next-2 : tie.Need-enum-known-next-2 Inv-loop μ-loop
 enum-known-next-2 c = search needs
@@ -103,7 +104,7 @@ returns-2 c =
     let loop = c .before .before .before .before .before .before .before .before .before .before .before .before .before .before .before .loop in
     let write-once = c .before .before .before .before .before .before .before .before .before .before .write-once in
     let next2 = c .before .before .next2 in
-    on-still (choice (args .digester) (args .table .now)) (args .piece .now) (world (args .state) (args .buf .now) (args .slot-mem .now) (args .queue-mem .now)) (loop .taken) (world (loop .s) (loop .buf) (loop .slot-mem) (loop .queue-mem)) (loop .inv) _ (rest (args .piece .now) (loop .taken)) _ _ _ _ (write-once .ensures) _ _ (next2 .given .1) (omega arith)
+    on-still (choice (args .selector) (args .table .now)) (args .piece .now) (world (args .state) (args .buf .now) (args .slot-mem .now) (args .queue-mem .now)) (loop .taken) (world (loop .s) (loop .buf) (loop .slot-mem) (loop .queue-mem)) (loop .inv) _ (rest (args .piece .now) (loop .taken)) _ _ _ _ (write-once .ensures) _ _ (next2 .given .1) (omega arith)
 
 add-taken : tie.Need-add-taken Inv-loop μ-loop
 add-taken c =
@@ -112,7 +113,7 @@ add-taken c =
     let loop = c .before .before .before .before .before .before .before .before .before .before .before .before .before .before .before .loop in
     let write-once = c .before .before .before .before .before .before .before .before .before .before .write-once in
     let next2 = c .before .before .next2 in
-    omega (arith, on-room (choice (args .digester) (args .table .now)) (args .piece .now) (world (args .state) (args .buf .now) (args .slot-mem .now) (args .queue-mem .now)) (loop .taken) (world (loop .s) (loop .buf) (loop .slot-mem) (loop .queue-mem)) (loop .inv) _ (rest (args .piece .now) (loop .taken)) _ _ _ _ (write-once .ensures) _ _ (next2 .given .1), good .1 .1 .0)
+    omega (arith, on-room (choice (args .selector) (args .table .now)) (args .piece .now) (world (args .state) (args .buf .now) (args .slot-mem .now) (args .queue-mem .now)) (loop .taken) (world (loop .s) (loop .buf) (loop .slot-mem) (loop .queue-mem)) (loop .inv) _ (rest (args .piece .now) (loop .taken)) _ _ _ _ (write-once .ensures) _ _ (next2 .given .1), good .1 .1 .0)
 
 loop-less : tie.Need-loop-less Inv-loop μ-loop
 loop-less c =
@@ -120,7 +121,7 @@ loop-less c =
     let loop = c .before .before .before .before .before .before .before .before .before .before .before .before .before .before .before .loop in
     let write-once = c .before .before .before .before .before .before .before .before .before .before .write-once in
     let next2 = c .before .before .next2 in
-    omega (arith, on-room (choice (args .digester) (args .table .now)) (args .piece .now) (world (args .state) (args .buf .now) (args .slot-mem .now) (args .queue-mem .now)) (loop .taken) (world (loop .s) (loop .buf) (loop .slot-mem) (loop .queue-mem)) (loop .inv) _ (rest (args .piece .now) (loop .taken)) _ _ _ _ (write-once .ensures) _ _ (next2 .given .1))
+    omega (arith, on-room (choice (args .selector) (args .table .now)) (args .piece .now) (world (args .state) (args .buf .now) (args .slot-mem .now) (args .queue-mem .now)) (loop .taken) (world (loop .s) (loop .buf) (loop .slot-mem) (loop .queue-mem)) (loop .inv) _ (rest (args .piece .now) (loop .taken)) _ _ _ _ (write-once .ensures) _ _ (next2 .given .1))
 
 loop-again : tie.Need-loop-again Inv-loop μ-loop
 loop-again c =
@@ -128,7 +129,7 @@ loop-again c =
     let loop = c .before .before .before .before .before .before .before .before .before .before .before .before .before .before .before .loop in
     let write-once = c .before .before .before .before .before .before .before .before .before .before .write-once in
     let next2 = c .before .before .next2 in
-    on-again (choice (args .digester) (args .table .now)) (args .piece .now) (world (args .state) (args .buf .now) (args .slot-mem .now) (args .queue-mem .now)) (loop .taken) (world (loop .s) (loop .buf) (loop .slot-mem) (loop .queue-mem)) (loop .inv) _ (rest (args .piece .now) (loop .taken)) _ _ _ _ (write-once .ensures) _ _ (next2 .given .1) (λ z. omega arith) (write-once .kept .1 .1 .1 .1 .0) (write-once .kept .1 .1 .1 .1 .1 .0) (write-once .kept .1 .1 .1 .1 .1 .1 .0)
+    on-again (choice (args .selector) (args .table .now)) (args .piece .now) (world (args .state) (args .buf .now) (args .slot-mem .now) (args .queue-mem .now)) (loop .taken) (world (loop .s) (loop .buf) (loop .slot-mem) (loop .queue-mem)) (loop .inv) _ (rest (args .piece .now) (loop .taken)) _ _ _ _ (write-once .ensures) _ _ (next2 .given .1) (λ z. omega arith) (write-once .kept .1 .1 .1 .1 .0) (write-once .kept .1 .1 .1 .1 .1 .0) (write-once .kept .1 .1 .1 .1 .1 .1 .0)
 
 pub write-on-spec : {M : Type 1} → statement M
 write-on-spec =

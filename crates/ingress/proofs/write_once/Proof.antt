@@ -2,7 +2,8 @@
 use mathlib.Core.Path.{sym}
 use native.Mathlib.Omega.{arith}
 use lib.Seq.{length-take-le}
-use Rattle.turn.specs.Turn.{world, choice}
+use Rattle.selector.specs.Selector.{choice}
+use Rattle.turn.specs.Turn.{world}
 use Rattle.ingress.specs.Laws.{copy-none, copy-ran}
 use borrow.Author.Needs.{needs}
 use Rattle.ingress.proofs.write_once.Statement.{statement}
@@ -17,7 +18,7 @@ fitting-requires c κs = search needs
 returns : tie.Need-returns
 returns c =
     let args = c .before .before .before .before .before .before .before .args in
-    copy-none (choice (args .digester) (args .table .now)) (args .bytes .now) (world (args .state) (args .buf .now) (args .slot-mem .now) (args .queue-mem .now)) (omega (arith, c .before .fitting .ensures))
+    copy-none (choice (args .selector) (args .table .now)) (args .bytes .now) (world (args .state) (args .buf .now) (args .slot-mem .now) (args .queue-mem .now)) (omega (arith, c .before .fitting .ensures))
 
 slice-aggregate-put : tie.Need-slice-aggregate-put
 slice-aggregate-put c =
@@ -60,7 +61,7 @@ returns-2 c =
     let put = c .before .before .before .before .before .before .before .before .before .before .before .before .before .before .before .before .put in
     let with-end = c .before .before .before .before .before .before .before .before .before .before .before .before .before .with-end in
     let run = c .before .before .before .before .before .before .before .before .before .run in
-    copy-ran (choice (args .digester) (args .table .now)) (args .bytes .now) (world (args .state) (args .buf .now) (args .slot-mem .now) (args .queue-mem .now)) _ (fitting .ensures) (λ z. omega (arith, if1 .left)) _ _ (put .ensures) (with-end .ensures) _ _ _ _ (run .ensures) _ (c .before .s .given .1)
+    copy-ran (choice (args .selector) (args .table .now)) (args .bytes .now) (world (args .state) (args .buf .now) (args .slot-mem .now) (args .queue-mem .now)) _ (fitting .ensures) (λ z. omega (arith, if1 .left)) _ _ (put .ensures) (with-end .ensures) _ _ _ _ (run .ensures) _ (c .before .s .given .1)
 
 same-length-4 : tie.Need-same-length-4
 same-length-4 c = search needs
@@ -79,7 +80,7 @@ returns-3 c =
     let put = c .before .before .before .before .before .before .before .before .before .before .before .before .before .before .before .before .put in
     let with-end = c .before .before .before .before .before .before .before .before .before .before .before .before .before .with-end in
     let run = c .before .before .before .before .before .before .before .before .before .run in
-    copy-ran (choice (args .digester) (args .table .now)) (args .bytes .now) (world (args .state) (args .buf .now) (args .slot-mem .now) (args .queue-mem .now)) _ (fitting .ensures) (λ z. omega (arith, if1 .left)) _ _ (put .ensures) (with-end .ensures) _ _ _ _ (run .ensures) _ (c .before .s2 .given .1)
+    copy-ran (choice (args .selector) (args .table .now)) (args .bytes .now) (world (args .state) (args .buf .now) (args .slot-mem .now) (args .queue-mem .now)) _ (fitting .ensures) (λ z. omega (arith, if1 .left)) _ _ (put .ensures) (with-end .ensures) _ _ _ _ (run .ensures) _ (c .before .s2 .given .1)
 
 pub write-once-spec : {M : Type 1} → statement M
 write-once-spec =

@@ -1,6 +1,7 @@
 -- `step` meets its contract: one law for each way out; what is consumed lies in what is held.
 use mathlib.Core.Path.{sym}
 use lib.Seq.{length-take-le}
+use Rattle.selector.specs.Selector.{choice}
 use Rattle.turn.specs.Laws.{step-room, step-number, step-full, step-is}
 use native.Mathlib.Omega.{arith}
 use borrow.Author.Needs.{needs}
@@ -41,7 +42,7 @@ deliver-requires c κs =
     let args = c .before .before .before .before .before .before .before .before .before .before .before .before .args in
     let fitting = c .before .before .before .before .before .before .before .fitting in
     let digest-unchecked = c .before .before .before .before .before .digest-unchecked in
-    step-number (args .digester) (args .table .now) (args .state) (args .buf .now) (args .slot-mem .now) (args .queue-mem .now) _ (fitting .ensures) _ (digest-unchecked .ensures)
+    step-number (choice (args .selector) (args .table .now)) (args .state) (args .buf .now) (args .slot-mem .now) (args .queue-mem .now) _ (fitting .ensures) _ (digest-unchecked .ensures)
 
 enum-told : tie.Need-enum-told
 enum-told c = search needs
@@ -57,7 +58,7 @@ sub-with-end c =
     let args = c .before .before .before .before .before .before .before .before .before .before .before .before .before .before .before .before .before .before .before .before .before .before .before .before .args in
     let fitting = c .before .before .before .before .before .before .before .before .before .before .before .before .before .before .before .before .before .before .before .fitting in
     let digest-unchecked = c .before .before .before .before .before .before .before .before .before .before .before .before .before .before .before .before .before .digest-unchecked in
-    step-room (args .digester) (args .table .now) (args .state) (args .buf .now) (args .slot-mem .now) (args .queue-mem .now) _ (fitting .ensures) _ (digest-unchecked .ensures)
+    step-room (choice (args .selector) (args .table .now)) (args .state) (args .buf .now) (args .slot-mem .now) (args .queue-mem .now) _ (fitting .ensures) _ (digest-unchecked .ensures)
 
 with-end-requires : tie.Need-with-end-requires
 with-end-requires c κs = search needs
@@ -79,7 +80,7 @@ returns c =
     let carried = c .before .before .before .before .before .before .before .before .before .before .before .carried in
     let payload = c .before .before .before .before .before .before .before .before .before .payload in
     let deliver = c .before .before .before .before .before .before .deliver in
-    step-full (args .digester) (args .table .now) (args .state) (args .buf .now) (args .slot-mem .now) (args .queue-mem .now) _ (fitting .ensures) _ (digest-unchecked .ensures) _ (carried .ensures) _ (payload .ensures .0) _ _ _ (deliver .ensures) (c .enum-told .given .1)
+    step-full (choice (args .selector) (args .table .now)) (args .state) (args .buf .now) (args .slot-mem .now) (args .queue-mem .now) _ (fitting .ensures) _ (digest-unchecked .ensures) _ (carried .ensures) _ (payload .ensures .0) _ _ _ (deliver .ensures) (c .enum-told .given .1)
 
 same-length-4 : tie.Need-same-length-4
 same-length-4 c = search needs
@@ -100,7 +101,7 @@ returns-2 c =
     let deliver = c .before .before .before .before .before .before .before .before .before .before .before .before .deliver in
     let next = c .before .before .before .before .before .before .next in
     let move-down = c .before .before .before .move-down in
-    step-is (args .digester) (args .table .now) (args .state) (args .buf .now) (args .slot-mem .now) (args .queue-mem .now) _ (fitting .ensures) _ (digest-unchecked .ensures) _ (carried .ensures) _ (payload .ensures .0) _ _ _ (deliver .ensures) _ (next .given .1) _ (move-down .ensures) _ (c .with-end .ensures)
+    step-is (choice (args .selector) (args .table .now)) (args .state) (args .buf .now) (args .slot-mem .now) (args .queue-mem .now) _ (fitting .ensures) _ (digest-unchecked .ensures) _ (carried .ensures) _ (payload .ensures .0) _ _ _ (deliver .ensures) _ (next .given .1) _ (move-down .ensures) _ (c .with-end .ensures)
 
 pub step-spec : {M : Type 1} → statement M
 step-spec =
