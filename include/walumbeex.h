@@ -25,14 +25,18 @@
  * is an Ok with the payload +CGDCONT: 1,"IP","me@apn"; cut behind the @ it is a prompt @ and then an Ok with none. So hand over what a read gave, never single
  * bytes; where its last byte that is no blank is > or @, wait a moment for the line to go quiet, and hand it over with what still came. An error hangs on the cut
  * too: `ERROR` and an `OK` behind it in one piece are an Ok.
+ * With WX_NUMERIC the cut between a CR and its LF changes what is heard, and only in an information line that is exactly one of the digits listed below:
+ *     0\r, then \n       an Ok and a stray LF; 0\r\n in one piece is such a line, and nothing that is finished
+ *     0\r, then \n0\r    an Ok, and the second is lost, since no line starts behind a stray LF; 0\r\n0\r in one piece is an Ok with the payload 0
+ * So where a read ends in a CR, wait a moment as for a prompt.
  *
  * Going on after WX_FULL, and with a full buffer:
  *   1. the bytes taken (out[0]) are consumed or in the buffer: never offer them again;
  *   2. take a notice, which makes room, and advance by 0, which delivers the notice that waits; again from 2 where that is WX_FULL;
  *   3. write the rest of the piece. A write that takes 0 of a piece that isn't empty has found no room, and digests nothing: advance by 0;
  *   4. if there is still no room, no further byte can finish what is there: wx_ingress_clear drops it.
- * With a buffer of 0 bytes, or a queue below WX_RECORD bytes under a table with notices, this goes round for ever; a buffer over WX_LONGEST bytes is refused by
- * every call.
+ * With a buffer of 0 bytes, or a queue below WX_RECORD bytes under a table with notices or with WX_NUMERIC, this goes round for ever; a buffer over WX_LONGEST
+ * bytes is refused by every call.
  *
  * The token table: records one after the other, at most WX_TABLE_RECORDS of them, with nothing before, between or behind them. Each is
  *     byte 0, 1   a mark, two letters: UR a notice, CS a custom success, CE a custom error, CP a custom prompt
@@ -47,10 +51,11 @@
  * The stack: a digest recurses once for each CRLF at the front of what is left. It took 138 bytes of stack for each byte of the input, or of the bytes in the
  * buffer, where that is all CRLFs: 549 KiB for WX_LONGEST. No proof covers it: where the stack is too short, as for 2,048 CRLFs (4,096 bytes) on a thread with
  * 512 KiB, the program ends by SIGSEGV. Give a thread 160 bytes for each byte of the buffer, 640 KiB for WX_LONGEST (the tests run that), or lend a shorter buffer.
+ * WX_NUMERIC doesn't recurse: its stack is the same for every input, and small.
  *
  * Work: a digest's grows with its input, and no faster: twice the input takes at most 2.2 times the instructions (docs/BENCHMARKS.md; at most some 1.2 million for
  * 4,096 bytes). An advance or write digests again all that is in the buffer, so that a stream handed over in pieces that finish nothing costs the square of its
- * length: 1,024 bytes one by one took 36 million instructions, and 4,096 took 541 million.
+ * length: 1,024 bytes one by one took 36 million instructions, and 4,096 took 541 million. WX_NUMERIC walks over its input once; the same limit holds for it.
  *
  * Licence: Apache-2.0 (see LICENSE and NOTICE).
  */
@@ -68,14 +73,16 @@ extern "C" {
  * may take an array for longer than it is, so compare before any other call.
  * Version 2: a numeric error has its digits.
  * Version 3: wx_digest, wx_ingress_advance and wx_ingress_write take a digester, in front of the table; a longer CONNECT line has its text, at out[7] and out[8] of
- * wx_digest; WX_OUT, 7 before, is 9. */
-#define WX_VERSION 3u
+ * wx_digest; WX_OUT, 7 before, is 9.
+ * Version 4: a third digester, WX_NUMERIC; its number, 2, read as WX_VERBOSE before. A notice's number may be WX_RING. */
+#define WX_VERSION 4u
 
 /* What a function that returns uint32_t returns (but wx_version): 0, or the number of the refusal. Of those that a call can give, the lowest is given.
  * A refusal of 1 to 4 leaves every number and byte as it stood, but for out[0] at WX_BAD_TABLE. */
 #define WX_DONE 0u      /* not refused */
 #define WX_TOO_LONG 1u  /* the input or the ingress buffer is over WX_LONGEST bytes */
-#define WX_BAD_TABLE 2u /* the table breaks a rule; out[0] is the first faulty record's number (64 for a 65th record) */
+#define WX_BAD_TABLE 2u /* the table breaks a rule; out[0] is the first faulty record's number (64 for a 65th record);
+                           with WX_NUMERIC: the table isn't empty, whatever its bytes; out[0] is 0 */
 #define WX_BAD_STATE 3u /* END is past the buffer, LEN past the slot's memory, START or COUNT outside its bounds,
                            or the record to be taken has a wrong mark or length */
 #define WX_NO_ROOM 4u   /* the commit is more than the room behind END */
@@ -91,16 +98,36 @@ extern "C" {
 #define WX_LONGEST_NOTICE 128 /* a longer payload is counted as a lost notice; so is an empty one */
 
 /* The digester that a call uses, by its number; any other number reads as WX_VERBOSE.
- * V.250 lets text follow CONNECT. With WX_CONNECT a CONNECT line is CRLF, `CONNECT` and CRLF, or, longer, CRLF, `CONNECT`, one space and everything through the next
+ *
+ * WX_CONNECT: V.250 lets text follow CONNECT. A CONNECT line is CRLF, `CONNECT` and CRLF, or, longer, CRLF, `CONNECT`, one space and everything through the next
  * CRLF; the first of either counts. The text is what stands between that space and that CRLF, as it came: it isn't trimmed, and a lone CR or LF may be in it. An empty
  * one is not told apart from a bare line. `CONNECT` with a tab behind it, or with the text right behind it, is no CONNECT line, and without its CRLF none is finished.
  * A custom success and OK rank before CONNECT: where one of them is there, a longer line before it is in its payload, and there is no text.
  *     \r\nCONNECT 9600\r\n              WX_OK with the text 9600; with WX_VERBOSE nothing that is finished
- *     \r\nCONNECT 9600\r\n\r\nOK\r\n    WX_OK with the payload CONNECT 9600 and no text, with either digester
+ *     \r\nCONNECT 9600\r\n\r\nOK\r\n    WX_OK with the payload CONNECT 9600 and no text, with WX_VERBOSE too
  * The text is for callers of wx_digest. It is a part of the input, so that through the ingress it is gone with the bytes consumed; the slot doesn't hold it. The
- * ingress takes the digester too, so that a longer CONNECT line frees a client that waits. */
+ * ingress takes the digester too, so that a longer CONNECT line frees a client that waits.
+ *
+ * WX_NUMERIC: a modem in V0 ends an answer with a decimal code and CR, no CRLF before it, and information text with CRLF. The codes are OK 0, CONNECT 1, RING 2,
+ * NO CARRIER 3, ERROR 4, NO DIALTONE 6, BUSY 7 and NO ANSWER 8. Nothing else is heard: no prompt, and no `+CME ERROR` (with AT+CMEE=0 a modem answers 4 in its
+ * place). Its table is the empty one.
+ *     0\r                            WX_OK without a payload
+ *     0\r\n                          nothing that is finished: a line of information
+ *     AT+CSQ\r+CSQ: 17,99\r\n0\r     WX_OK with the payload +CSQ: 17,99, 22 bytes consumed
+ *     4\r                            WX_ERROR
+ *     +CSQ: 1\r\n2\r0\r              RING, 11 bytes consumed; what is left, 0\r, is a WX_OK without a payload
+ * A CR is lone where no LF stands right behind it; one at the input's end is lone. A line starts at the first byte, behind each CRLF and behind each lone CR. A code
+ * is one of these digits at a line start and a lone CR right behind it: `10\r`, `5\r`, ` 0\r` and `\n0\r` are none. The leftmost code is the answer, and is consumed
+ * through its CR with all that stands before it; where there is none, the answer is WX_NONE and 0 bytes are consumed.
+ * 0 and 1 are WX_OK. Its payload is what stands before the code, from behind the last lone CR there (an echo ends in one) or from the first byte on, trimmed (space,
+ * tab, LF, form feed, CR). RING is a WX_NOTICE with the number WX_RING and the digit for its payload; what stood before it is consumed with it and not heard. The
+ * other codes are the kinds of their names. There are no digits and no text. */
 #define WX_VERBOSE 0u /* document 01's: CONNECT is a bare line */
 #define WX_CONNECT 1u /* the same, and it hears the longer CONNECT line */
+#define WX_NUMERIC 2u /* the codes of a modem in V0; its table is the empty one */
+
+/* The number of the notice RING by WX_NUMERIC, in the place of a record's: no table has so many. */
+#define WX_RING 255u
 
 /* A state: nine numbers. Every array is a state.
  * END, LEN, START and COUNT are taken whole; NUMBER, SLOT_LOST and QUEUE_LOST over 4,294,967,295 read as that.
@@ -138,7 +165,7 @@ enum {
     WX_NO_ANSWER = 10,
     WX_NO_DIALTONE = 11,
     WX_CUSTOM = 12,      /* a custom error; number: its record in the table; it has a payload */
-    WX_NOTICE = 13,      /* number: its record in the table; it has a payload */
+    WX_NOTICE = 13,      /* number: its record in the table, or WX_RING; it has a payload */
     WX_CAPACITY = 14     /* in WX_HELD and wx_slot_lookup only: the answer's payload was longer than the slot's memory; digits that are longer
                             are left out, and the error is held */
 };
@@ -157,7 +184,7 @@ uint32_t wx_version(void);
 uint32_t wx_table_check(const uint8_t *table, size_t table_len, uint64_t out[WX_OUT]);
 
 /* Digests an input once.
- * digester: WX_VERBOSE or WX_CONNECT; table: the token table.
+ * digester: WX_VERBOSE, WX_CONNECT or WX_NUMERIC; table: the token table, for WX_NUMERIC the empty one.
  * out[0]: the kind; out[1]: its number, 0 where the kind has none; out[2], out[3]: the payload's place in the input and its
  * length; out[4]: the bytes consumed; out[5], out[6]: the digits' place in the input and how many there are, for WX_CME, WX_CMS and
  * WX_UNKNOWN, else 0 and 0; out[7], out[8]: the text's place in the input and its length, for WX_OK by a longer CONNECT line, where the
@@ -208,22 +235,22 @@ void wx_queue_new(uint64_t state[WX_NUMBERS]);
 size_t wx_queue_capacity(size_t len);
 
 /* Puts a notice into the queue, as the ingress does.
- * mem, mem_len: the queue's memory; number: the notice's table number; payload, payload_len: its payload.
+ * mem, mem_len: the queue's memory; number: the notice's table number, or WX_RING; payload, payload_len: its payload.
  * A payload of 0 or over 128 bytes is lost and counted, even when the queue is full.
  * Refusals: WX_BAD_STATE, WX_FULL (both leave everything). */
 uint32_t wx_queue_put(uint64_t state[WX_NUMBERS], uint8_t *mem, size_t mem_len, uint8_t number, const uint8_t *payload,
                       size_t payload_len);
 
 /* Takes the oldest notice out of the queue, of whose memory no byte changes.
- * out[0]: 1 where there was one; then out[1] is its table number, and out[2], out[3] are its payload's place in the queue's memory
- * and its length. The bytes are good until the next call that writes to the queue's memory.
+ * out[0]: 1 where there was one; then out[1] is its table number, or WX_RING, and out[2], out[3] are its payload's place in the
+ * queue's memory and its length. The bytes are good until the next call that writes to the queue's memory.
  * From an empty queue out[0] is 0, and all else stays.
  * Refusals: WX_BAD_STATE. */
 uint32_t wx_queue_take(uint64_t state[WX_NUMBERS], const uint8_t *mem, size_t mem_len, uint64_t out[WX_OUT]);
 
 /* Adds `commit` bytes, which the caller has put into buf from END on, and digests, delivers and moves until nothing more is consumed.
- * digester: WX_VERBOSE or WX_CONNECT; table: the token table; buf: the ingress buffer; slot_mem, queue_mem: the memories of slot and
- * queue.
+ * digester: WX_VERBOSE, WX_CONNECT or WX_NUMERIC; table: the token table, for WX_NUMERIC the empty one; buf: the ingress buffer;
+ * slot_mem, queue_mem: the memories of slot and queue.
  * out[0]: at WX_BAD_TABLE the first faulty record's number; else out stays.
  * Refusals: all five. After WX_FULL take a notice, then advance by 0. */
 uint32_t wx_ingress_advance(uint64_t state[WX_NUMBERS], size_t commit, uint32_t digester, const uint8_t *table, size_t table_len,

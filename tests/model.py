@@ -17,7 +17,7 @@ MOST = 4294967295
 LONGEST = 4096
 LINE = 65535
 FIELD = 65536
-MODES = ("verbose", "connect")
+MODES = ("verbose", "connect", "numeric")
 
 
 # ---- the token table ----
@@ -240,6 +240,67 @@ def numeric(buf, head, kind):
     return None
 
 
+# ---- R-1's digester, for modems left in numeric mode ----
+
+CODES = {b"0": "ok", b"1": "ok", b"2": "notice", b"3": "nocarrier", b"4": "error", b"6": "nodialtone", b"7": "busy", b"8": "noanswer"}
+RING = 255
+
+
+def lone(s, at):
+    """Whether "a CR with no LF behind it" stands there; "at the input's end there is none"."""
+    return s[at:at + 1] == b"\r" and s[at + 1:at + 2] != b"\n"
+
+
+def line_starts(s):
+    """"the first byte and the byte after each CRLF or CR without LF", leftmost first; reading: those that the input has."""
+    starts = {0}
+    for at in range(len(s)):
+        if lone(s, at):
+            starts.add(at + 1)
+        if s[at:at + 2] == CRLF:
+            starts.add(at + 2)
+    return [at for at in sorted(starts) if at < len(s)]
+
+
+def is_code(s, at):
+    """"A code is one of these digits at a line start, then a CR with no LF behind it"; the line start is the caller's."""
+    return s[at:at + 1] in CODES and lone(s, at + 1)
+
+
+def before(s, at):
+    """Place and length of "what stands before the code, from the last CR without LF, or the first byte, on, trimmed"."""
+    crs = [i for i in range(at) if lone(s, i)]
+    return trimmed(s, crs[-1] if crs else 0, at)
+
+
+def digest_codes(s):
+    """"The leftmost code wins and is consumed through its CR; with none the answer is None, 0." Reading: digits (R-2) are of numeric errors and text (R-3) of a
+    CONNECT line with more than the word, so that no answer here has either."""
+    for at in line_starts(s):
+        if is_code(s, at):
+            kind = CODES[s[at:at + 1]]
+            if kind == "notice":
+                return Answer(kind, RING, at, 1, at + 2)  # "RING a notice under number 255 with payload `2`": the digit itself
+            place, length = before(s, at) if kind == "ok" else (0, 0)
+            return Answer(kind, None, place, length, at + 2)
+    return Answer("none", None, 0, 0, 0)
+
+
+# ---- which digester ----
+
+def records_of(mode, table):
+    """The records that the mode's digester goes by, or the number with refusal 2. R-1: "2, with record number 0, when its table isn't empty"; reading: whatever
+    its bytes."""
+    if mode == "numeric":
+        return 0 if table else []
+    return read_table(table)
+
+
+def heard(mode, records, s):
+    """What the mode's digester answers to s: "the ingress is told which digester to use" (R-1)."""
+    return digest_codes(s) if mode == "numeric" else digest(mode, records, s)
+
+
 # ---- slot, queue, ingress ----
 
 class Refused(Exception):
@@ -344,7 +405,7 @@ class World:
         """Refusals 1, 2 and 3 in this order; the table's records."""
         if len(self.buf) > LONGEST:
             raise Refused(1)
-        records = read_table(self.table)
+        records = records_of(self.mode, self.table)
         if isinstance(records, int):
             raise Refused(2, record=records)
         if self.end > len(self.buf):
@@ -357,7 +418,7 @@ class World:
         """"digest what is in the buffer, deliver, move the rest to the front, until the digest consumes 0 or nothing is left\""""
         while self.end > 0:
             held = bytes(self.buf[:self.end])
-            a = digest(self.mode, records, held)
+            a = heard(self.mode, records, held)
             if a.kind == "notice":
                 self.put(a.number, a.handed_on(held))
             else:
@@ -525,10 +586,10 @@ def digest_case(mode, table, data):
     """A digest case: refusal 1, refusal 2, or the answer."""
     if len(data) > LONGEST:
         return "refused 1"
-    records = read_table(table)
+    records = records_of(mode, table)
     if isinstance(records, int):
         return "refused 2 %d" % records
-    a = digest(mode, records, data)
+    a = heard(mode, records, data)
     said = "%s %s %d %d %d" % (a.kind, dashed(a.number), a.place, a.length, a.consumed)
     said += " digits %d %d" % (a.digits_at, a.digits) if a.digits else ""
     return said + (" text %d %d" % (a.text_at, a.text) if a.text else "")

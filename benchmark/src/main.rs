@@ -103,7 +103,8 @@ fn count_vast(w: &Workload) -> Result<(), String> {
     same(w, ours_said, theirs_said)
 }
 
-/// How our work grows: runs each shape and each pattern at a length and at twice that between the marks, and prints its name, the way and the length.
+/// How our work grows: runs each shape and each pattern at a length and at twice that between the marks, and prints its name, the way and the length. So with the
+/// numeric digester's.
 fn count_growth() -> Result<(), String> {
     for shape in SHAPES {
         count_digests(shape.name, &[], shape.input)?;
@@ -120,7 +121,7 @@ fn count_growth() -> Result<(), String> {
     for pattern in patterns::all() {
         count_digests(&pattern.to_string(), if pattern.has_table { &table } else { &[] }, |len| pattern.input(len))?;
     }
-    Ok(())
+    growth::numeric::count(ours::digest_numeric, paged, measure::marked)
 }
 
 /// Two digests that are answered by different rules say nothing of how work grows: their answers are compared. So no call between the marks is the first, which

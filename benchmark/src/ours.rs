@@ -32,12 +32,20 @@ extern "C" {
 
 /// `WX_VERBOSE`: the digester that hears what the crate hears.
 const VERBOSE: u32 = 0;
+/// `WX_NUMERIC`: that of a modem in V0, with the empty table.
+const NUMERIC: u32 = 2;
 
 /// The refusal's number, 0 for none; the answer stands in `out`.
 #[inline]
 pub fn digest(table: &[u8], input: &[u8], out: &mut [u64; 9]) -> u32 {
     // SAFETY: each pointer and length is a slice's own, and `out` is a lent array of nine.
     unsafe { wx_digest(VERBOSE, table.as_ptr(), table.len(), input.as_ptr(), input.len(), out) }
+}
+
+/// The same by the numeric digester, of which the crate has none.
+pub fn digest_numeric(input: &[u8], out: &mut [u64; 9]) -> u32 {
+    // SAFETY: as above; the table is the input's empty front part.
+    unsafe { wx_digest(NUMERIC, input.as_ptr(), 0, input.as_ptr(), input.len(), out) }
 }
 
 /// A digest, ready to be called.

@@ -12,7 +12,7 @@
 #define TABLE "UR\7+UUSORD"
 
 /* A caller's arrays are of this length: where one of these changes, so does the version. */
-#if WX_VERSION != 3u || WX_NUMBERS != 9 || WX_OUT != 9
+#if WX_VERSION != 4u || WX_NUMBERS != 9 || WX_OUT != 9
 #error "an array has changed: raise WX_VERSION and wx_version, and write the new lengths here"
 #endif
 
@@ -49,8 +49,8 @@ static void reset_to_was(uint64_t *numbers, size_t n)
         numbers[i] = WAS;
 }
 
-/* The digesters, and numbers that no digester has. */
-static const uint32_t digesters[] = {WX_VERBOSE, WX_CONNECT, 2, UINT32_MAX};
+/* The digesters that take a table, and numbers that no digester has. */
+static const uint32_t digesters[] = {WX_VERBOSE, WX_CONNECT, 3, UINT32_MAX};
 #define DIGESTERS (sizeof digesters / sizeof digesters[0])
 
 /* Which of them answer so: all, WX_CONNECT alone, or all but that. */
@@ -186,6 +186,85 @@ static void digest_refusals(uint32_t digester)
     OUT("a part past all memory", 0, 0, WAS, WAS, WAS, WAS, WAS, WAS, WAS);
     wx_payload(input, 6, 2, 4, out);
     OUT("a part that just fits", 2, 4, WAS, WAS, WAS, WAS, WAS, WAS, WAS);
+}
+
+/* By hand from R-1: what of `out` isn't 0, the payload's place too, since a digit may stand in the input twice. */
+static const struct code {
+    const char *input;
+    uint64_t kind, number, place, len, consumed;
+} codes[] = {
+    {"0\r", WX_OK, 0, 0, 0, 2},
+    {"1\r", WX_OK, 0, 0, 0, 2},
+    {"2\r", WX_NOTICE, WX_RING, 0, 1, 2},
+    {"3\r", WX_NO_CARRIER, 0, 0, 0, 2},
+    {"4\r", WX_ERROR, 0, 0, 0, 2},
+    {"6\r", WX_NO_DIALTONE, 0, 0, 0, 2},
+    {"7\r", WX_BUSY, 0, 0, 0, 2},
+    {"8\r", WX_NO_ANSWER, 0, 0, 0, 2},
+    /* a payload, from behind the last lone CR or from the first byte on, trimmed */
+    {"+CSQ: 17,99\r\n0\r", WX_OK, 0, 0, 11, 15},
+    {"AT+CSQ\r+CSQ: 17,99\r\n0\r", WX_OK, 0, 7, 11, 22},
+    {"a\rb\r \t\f\n+X: 1\r\n+X: 2 \r\n1\r", WX_OK, 0, 8, 12, 25},
+    {"0\r\n0\r", WX_OK, 0, 0, 1, 5},
+    {"x\r\r\n0\r", WX_OK, 0, 0, 0, 6},
+    /* what stands before another code isn't heard */
+    {"+CSQ: 1\r\n2\r0\r", WX_NOTICE, WX_RING, 9, 1, 11},
+    {"2\r\n2\r", WX_NOTICE, WX_RING, 3, 1, 5},
+    {"ATD1\r7\r", WX_BUSY, 0, 0, 0, 7},
+    {"+CSQ: 1\r\n4\r", WX_ERROR, 0, 0, 0, 11},
+    /* the leftmost; no LF right behind its CR */
+    {"4\r0\r", WX_ERROR, 0, 0, 0, 2},
+    {"0\r\r\n", WX_OK, 0, 0, 0, 2},
+    {"0\r\n", WX_NONE, 0, 0, 0, 0},
+    /* no listed digit, or none at a line start, or no CR right behind it; and nothing is skipped */
+    {"", WX_NONE, 0, 0, 0, 0},
+    {"0", WX_NONE, 0, 0, 0, 0},
+    {"5\r", WX_NONE, 0, 0, 0, 0},
+    {"9\r", WX_NONE, 0, 0, 0, 0},
+    {"10\r", WX_NONE, 0, 0, 0, 0},
+    {" 0\r", WX_NONE, 0, 0, 0, 0},
+    {"\n0\r", WX_NONE, 0, 0, 0, 0},
+    {"0 \r", WX_NONE, 0, 0, 0, 0},
+    {"   ", WX_NONE, 0, 0, 0, 0},
+    /* what the others hear */
+    {"\r\nOK\r\n", WX_NONE, 0, 0, 0, 0},
+    {"\r\n+CME ERROR: 10\r\n", WX_NONE, 0, 0, 0, 0},
+    {"\r\n> ", WX_NONE, 0, 0, 0, 0},
+};
+
+static void digest_numeric(void)
+{
+    for (size_t i = 0; i < sizeof codes / sizeof codes[0]; i++) {
+        const struct code *c = &codes[i];
+        const uint8_t *input = (const uint8_t *)c->input;
+        uint64_t out[WX_OUT];
+        char name[30];
+        snprintf(name, sizeof name, "V0, input %zu", i);
+        reset_to_was(out, WX_OUT);
+        same(name, wx_digest(WX_NUMERIC, input, 0, input, strlen(c->input), out), WX_DONE);
+        OUT(name, c->kind, c->number, c->place, c->len, c->consumed, 0, 0, 0, 0);
+    }
+}
+
+/* A table that isn't empty is refused with record 0, good or not; an input that is too long comes first. */
+static void digest_numeric_refusals(void)
+{
+    static const uint8_t longest[WX_LONGEST + 1], input[] = "0\r";
+    static const struct {
+        const char *bytes;
+        size_t len;
+    } tables[] = {{TABLE, sizeof TABLE - 1}, {"UR\4RINGUR\1 ", 11}, {"?", 1}, {"\0", 1}};
+    for (size_t i = 0; i < sizeof tables / sizeof tables[0]; i++) {
+        const uint8_t *table = (const uint8_t *)tables[i].bytes;
+        uint64_t out[WX_OUT];
+        reset_to_was(out, WX_OUT);
+        same("V0, 4,097 bytes", wx_digest(WX_NUMERIC, table, tables[i].len, longest, sizeof longest, out), WX_TOO_LONG);
+        OUT("V0, 4,097 bytes", WAS, WAS, WAS, WAS, WAS, WAS, WAS, WAS, WAS);
+        same("V0, a table", wx_digest(WX_NUMERIC, table, tables[i].len, input, sizeof input - 1, out), WX_BAD_TABLE);
+        OUT("V0, a table", 0, WAS, WAS, WAS, WAS, WAS, WAS, WAS, WAS);
+        same("V0, 4,096 bytes", wx_digest(WX_NUMERIC, table, 0, longest, WX_LONGEST, out), WX_DONE);
+        OUT("V0, 4,096 bytes", WX_NONE, 0, 0, 0, 0, 0, 0, 0, 0);
+    }
 }
 
 /* The deepest retry; the test gives it the stack that the header says. */
@@ -462,6 +541,104 @@ static void ingress_connect(void)
         }
 }
 
+/* A table that isn't empty is refused with record 0 behind 1 and before 3 and 4; all stays as it stood. The state has 2 bytes in a buffer of 64. */
+static void ingress_numeric_refusals(uint64_t state[WX_NUMBERS], uint8_t *buf, uint8_t *slot_mem, uint8_t *queue_mem)
+{
+    static const uint8_t table[] = TABLE, piece[] = "0\r";
+    static uint8_t too_long[WX_LONGEST + 1];
+    uint64_t out[WX_OUT];
+#define LENT(buf, len) buf, len, slot_mem, 16, queue_mem, WX_RECORD, out
+#define WITH_A_TABLE WX_NUMERIC, table, sizeof table - 1
+    reset_to_was(out, WX_OUT);
+    same("V0, a long buffer, write", wx_ingress_write(state, piece, 2, WITH_A_TABLE, LENT(too_long, sizeof too_long)), WX_TOO_LONG);
+    same("V0, a long buffer, advance", wx_ingress_advance(state, 0, WITH_A_TABLE, LENT(too_long, sizeof too_long)), WX_TOO_LONG);
+    OUT("V0, a long buffer", WAS, WAS, WAS, WAS, WAS, WAS, WAS, WAS, WAS);
+    /* an end past the buffer, and a commit over the room, are met by refusal 2 where the table isn't empty, and by their own where it is */
+    same("V0, a table, an end past the buffer", wx_ingress_write(state, piece, 2, WITH_A_TABLE, LENT(buf, 1)), WX_BAD_TABLE);
+    OUT("V0, a table, an end past the buffer", 0, WAS, WAS, WAS, WAS, WAS, WAS, WAS, WAS);
+    reset_to_was(out, WX_OUT);
+    same("V0, a table, a commit over the room", wx_ingress_advance(state, 63, WITH_A_TABLE, LENT(buf, 64)), WX_BAD_TABLE);
+    OUT("V0, a table, a commit over the room", 0, WAS, WAS, WAS, WAS, WAS, WAS, WAS, WAS);
+    reset_to_was(out, WX_OUT);
+    same("V0, an end past the buffer", wx_ingress_write(state, piece, 2, WX_NUMERIC, table, 0, LENT(buf, 1)), WX_BAD_STATE);
+    same("V0, a commit over the room", wx_ingress_advance(state, 63, WX_NUMERIC, table, 0, LENT(buf, 64)), WX_NO_ROOM);
+    OUT("V0, refused", WAS, WAS, WAS, WAS, WAS, WAS, WAS, WAS, WAS);
+}
+
+/* A RING meets a full queue, with an echo before it and an error behind it. */
+static void ingress_numeric_full(uint64_t state[WX_NUMBERS], uint8_t *buf, uint8_t *slot_mem, uint8_t *queue_mem)
+{
+    static const uint8_t piece[] = "AT+X\r2\r4\r0";
+    uint64_t out[WX_OUT];
+#define EMPTY_TABLE WX_NUMERIC, piece, 0
+    same("V0, a full queue", wx_ingress_write(state, piece, 10, EMPTY_TABLE, LENT(buf, 64)), WX_FULL);
+    same("V0, a full queue, taken", out[0], 10);
+    STATE("V0, a full queue", 10, 0, WX_OK, 0, 11, 0, 0, 1, 0);
+    same_bytes("V0, a full queue, the buffer", buf, "AT+X\r2\r4\r0", 10);
+    same("V0, still full", wx_ingress_advance(state, 0, EMPTY_TABLE, LENT(buf, 64)), WX_FULL);
+    reset_to_was(out, WX_OUT);
+    same("V0, the first RING", wx_queue_take(state, queue_mem, WX_RECORD, out), WX_DONE);
+    OUT("V0, the first RING", 1, WX_RING, 4, 1, WAS, WAS, WAS, WAS, WAS);
+    same("V0, going on", wx_ingress_advance(state, 0, EMPTY_TABLE, LENT(buf, 64)), WX_DONE);
+    STATE("V0, going on", 1, 1, WX_ERROR, 0, 0, 0, 0, 1, 0);
+    same_bytes("V0, going on, the buffer", buf, "0", 1);
+}
+
+/* A conversation with a modem in V0: an echo and an information answer, a RING in between, a full queue, an error. */
+static void ingress_numeric(void)
+{
+    static const uint8_t first[] = "AT+CSQ\r+CSQ: 17", second[] = ",99\r\n0\r2\r";
+    uint64_t state[WX_NUMBERS], out[WX_OUT];
+    uint8_t buf[64] = {0}, slot_mem[16] = {0}, queue_mem[WX_RECORD] = {0};
+    wx_slot_new(state);
+    wx_queue_new(state);
+    wx_ingress_clear(state);
+    same("V0, half a line", wx_ingress_write(state, first, sizeof first - 1, WX_NUMERIC, first, 0, MEMORIES), WX_DONE);
+    STATE("V0, half a line", 15, 0, WX_OK, 0, 0, 0, 0, 0, 0);
+    same("V0, an answer and RING", wx_ingress_write(state, second, sizeof second - 1, WX_NUMERIC, first, 0, MEMORIES), WX_DONE);
+    same("V0, an answer and RING, taken", out[0], sizeof second - 1);
+    STATE("V0, an answer and RING", 0, 1, WX_OK, 0, 11, 0, 0, 1, 0);
+    same("a reset", wx_slot_reset(state, slot_mem, sizeof slot_mem), WX_DONE);
+    ingress_numeric_full(state, buf, slot_mem, queue_mem);
+
+    buf[1] = 'x';
+    same("V0, a commit", wx_ingress_advance(state, 1, WX_NUMERIC, first, 0, MEMORIES), WX_DONE);
+    ingress_numeric_refusals(state, buf, slot_mem, queue_mem);
+    STATE("V0, refused", 2, 1, WX_ERROR, 0, 0, 0, 0, 1, 0);
+    same_bytes("V0, the buffer", buf, "0x", 2);
+    same_bytes("V0, the slot's memory", slot_mem, "+CSQ: 17,99", 11);
+    same_bytes("V0, the queue's memory", queue_mem, "UR\377\0012", 5);
+}
+
+/* What the header says of a cut between a CR and its LF. */
+static void cut_numeric(void)
+{
+    static const struct {
+        const char *first, *second;
+        uint64_t end, signalled, len;
+    } cases[] = {
+        {"0\r\n", "", 3, 0, 0},
+        {"0\r", "\n", 1, 1, 0},
+        {"0\r\n0\r", "", 0, 1, 1},
+        {"0\r", "\n0\r", 3, 1, 0},
+        /* in any other line it changes nothing, nor does another cut */
+        {"+CSQ: 1\r", "\n0\r", 0, 1, 7},
+        {"5\r", "\n0\r", 0, 1, 1},
+        {"+CSQ: 1\r\n0", "\r", 0, 1, 7},
+    };
+    for (size_t i = 0; i < sizeof cases / sizeof cases[0]; i++) {
+        const uint8_t *first = (const uint8_t *)cases[i].first, *second = (const uint8_t *)cases[i].second;
+        uint64_t state[WX_NUMBERS], out[WX_OUT];
+        uint8_t buf[64], slot_mem[64], queue_mem[WX_RECORD];
+        wx_slot_new(state);
+        wx_queue_new(state);
+        wx_ingress_clear(state);
+        same("V0, before the cut", wx_ingress_write(state, first, strlen(cases[i].first), WX_NUMERIC, first, 0, MEMORIES), WX_DONE);
+        same("V0, behind it", wx_ingress_write(state, second, strlen(cases[i].second), WX_NUMERIC, first, 0, MEMORIES), WX_DONE);
+        STATE("V0, a cut", cases[i].end, cases[i].signalled, WX_OK, 0, cases[i].len, 0, 0, 0, 0);
+    }
+}
+
 /* What the header says of a cut: the same bytes, whole and cut behind the @. */
 static void cut(void)
 {
@@ -493,6 +670,9 @@ int main(void)
         digest_refusals(digesters[d]);
         deepest(digesters[d]);
     }
+    digest_numeric();
+    digest_numeric_refusals();
+    deepest(WX_NUMERIC);
     slot();
     slot_digits();
     slot_bytes();
@@ -500,7 +680,9 @@ int main(void)
     ingress();
     ingress_digits();
     ingress_connect();
+    ingress_numeric();
     cut();
+    cut_numeric();
     if (differences == 0)
         puts("exports: every function of walumbeex.h answered as document 01 says");
     return differences != 0;

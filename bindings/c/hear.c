@@ -4,8 +4,10 @@
  *
  * The device is read as it is set; `stty -F DEVICE raw 115200` sets it. A NOTICE is a line that is that text, or the text, `:` and more: +CREG hears
  * "+CREG: 1"; +IPD doesn't hear "+IPD,12:abc". A > or @ is a prompt where for MS milliseconds nothing follows it: 200, which is more than lies between two bytes
- * of a line, also where an adapter gathers them. An error's digits are printed as they came. NAME is verbose, as without a DIGESTER, or connect: then CONNECT
- * with text behind it, such as "CONNECT 9600", is an ok too. The text isn't printed: an ingress doesn't hand it on.
+ * of a line, also where an adapter gathers them. An error's digits are printed as they came. NAME is verbose, as without a DIGESTER, or one of two more:
+ *     connect   CONNECT with text behind it, such as "CONNECT 9600", is an ok too. The text isn't printed: an ingress doesn't hand it on
+ *     numeric   a modem in V0, which ends an answer with a code and CR, such as "0\r". It takes no NOTICE: the one that there is, RING, is a code, and printed by
+ *               its name. What ends in a CR is heard where for MS milliseconds nothing follows it, since an LF behind it would make a code a line of information
  * Status 0: the input came to its end; 1: it could not be read, or the output not be written, or a call was refused; 2: wrong usage. */
 #include "walumbeex.h"
 
@@ -18,7 +20,7 @@
 
 #define USAGE \
     "usage: [QUIET=MS] [DIGESTER=NAME] hear [NOTICE ..] < DEVICE   " \
-    "(a NOTICE is a text such as RING or +CREG; MS is 1 to 60000; NAME is verbose or connect)"
+    "(a NOTICE is a text such as RING or +CREG; MS is 1 to 60000; NAME is verbose, connect or numeric, which takes no NOTICE)"
 
 /* The memory for an answer. */
 #ifndef ANSWER
@@ -80,7 +82,10 @@ static int notice(void)
 {
     if (wx_queue_take(state, queue_mem, sizeof queue_mem, out) != WX_DONE || out[0] == 0)
         return 0;
-    print(WX_NOTICE, out[1], queue_mem + out[2], out[3]);
+    if (out[1] == WX_RING)
+        print(WX_NOTICE, WX_RING, (const uint8_t *)"RING", 4);
+    else
+        print(WX_NOTICE, out[1], queue_mem + out[2], out[3]);
     return 1;
 }
 
@@ -141,17 +146,25 @@ static int ends_as_a_prompt(const uint8_t *bytes, size_t n)
     return n > 0 && (bytes[n - 1] == '>' || bytes[n - 1] == '@');
 }
 
+/* Does what is heard of the bytes hang on what follows them? A CR may end a code, and with an LF behind it ends a line of information. */
+static int hangs_on_more(const uint8_t *bytes, size_t n)
+{
+    return digester == WX_NUMERIC ? n > 0 && bytes[n - 1] == '\r' : ends_as_a_prompt(bytes, n);
+}
+
 /* How many of the bytes to hand over at once: a line, since the slot holds one answer and each but a prompt ends with its line. A line that ends as a
- * prompt goes with the next. */
+ * prompt goes with the next. In V0 a line that may be an answer ends in a CR with no LF behind it. */
 static size_t piece_of(const uint8_t *bytes, size_t n)
 {
-    for (size_t k = 1; k < n; k++)
-        if (bytes[k - 1] == '\n' && !ends_as_a_prompt(bytes, k))
+    for (size_t k = 1; k < n; k++) {
+        const int ends = digester == WX_NUMERIC ? bytes[k - 1] == '\r' && bytes[k] != '\n' : bytes[k - 1] == '\n' && !ends_as_a_prompt(bytes, k);
+        if (ends)
             return k;
+    }
     return n;
 }
 
-/* What a read gave; where that ends as a prompt, with what came until the line went quiet. 0 at the end. */
+/* What a read gave; where that hangs on more, with what came until the line went quiet. 0 at the end. */
 static size_t heard_now(uint8_t *heard, size_t room)
 {
     struct pollfd line = {STDIN_FILENO, POLLIN, 0};
@@ -164,8 +177,18 @@ static size_t heard_now(uint8_t *heard, size_t room)
         if (got < 0)
             stop("standard input can't be read");
         n += (size_t)got;
-    } while (got > 0 && n < room && ends_as_a_prompt(heard, n) && poll(&line, 1, quiet) > 0);
+    } while (got > 0 && n < room && hangs_on_more(heard, n) && poll(&line, 1, quiet) > 0);
     return n;
+}
+
+/* Takes the digester of that name; 0 where there is none. */
+static int choose(const char *name)
+{
+    static const char *const digesters[] = {[WX_VERBOSE] = "verbose", [WX_CONNECT] = "connect", [WX_NUMERIC] = "numeric"};
+    for (digester = WX_VERBOSE; digester <= WX_NUMERIC; digester++)
+        if (strcmp(name, digesters[digester]) == 0)
+            return 1;
+    return 0;
 }
 
 int main(int words, char **word)
@@ -188,12 +211,13 @@ int main(int words, char **word)
             return 2;
         }
     }
-    if (getenv("DIGESTER") != NULL && strcmp(getenv("DIGESTER"), "verbose") != 0) {
-        if (strcmp(getenv("DIGESTER"), "connect") != 0) {
-            fprintf(stderr, "hear: DIGESTER is \"%s\"; " USAGE "\n", getenv("DIGESTER"));
-            return 2;
-        }
-        digester = WX_CONNECT;
+    if (getenv("DIGESTER") != NULL && !choose(getenv("DIGESTER"))) {
+        fprintf(stderr, "hear: DIGESTER is \"%s\"; " USAGE "\n", getenv("DIGESTER"));
+        return 2;
+    }
+    if (digester == WX_NUMERIC && words > 1) {
+        fprintf(stderr, "hear: \"%s\" is a NOTICE, and with DIGESTER=numeric there is none: a modem in V0 sends codes, RING among them; " USAGE "\n", word[1]);
+        return 2;
     }
     for (int i = 1; i < words; i++) {
         size_t n = strlen(word[i]);

@@ -3,6 +3,7 @@
 //! It is a crate of its own so that nothing of it is compiled together with the calls that are measured: as a part of their crate it made the Rust's figures
 //! with the table of 56 greater by 14 per cent, and left ours as they were.
 
+pub mod numeric;
 pub mod patterns;
 pub mod shapes;
 
@@ -62,10 +63,12 @@ pub struct Growth {
     /// Of each shape its name, its digests and its streams.
     shapes: Vec<(&'static str, Grown, Grown)>,
     patterns: Vec<(Pattern, Grown)>,
+    /// By the numeric digester, of each shape its name, a digest of a short answer's length, and the two.
+    numeric: Vec<(&'static str, f64, Grown)>,
 }
 
 impl Growth {
-    /// Reads lines of four parts by tabs: the name of a shape or pattern, `digest` or `stream`, its length in bytes, the instructions.
+    /// Reads lines of four parts by tabs: the name of a shape or pattern, `digest`, `stream` or `numeric`, its length in bytes, the instructions.
     pub fn read(counts: &str) -> Result<Self, String> {
         let mut counted: HashMap<(&str, &str, &str), f64> = HashMap::new();
         for line in counts.lines() {
@@ -81,13 +84,19 @@ impl Growth {
         let grown = |name: &str, way: &str, [once, twice]: [usize; 2]| Ok::<_, String>(Grown { once: get(name, way, once)?, twice: get(name, way, twice)? });
         let shapes = SHAPES.iter().map(|s| Ok((s.name, grown(s.name, "digest", DIGEST)?, grown(s.name, "stream", STREAM)?)));
         let patterns = patterns::all().into_iter().map(|p| grown(&p.to_string(), "digest", DIGEST).map(|g| (p, g)));
-        Ok(Self { shapes: shapes.collect::<Result<_, String>>()?, patterns: patterns.collect::<Result<_, String>>()? })
+        let numeric = numeric::SHAPES.iter().map(|s| Ok((s.name, get(s.name, "numeric", numeric::LENS[0])?, grown(s.name, "numeric", DIGEST)?)));
+        Ok(Self {
+            shapes: shapes.collect::<Result<_, String>>()?,
+            patterns: patterns.collect::<Result<_, String>>()?,
+            numeric: numeric.collect::<Result<_, String>>()?,
+        })
     }
 
     /// An error that names each shape and each pattern whose digest is over the limit.
     pub fn judge(&self) -> Result<(), String> {
         let shapes = self.shapes.iter().map(|&(name, digest, _)| (name.to_owned(), digest));
-        let digests = shapes.chain(self.patterns.iter().map(|(p, digest)| (p.to_string(), *digest)));
+        let numeric = self.numeric.iter().map(|&(name, _, digest)| (format!("{name}, by the numeric digester"), digest));
+        let digests = shapes.chain(self.patterns.iter().map(|(p, digest)| (p.to_string(), *digest))).chain(numeric);
         let mut excess = String::new();
         for (name, g) in digests.filter(|(_, g)| g.is_excess()) {
             let [once, twice, len, double] = [g.once, g.twice, DIGEST[0] as f64, DIGEST[1] as f64].map(thousands);
@@ -129,6 +138,19 @@ impl Growth {
         for (pattern, g) in &patterns[..SHOWN] {
             let table = if pattern.has_table { format!("of {}", records.len()) } else { "empty".to_owned() };
             let _ = writeln!(out, "| {pattern} | {table} | {} |", g.cells());
+        }
+        out + &self.numeric_section()
+    }
+
+    /// The numeric digester has no Rust beside it, so that all its rows stand here.
+    fn numeric_section(&self) -> String {
+        let [short, once, twice] = numeric::LENS.map(|len| thousands(len as f64));
+        let mut out = format!(
+            "\n## The numeric digester\n\nInstructions of ours for a modem in V0, of which the Rust hears nothing; the limit is the same.\n\n\
+             | Shape | Digest, {short} bytes | {once} bytes | {twice} bytes | Ratio |\n|---|--:|--:|--:|--:|\n"
+        );
+        for (name, short, g) in &self.numeric {
+            let _ = writeln!(out, "| {name} | {} | {} |", thousands(*short), g.cells());
         }
         out
     }

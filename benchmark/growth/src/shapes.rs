@@ -21,7 +21,7 @@ pub fn lines(end: &[u8], len: usize) -> Vec<u8> {
     joined(&[&first, &over_and_over(line, (n - 1) * line.len()), end])
 }
 
-fn letters(len: usize) -> Vec<u8> {
+pub fn letters(len: usize) -> Vec<u8> {
     over_and_over(b"abcdefghijklmnopqrstuvwxyz", len)
 }
 

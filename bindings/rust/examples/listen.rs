@@ -6,8 +6,13 @@
 //! The device is read as it is set; `stty -F DEVICE raw 115200` sets it. A NOTICE is a line that is that text, or the text, `:` and
 //! more: +CREG hears `+CREG: 1`; +IPD doesn't hear `+IPD,12:abc`. A `>` or `@` is a prompt where for MS milliseconds nothing
 //! follows it: 200, which is more than lies between two bytes of a line, also where an adapter gathers them. An error's digits are
-//! printed as they came. NAME is verbose, as without a DIGESTER, or connect: then CONNECT with text behind it, such as
-//! `CONNECT 9600`, is an ok too. The text isn't printed: an ingress doesn't hand it on.
+//! printed as they came. NAME is verbose, as without a DIGESTER, or one of two more:
+//!
+//! - connect: CONNECT with text behind it, such as `CONNECT 9600`, is an ok too. The text isn't printed: an ingress doesn't hand it
+//!   on.
+//! - numeric: a modem in V0, which ends an answer with a code and CR, such as `0\r`. It takes no NOTICE: the one that there is, RING,
+//!   is a code, and printed by its name. What ends in a CR is heard where for MS milliseconds nothing follows it, since an LF
+//!   behind it would make a code a line of information.
 //!
 //! Status 0: the input came to its end; 1: it could not be read, or the output not be written, or a call was refused; 2: wrong
 //! usage.
@@ -17,11 +22,11 @@ use std::io::{ErrorKind, Read, Write};
 use std::sync::mpsc::{self, Receiver};
 use std::time::Duration;
 use std::{env, fs, io, process, thread};
-use walumbeex::{Digester, Ingress, Refusal, Response, TableBuilder};
+use walumbeex::{Digester, Ingress, Refusal, Response, Table, TableBuilder, RING};
 
 const USAGE: &str = "usage: [QUIET=MS] [DIGESTER=NAME] listen DEVICE [NOTICE ..]   \
                      (DEVICE - is standard input; a NOTICE is a text such as RING or +CREG; MS is 1 to 60000; \
-                     NAME is verbose or connect)";
+                     NAME is verbose, connect or numeric, which takes no NOTICE)";
 
 /// Prints the notices that wait, oldest first.
 fn notices(ingress: &mut Ingress<'_>) -> Result<(), Box<dyn Error>> {
@@ -32,7 +37,8 @@ fn notices(ingress: &mut Ingress<'_>) -> Result<(), Box<dyn Error>> {
 /// Prints the oldest notice; was there one?
 fn notice(ingress: &mut Ingress<'_>) -> Result<bool, Box<dyn Error>> {
     let Some(urc) = ingress.notices.take()? else { return Ok(false) };
-    print(&format!("notice      {}", urc.payload.escape_ascii()))?;
+    let line = if urc.record == RING { b"RING" } else { urc.payload };
+    print(&format!("notice      {}", line.escape_ascii()))?;
     Ok(true)
 }
 
@@ -143,15 +149,30 @@ fn ends_as_a_prompt(bytes: &[u8]) -> bool {
     last.is_some_and(|b| b">@".contains(b))
 }
 
+/// Does what is heard of the bytes hang on what follows them? In V0 a CR may end a code, and with an LF behind it ends a line of
+/// information.
+fn hangs_on_more(bytes: &[u8], in_v0: bool) -> bool {
+    if in_v0 {
+        return bytes.ends_with(b"\r");
+    }
+    ends_as_a_prompt(bytes)
+}
+
 /// How many of the bytes to hand over at once: a line, since the slot holds one answer and each but a prompt ends with its
-/// line. A line that ends as a prompt goes with the next.
-fn piece_of(bytes: &[u8]) -> usize {
-    (1..bytes.len()).find(|&k| bytes[k - 1] == b'\n' && !ends_as_a_prompt(&bytes[..k])).unwrap_or(bytes.len())
+/// line. A line that ends as a prompt goes with the next. In V0 a line that may be an answer ends in a CR with no LF behind it.
+fn piece_of(bytes: &[u8], in_v0: bool) -> usize {
+    let ends = |&k: &usize| match bytes[k - 1] {
+        b'\r' => in_v0 && bytes[k] != b'\n',
+        b'\n' => !in_v0 && !ends_as_a_prompt(&bytes[..k]),
+        _ => false,
+    };
+    (1..bytes.len()).find(ends).unwrap_or(bytes.len())
 }
 
 fn listen(source: Box<dyn Read + Send>, digester: Digester<'_>, quiet: Duration) -> Result<(), Box<dyn Error>> {
     let (mut buf, mut slot_mem, mut queue_mem) = ([0; 4096], [0; 4096], [0; 4 * 132]);
     let mut ingress = Ingress::new(digester, &mut buf, &mut slot_mem, &mut queue_mem)?;
+    let in_v0 = digester == Digester::numeric();
 
     let reads = reads(source);
     let mut failed = None;
@@ -163,14 +184,14 @@ fn listen(source: Box<dyn Read + Send>, digester: Digester<'_>, quiet: Duration)
                 Ok(more) => heard.extend(more),
                 Err(e) => failed = Some(e),
             }
-            // A prompt is where nothing follows; inside a line more comes at once.
-            if failed.is_none() && ends_as_a_prompt(&heard) {
+            // A prompt, or a code, is where nothing follows; inside a line more comes at once.
+            if failed.is_none() && hangs_on_more(&heard, in_v0) {
                 next = reads.recv_timeout(quiet).ok();
             }
         }
         let mut rest = &heard[..];
         while !rest.is_empty() {
-            let (piece, behind) = rest.split_at(piece_of(rest));
+            let (piece, behind) = rest.split_at(piece_of(rest, in_v0));
             write(&mut ingress, piece)?;
             rest = behind;
         }
@@ -190,6 +211,19 @@ fn stop(what: &str, status: i32) -> ! {
     process::exit(status)
 }
 
+/// The digester that DIGESTER names, over the notices' table.
+fn digester(table: Table<'_>) -> Digester<'_> {
+    match env::var("DIGESTER").as_deref().unwrap_or("verbose") {
+        "verbose" => Digester::new(table),
+        "connect" => Digester::connect(table),
+        "numeric" if table.records() == 0 => Digester::numeric(),
+        "numeric" => {
+            stop(&format!("with DIGESTER=numeric there is no NOTICE: a modem in V0 sends codes, RING among them; {USAGE}"), 2)
+        }
+        other => stop(&format!("DIGESTER is \"{other}\"; {USAGE}"), 2),
+    }
+}
+
 fn main() {
     let mut words = env::args().skip(1);
     let Some(device) = words.next() else { stop(&format!("no device was named; {USAGE}"), 2) };
@@ -200,11 +234,6 @@ fn main() {
         Ok(ms @ 1..=60000) => Duration::from_millis(ms),
         _ => stop(&format!("QUIET is no number of 1 to 60000; {USAGE}"), 2),
     };
-    let digester: fn(_) -> _ = match env::var("DIGESTER").as_deref().unwrap_or("verbose") {
-        "verbose" => Digester::new,
-        "connect" => Digester::connect,
-        other => stop(&format!("DIGESTER is \"{other}\"; {USAGE}"), 2),
-    };
     // Room for one text more than a table may have, so that one too many is seen to be.
     let mut memory = [0; 65 * 35];
     let mut builder = TableBuilder::new(&mut memory);
@@ -213,11 +242,12 @@ fn main() {
             stop(&format!("notice \"{text}\": {e}; {USAGE}"), 2)
         }
     }
+    let digester = digester(builder.finish());
     let source: Box<dyn Read + Send> = match &*device {
         "-" => Box::new(io::stdin()),
         _ => Box::new(fs::File::open(&device).unwrap_or_else(|e| stop(&format!("{device}: {e}; {USAGE}"), 1))),
     };
-    if let Err(e) = listen(source, digester(builder.finish()), quiet) {
+    if let Err(e) = listen(source, digester, quiet) {
         stop(&e.to_string(), 1)
     }
 }

@@ -5,10 +5,13 @@ use crate::{ffi, Refusal, Table};
 /// The most bytes that one digest takes, and the longest buffer of an ingress.
 pub const LONGEST_INPUT: usize = 4096;
 
+/// The number of the notice `RING` by [`Digester::numeric`], at [`Urc::record`] in the place of a record's: no table has so many.
+pub const RING: u8 = 255;
+
 /// What the bytes from a modem were; the cases are atat's, and a payload or an error's digits are a part of the caller's own input.
 #[derive(Debug, Clone, Copy, PartialEq, Eq)]
 pub enum DigestResult<'a> {
-    /// A notice of the token table.
+    /// A notice of the token table, or [`RING`].
     Urc(Urc<'a>),
     /// An answer: the bytes before `OK` (or another success), trimmed; or an error.
     Response(Result<&'a [u8], InternalError<'a>>),
@@ -21,9 +24,9 @@ pub enum DigestResult<'a> {
 /// A notice: the number of its record in the token table, and its line, trimmed.
 #[derive(Debug, Clone, Copy, PartialEq, Eq)]
 pub struct Urc<'a> {
-    /// The record's number in the table, from 0.
+    /// The record's number in the table, from 0; [`RING`] for the code of that name.
     pub record: u8,
-    /// The whole line, such as `+UUSORD: 0,4`.
+    /// The whole line, such as `+UUSORD: 0,4`; of [`RING`] its digit, `2`.
     pub payload: &'a [u8],
 }
 
@@ -138,7 +141,8 @@ pub(crate) mod kind {
     pub(crate) const CAPACITY: u64 = 14;
 }
 
-/// The answer of a kind, its number, its payload and its digits. Codes are at most 65,535, records at most 63, prompts bytes.
+/// The answer of a kind, its number, its payload and its digits. Codes are at most 65,535, records at most 63 or `RING`, prompts
+/// bytes.
 pub(crate) fn answer<'a>(kind: u64, number: u64, payload: &'a [u8], digits: &'a [u8]) -> DigestResult<'a> {
     let error = match kind {
         kind::OK => return DigestResult::Response(Ok(payload)),
@@ -192,10 +196,11 @@ pub(crate) fn part(memory: &[u8], place: u64, len: u64) -> &[u8] {
 enum Which {
     Verbose = 0,
     Connect = 1,
+    Numeric = 2,
 }
 
 /// The digester, in the place of atat's `AtDigester`: [`new`](Digester::new) hears what atat hears,
-/// [`connect`](Digester::connect) text behind `CONNECT` too.
+/// [`connect`](Digester::connect) text behind `CONNECT` too, and [`numeric`](Digester::numeric) a modem in V0.
 ///
 /// ```
 /// use walumbeex::{Digester, DigestResult, TableBuilder, Urc};
@@ -240,6 +245,51 @@ impl<'t> Digester<'t> {
     #[must_use]
     pub const fn connect(table: Table<'t>) -> Self {
         Self { which: Which::Connect, table: table.as_bytes() }
+    }
+
+    /// A digester of a modem in V0, which ends an answer with a decimal code and CR, no CRLF before it, and information text with
+    /// CRLF; atat hears none of it. It takes no table: the codes are all that it hears, so no prompt and no `+CME ERROR` (with
+    /// `AT+CMEE=0` a modem answers 4 in its place).
+    ///
+    /// | Code | Is | Code | Is |
+    /// |---|---|---|---|
+    /// | 0 | OK | 4 | ERROR |
+    /// | 1 | CONNECT, an Ok too | 6 | NO DIALTONE |
+    /// | 2 | RING, a notice with the number [`RING`] | 7 | BUSY |
+    /// | 3 | NO CARRIER | 8 | NO ANSWER |
+    ///
+    /// A CR is *lone* where no LF stands right behind it; one at the input's end is lone. A line starts at the first byte, behind
+    /// each CRLF and behind each lone CR. A code is one of these digits at a line start and a lone CR right behind it: `10\r`,
+    /// `5\r`, ` 0\r` and `\n0\r` are none. The leftmost code is the answer, and is consumed through its CR with all that stands
+    /// before it; where there is none, the answer is [`DigestResult::None`] and 0 bytes are consumed.
+    ///
+    /// An Ok's payload is what stands before the code, from behind the last lone CR there (an echo ends in one) or from the first
+    /// byte on, trimmed:
+    ///
+    /// ```
+    /// use walumbeex::{DigestResult, Digester, InternalError};
+    /// let digester = Digester::numeric();
+    /// let ok = |payload| DigestResult::Response(Ok(payload));
+    /// assert_eq!(digester.digest(b"AT+CSQ\r+CSQ: 17,99\r\n0\r"), Ok((ok(b"+CSQ: 17,99"), 22)));
+    /// assert_eq!(digester.digest(b"4\r"), Ok((DigestResult::Response(Err(InternalError::Error)), 2)));
+    /// // A line of information that is one digit, and an answer that has it.
+    /// assert_eq!(digester.digest(b"0\r\n"), Ok((DigestResult::None, 0)));
+    /// assert_eq!(digester.digest(b"0\r\n0\r"), Ok((ok(b"0"), 5)));
+    /// ```
+    ///
+    /// What stands before a RING is consumed with it, and not heard:
+    ///
+    /// ```
+    /// use walumbeex::{DigestResult, Digester, Urc, RING};
+    /// let (digester, input) = (Digester::numeric(), b"+CSQ: 1\r\n2\r0\r");
+    /// assert_eq!(digester.digest(input), Ok((DigestResult::Urc(Urc { record: RING, payload: b"2" }), 11)));
+    /// assert_eq!(digester.digest(&input[11..]), Ok((DigestResult::Response(Ok(b"")), 2)));
+    /// ```
+    ///
+    /// What a cut behind a CR does stands at [`Ingress`](crate::Ingress#a-modem-in-v0).
+    #[must_use]
+    pub const fn numeric() -> Self {
+        Self { which: Which::Numeric, table: &[] }
     }
 
     /// As [`new`](Digester::new), over bytes that haven't been checked: each call that uses it checks them, and refuses with 2

@@ -11,7 +11,7 @@
 use crate::Refusal;
 
 /// The version of the calls and arrays below: `WX_VERSION` of `include/walumbeex.h`.
-const VERSION: u32 = 3;
+const VERSION: u32 = 4;
 
 /// The places of a state's nine numbers.
 pub(crate) const END: usize = 0;

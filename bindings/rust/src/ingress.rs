@@ -39,6 +39,44 @@ use crate::{Digester, MemoryError, NoticeQueue, Refusal, ResponseSlot, LONGEST_I
 /// assert_eq!(ingress.res_slot.try_get(), Ok(Some(Response::Ok(b""))));
 /// ```
 ///
+/// # A modem in V0
+///
+/// With [`Digester::numeric`] the answers are codes. A RING comes at [`notices`](Ingress::notices) with the number
+/// [`RING`](crate::RING), though there is no table:
+///
+/// ```
+/// use walumbeex::{Digester, Ingress, Response, Urc, RING};
+///
+/// let (mut buf, mut answer, mut waiting) = ([0; 256], [0; 128], [0; 132]);
+/// let mut ingress = Ingress::new(Digester::numeric(), &mut buf, &mut answer, &mut waiting).unwrap();
+/// ingress.try_write(b"2\rAT+CSQ\r+CSQ: 17,99\r\n0\r").unwrap();
+/// assert_eq!(ingress.notices.take(), Ok(Some(Urc { record: RING, payload: b"2" })));
+/// assert_eq!(ingress.res_slot.try_get(), Ok(Some(Response::Ok(b"+CSQ: 17,99"))));
+/// ```
+///
+/// A CR at the end of what is there ends a code, and an LF that comes later doesn't change that. So a cut between a CR and its
+/// LF changes what is heard, and only in an information line that is exactly one digit of the list:
+///
+/// ```
+/// use walumbeex::{Digester, Ingress, Response};
+///
+/// let (mut buf, mut answer, mut waiting) = ([0; 256], [0; 128], [0; 132]);
+/// let mut ingress = Ingress::new(Digester::numeric(), &mut buf, &mut answer, &mut waiting).unwrap();
+/// ingress.try_write(b"0\r\n0\r").unwrap();
+/// assert_eq!(ingress.res_slot.try_get(), Ok(Some(Response::Ok(b"0"))));
+/// ingress.res_slot.reset().unwrap();
+///
+/// // The same, cut behind the first CR: the line is heard as an Ok, and the code is lost, since no line starts behind a stray LF.
+/// ingress.try_write(b"0\r").unwrap();
+/// assert_eq!(ingress.res_slot.try_get(), Ok(Some(Response::Ok(b""))));
+/// ingress.res_slot.reset().unwrap();
+/// ingress.try_write(b"\n0\r").unwrap();
+/// assert_eq!(ingress.res_slot.try_get(), Ok(None));
+/// assert_eq!(ingress.pending(), b"\n0\r");
+/// ```
+///
+/// So where a read ends in a CR, wait a moment for the line to go quiet, and hand it over with what still came.
+///
 /// # Where a piece is cut
 ///
 /// A `>` or an `@` that nothing but blanks follows is a prompt, as it is for atat, and so is a custom prompt's text. A modem

@@ -8,7 +8,7 @@
 //!
 //! | atat | here |
 //! |---|---|
-//! | `AtDigester`, `with_custom_success`, .. | [`Digester`], [`TableBuilder`]; [`Digester::connect`] hears text behind `CONNECT` too |
+//! | `AtDigester`, `with_custom_success`, .. | [`Digester`], [`TableBuilder`]; [`Digester::connect`] hears text behind `CONNECT` too, [`Digester::numeric`] a modem in V0 |
 //! | `DigestResult`, `InternalError` | [`DigestResult`], [`InternalError`], with an error's digits beside its code |
 //! | `Ingress`, `write_buf`, `try_advance`, `try_write`, `clear` | [`Ingress`], with the same calls |
 //! | `ResponseSlot`, `try_get`, `reset`, `Response` | [`ResponseSlot`] at [`Ingress::res_slot`], [`Response`] |
@@ -38,7 +38,7 @@ mod refusal;
 mod response_slot;
 mod table;
 
-pub use digest::{ConnectionError, DigestResult, Digester, InternalError, Urc, LONGEST_INPUT};
+pub use digest::{ConnectionError, DigestResult, Digester, InternalError, Urc, LONGEST_INPUT, RING};
 pub use ingress::Ingress;
 pub use memory::MemoryError;
 pub use notice_queue::{NoticeQueue, LONGEST_NOTICE, MOST_NOTICES, NOTICE_RECORD};

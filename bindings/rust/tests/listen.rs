@@ -78,6 +78,29 @@ fn connect_with_text_behind_it_where_the_digester_hears_it() {
     assert_eq!((said.status.code(), said.stdout.len()), (Some(2), 0));
 }
 
+/// An echo, a line of information, a code; RING by its name; a line that is one digit; more RINGs than the queue holds.
+#[test]
+fn a_modem_in_v0() {
+    let input = b"AT+CSQ\r+CSQ: 17,99\r\n0\r2\rATD1\r7\r4\r0\r\n1\r2\r2\r2\r2\r2\r2\r";
+    let said = output(program().arg("-").env("DIGESTER", "numeric"), input);
+    let ring = "notice      RING\n";
+    let expected = format!("ok          +CSQ: 17,99\n{ring}connection  Busy\nerror\nok          0\n{}", ring.repeat(6));
+    assert_eq!(String::from_utf8_lossy(&said.stdout), expected);
+    let errors = String::from_utf8_lossy(&said.stderr);
+    assert!(errors.lines().all(|line| line.starts_with("listen: refused 5: ")), "{errors}");
+    assert_eq!((errors.lines().count(), said.status.code()), (2, Some(0)));
+}
+
+/// A NOTICE can't be heard in V0: it isn't taken in silence.
+#[test]
+fn a_notice_in_v0_is_wrong_usage() {
+    let said = output(program().args(["-", "RING"]).env("DIGESTER", "numeric"), b"2\r");
+    let errors = String::from_utf8_lossy(&said.stderr);
+    assert!(errors.starts_with("listen: with DIGESTER=numeric there is no NOTICE: "), "{errors}");
+    assert!(errors.contains("; usage: ") && errors.lines().count() == 1, "{errors}");
+    assert_eq!((said.status.code(), said.stdout.len()), (Some(2), 0));
+}
+
 #[test]
 fn each_notice_once_whatever_the_queue_holds() {
     let mut input = Vec::new();
@@ -185,28 +208,38 @@ fn a_prompt_byte_inside_a_line_is_no_prompt() {
     }
 }
 
-/// Each line is printed when it is heard, while the device is still open; when the modem hangs up, the program ends.
+/// In V0 a read may end between a CR and its LF: what comes at once belongs to that line.
 #[test]
-fn a_device_as_it_speaks() {
+fn a_cr_that_an_lf_follows_ends_no_code() {
+    // With patience, as above.
+    let mut command = program();
+    command.arg("-").envs([("DIGESTER", "numeric"), ("QUIET", "20000")]);
+    let mut child = command.stdin(Stdio::piped()).stdout(Stdio::piped()).spawn().unwrap();
+    let mut line_in = child.stdin.take().unwrap();
+    line_in.write_all(b"0\r").unwrap();
+    thread::sleep(Duration::from_millis(100));
+    line_in.write_all(b"\n0\r").unwrap();
+    drop(line_in);
+    let said = child.wait_with_output().unwrap();
+    assert_eq!(String::from_utf8_lossy(&said.stdout), "ok          0\n");
+}
+
+/// Each line is printed when it is heard, while the device is still open; when the modem hangs up, the program ends.
+fn speaks(digester: &str, notices: &[&str], said: &[(&[u8], &str)]) {
     let (mut modem, host, path) = pty::pseudo_terminal();
-    let mut child = program().args([&path, "RING"]).stdout(Stdio::piped()).spawn().unwrap();
+    let mut child = program().arg(&path).args(notices).env("DIGESTER", digester).stdout(Stdio::piped()).spawn().unwrap();
     let lines = BufReader::new(child.stdout.take().unwrap()).lines();
     let (sender, heard) = mpsc::channel();
     let reader = thread::spawn(move || lines.map_while(Result::ok).for_each(|line| sender.send(line).unwrap_or(())));
     let patience = Duration::from_secs(20);
 
     let mut wrong = Vec::new();
-    for (bytes, line) in [
-        (&b"\r\nRING\r\n"[..], "notice      RING"),
-        (b"ATD1\r\r\nNO CARRIER\r\n", "connection  No carrier"),
-        (b"AT+CMGS=1\r\r\n> ", "prompt      >"),
-        (b"\r\n+CMS ERROR: 0500\r\n", "cms error   0500"),
-    ] {
+    for (bytes, line) in said {
         for piece in bytes.chunks(3) {
             modem.write_all(piece).unwrap();
         }
         match heard.recv_timeout(patience) {
-            Ok(said) if said == line => {}
+            Ok(said) if said == *line => {}
             other => {
                 wrong.push(format!("{other:?} in the place of {line}"));
                 break;
@@ -222,4 +255,34 @@ fn a_device_as_it_speaks() {
     child.wait().unwrap();
     reader.join().unwrap();
     assert!(wrong.is_empty(), "{wrong:?}");
+}
+
+#[test]
+fn a_device_as_it_speaks() {
+    speaks(
+        "verbose",
+        &["RING"],
+        &[
+            (b"\r\nRING\r\n", "notice      RING"),
+            (b"ATD1\r\r\nNO CARRIER\r\n", "connection  No carrier"),
+            (b"AT+CMGS=1\r\r\n> ", "prompt      >"),
+            (b"\r\n+CMS ERROR: 0500\r\n", "cms error   0500"),
+        ],
+    );
+}
+
+/// A code is heard when the line has gone quiet behind its CR; behind an LF that comes later no line starts.
+#[test]
+fn a_device_in_v0_as_it_speaks() {
+    speaks(
+        "numeric",
+        &[],
+        &[
+            (b"2\r", "notice      RING"),
+            (b"AT+CSQ\r+CSQ: 17,99\r\n0\r", "ok          +CSQ: 17,99"),
+            (b"ATD1\r3\r", "connection  No carrier"),
+            (b"0\r", "ok          "),
+            (b"\n0\r7\r", "connection  Busy"),
+        ],
+    );
 }

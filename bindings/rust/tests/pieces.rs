@@ -2,7 +2,7 @@
 //! digesting by hand makes of them.
 
 use std::collections::VecDeque;
-use walumbeex::{DigestResult, Digester, Ingress, InternalError, Refusal, Response, Table, NOTICE_RECORD};
+use walumbeex::{DigestResult, Digester, Ingress, InternalError, Refusal, Response, Table, NOTICE_RECORD, RING};
 
 /// A small generator (splitmix64).
 struct Random(u64);
@@ -63,6 +63,32 @@ const ITEMS: [&[u8]; 35] = [
     b"\r\n+C\r\n",
     b"\r\n",
     b" ",
+    b"a",
+];
+
+/// What a modem in V0 sends, and what it doesn't.
+const V0_ITEMS: [&[u8]; 22] = [
+    b"0\r",
+    b"1\r",
+    b"2\r",
+    b"3\r",
+    b"4\r",
+    b"5\r",
+    b"6\r",
+    b"7\r",
+    b"8\r",
+    b"10\r",
+    b"0\r\n",
+    b"2\r\n",
+    b"+CSQ: 17,99\r\n",
+    b"AT+CSQ\r",
+    b"\r\nOK\r\n",
+    b"\r\n",
+    b"\r",
+    b"\n",
+    b" ",
+    b"0",
+    b"2",
     b"a",
 ];
 
@@ -167,6 +193,7 @@ struct Met {
     digits_left_out: u64,
     answers_lost: u64,
     texts: u64,
+    rings: u64,
     notices: u64,
     notices_lost: u64,
     full: u64,
@@ -192,7 +219,11 @@ impl Met {
 fn run(seed: u64, met: &mut Met) {
     let mut r = Random(seed);
     let table = Table::new(r.one_of(&TABLES)).unwrap();
-    let digester = if r.below(2) == 0 { Digester::new(table) } else { Digester::connect(table) };
+    let (digester, items) = match r.below(3) {
+        0 => (Digester::new(table), &ITEMS[..]),
+        1 => (Digester::connect(table), &ITEMS[..]),
+        _ => (Digester::numeric(), &V0_ITEMS[..]),
+    };
     let (size, slot_size, queue_size) = (1 + r.below(300), r.below(40), 1 + r.below(3));
     let mut memory = (vec![0; size], vec![0; slot_size], vec![0; queue_size * NOTICE_RECORD + r.below(NOTICE_RECORD)]);
     let mut ingress = Ingress::new(digester, &mut memory.0, &mut memory.1, &mut memory.2).unwrap();
@@ -218,7 +249,7 @@ fn run(seed: u64, met: &mut Met) {
                 bytes.resize(bytes.len() + 110 + r.below(20), b'x');
                 bytes.extend_from_slice(b"\r\n");
             }
-            _ => bytes.extend_from_slice(r.one_of(&ITEMS)),
+            _ => bytes.extend_from_slice(r.one_of(items)),
         }
     }
 
@@ -257,6 +288,7 @@ fn run(seed: u64, met: &mut Met) {
                 None => assert_eq!(hand.queue.pop_front(), None, "seed {seed}"),
                 Some(urc) => {
                     met.notices += 1;
+                    met.rings += u64::from(urc.record == RING);
                     assert_eq!(hand.queue.pop_front(), Some((urc.record, urc.payload.to_vec())), "seed {seed}");
                 }
             },
@@ -298,7 +330,7 @@ fn pieces_through_the_ingress_are_what_digesting_by_hand_makes_of_them() {
     }
     println!("fresh seeds from {fresh}: {met:?}");
     let answers = [met.answers, met.digits, met.digits_left_out, met.answers_lost, met.texts];
-    let all = [&answers[..], &[met.notices, met.notices_lost, met.full, met.no_room, met.cleared]].concat();
+    let all = [&answers[..], &[met.notices, met.rings, met.notices_lost, met.full, met.no_room, met.cleared]].concat();
     assert!(all.iter().all(|&n| n > 100), "too few of something: {met:?}");
 }
 

@@ -9,9 +9,9 @@ use borrow.Author.Tests.{le-leb, lt-leb}
 use Rattle.text.specs.Text.{partOf, partAt}
 use Rattle.outcome.specs.Outcome.{Outcome}
 use Rattle.outcome.specs.Laws.{ways}
-use Rattle.lines.specs.declared.Digester.{Digester}
 use Rattle.answers.specs.declared.Answer.{Answer}
-use Rattle.digest.specs.Digest.{digest}
+use Rattle.selector.specs.Selector.{choice, digest}
+use Rattle.selector.specs.declared.Selector.{Selector}
 use Rattle.slot.specs.Slot as slots
 use Rattle.slot.specs.Laws as slot-laws
 use Rattle.slot.specs.declared.Slot.{Slot}
@@ -22,12 +22,12 @@ use Rattle.queue.specs.Queue as queues
 use Rattle.queue.specs.declared.Queue.{Queue}
 use Rattle.queue.specs.declared.Put.{Put}
 use Rattle.queue.specs.declared.Taken.{Taken}
-use Rattle.turn.specs.Turn.{world, choice}
+use Rattle.turn.specs.Turn.{world}
 use Rattle.ingress.specs.Ingress.{Result, advanceSays, advanced, result, writeSays, written, taking}
 use Rattle.turn.specs.declared.State.{State}
 use Rattle.ingress.specs.declared.Advanced.{Advanced}
 use Rattle.ingress.specs.declared.Written.{Written}
-use Rattle.numbers.specs.Numbers.{digesterOf, heldNumber, answerOf, slotOf, queueOf, stateOf, withSlot, withQueue, laid}
+use Rattle.numbers.specs.Numbers.{selectorOf, heldNumber, answerOf, slotOf, queueOf, stateOf, withSlot, withQueue, laid}
 use Rattle.numbers.specs.Laws.{slot-stays, freed-stays}
 use Rattle.gateway.specs.Gateway.{numberOf, valuesOf, Call, call, said, partValues, numbersBy, resetSaid, Turn, turn, signalSaid, putSaid, readValues, gotValues, withGot, Take, took, takeSaid, Whole, whole, leftSaid, wholeSaid, countValues, noValues}
 
@@ -36,8 +36,8 @@ pub says : {A : Type 0} (f : A → List ℕ) (o : List ℕ) (x y : Outcome A) �
 says f o x y e q h = ap (call (numberOf x)) h ∙ ap (λ (z : Outcome _). said f z o) e
 
 -- a digest by the digester that was chosen
-pub chosen : (t s : List ℕ) (d x : Digester) → d ≡ x → (r : Outcome Answer) → r ≡ digest d t s → r ≡ digest x t s
-chosen t s d x e r q = q ∙ ap (λ (y : Digester). digest y t s) e
+pub chosen : (t s : List ℕ) (d x : Selector) → d ≡ x → (r : Outcome Answer) → r ≡ digest d t s → r ≡ digest x t s
+chosen t s d x e r q = q ∙ ap (λ (y : Selector). digest y t s) e
 
 -- where a part of the memory s begins
 module _ (s : List ℕ) (place len : ℕ) where
@@ -94,11 +94,11 @@ pub laid-is : {A R : Type 0} (says : R → Outcome A × State) (f : A → List �
 laid-is says f v o r x q n u k e = e ∙ ap (λ (y : _). leftSaid f (says y) v o) (sym q)
 
 -- from the state s read from the numbers v, by the digester of a number, with what it left of the three memories
-module _ (v o : List ℕ) (s : State) (es : s ≡ stateOf v) (j : ℕ) (d : Digester) (ed : d ≡ digesterOf j) (t b m n b′ m′ n′ : List ℕ) (x : ℕ) (u k : List ℕ) where
-  pub advance-is : (c : ℕ) (r : Advanced) → result s r b′ m′ n′ ≡ advanced (choice d t) c (world s b m n) → took x u k ≡ leftSaid noValues (advanceSays (stateOf v) r) v o → whole x u k b′ m′ n′ ≡ wholeSaid noValues (advanced (choice (digesterOf j) t) c (world (stateOf v) b m n)) v o
+module _ (v o : List ℕ) (s : State) (es : s ≡ stateOf v) (j : ℕ) (d : Selector) (ed : d ≡ selectorOf j) (t b m n b′ m′ n′ : List ℕ) (x : ℕ) (u k : List ℕ) where
+  pub advance-is : (c : ℕ) (r : Advanced) → result s r b′ m′ n′ ≡ advanced (choice d t) c (world s b m n) → took x u k ≡ leftSaid noValues (advanceSays (stateOf v) r) v o → whole x u k b′ m′ n′ ≡ wholeSaid noValues (advanced (choice (selectorOf j) t) c (world (stateOf v) b m n)) v o
   advance-is c r e g = ap (λ (y : Take). whole (y .number) (y .state) (y .out) b′ m′ n′) g ∙ ap (λ (z : Result Unit). wholeSaid noValues z v o) (rw (es, ed) at e)
 
-  pub write-is : (p : List ℕ) (r : Written) → taking s r b′ m′ n′ ≡ written (choice d t) p (world s b m n) → took x u k ≡ leftSaid countValues (writeSays (stateOf v) r) v o → whole x u k b′ m′ n′ ≡ wholeSaid countValues (written (choice (digesterOf j) t) p (world (stateOf v) b m n)) v o
+  pub write-is : (p : List ℕ) (r : Written) → taking s r b′ m′ n′ ≡ written (choice d t) p (world s b m n) → took x u k ≡ leftSaid countValues (writeSays (stateOf v) r) v o → whole x u k b′ m′ n′ ≡ wholeSaid countValues (written (choice (selectorOf j) t) p (world (stateOf v) b m n)) v o
   write-is p r e g = ap (λ (y : Take). whole (y .number) (y .state) (y .out) b′ m′ n′) g ∙ ap (λ (z : Result ℕ). wholeSaid countValues z v o) (rw (es, ed) at e)
 
 -- Where document 01 has a call change nothing, or one thing alone, every other number of the state stays as it stood, in plain form or not.

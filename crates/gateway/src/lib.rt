@@ -6,12 +6,12 @@ ghost use mathlib.Core.Path.{_≡_};
 ghost use lib.ListN.{getD};
 ghost use Rattle.text.specs.Text.{partAt};
 ghost use Rattle.table.specs.Table.{ruling};
-ghost use Rattle.digest.specs.Digest.{digest};
+ghost use Rattle.selector.specs.Selector.{choice, digest};
 ghost use Rattle.slot.specs.Slot.{newSlot, signalled, wasReset, wasRead, readable};
 ghost use Rattle.queue.specs.Queue.{ours, newQueue, capacityOf, putInto, taken};
-ghost use Rattle.turn.specs.Turn.{world, choice};
+ghost use Rattle.turn.specs.Turn.{world};
 ghost use Rattle.ingress.specs.Ingress.{advanceSays, advanced, writeSays, written, cleared};
-ghost use Rattle.numbers.specs.Numbers.{digesterOf, answerOf, slotOf, queueOf, stateOf, withEnd, withSlot, withQueue, laid, answerValues};
+ghost use Rattle.numbers.specs.Numbers.{selectorOf, answerOf, slotOf, queueOf, stateOf, withEnd, withSlot, withQueue, laid, answerValues};
 ghost use Rattle.gateway.specs.Gateway.{call, said, countValues, partValues, resetSaid, turn, signalSaid, putSaid, readValues, took, takeSaid, leftSaid, whole, wholeSaid, noValues};
 use digest::Digested;
 use ingress::Advanced;
@@ -49,14 +49,14 @@ pub extern "C" fn wx_table_check(table: &[u8], out: &mut [u64; OUT]) -> u32
     }
 }
 
-// Digests an input under a table, by the digester of that number (R-3). Answers kind, number, payload's place and length, bytes consumed, digits' place and length
+// Digests an input under a table, by the digester of that number (R-1, R-3). Answers kind, number, payload's place and length, bytes consumed, digits' place and length
 // (R-2), text's place and length (R-3); refusal 2 the faulty record's number.
 #[no_mangle]
 pub extern "C" fn wx_digest(digester: u32, table: &[u8], input: &[u8], out: &mut [u64; OUT]) -> u32
-    ensures { λ r. ⌜ call r (now (out .exit)) ≡ said answerValues (digest (digesterOf digester) (now (table .entry)) (now (input .entry))) (now (out .entry)) ⌝ }
+    ensures { λ r. ⌜ call r (now (out .exit)) ≡ said answerValues (digest (selectorOf digester) (now (table .entry)) (now (input .entry))) (now (out .entry)) ⌝ }
 {
-    let chosen = numbers::digester_of(digester);
-    match digest::digest(chosen, table, input) {
+    let chosen = numbers::selector_of(digester);
+    match selector::digest(chosen, table, input) {
         Digested::Is(a) => {
             numbers::lay_answer(out, a);
             0
@@ -264,9 +264,9 @@ pub extern "C" fn wx_ingress_advance(
     queue_mem: &mut [u8],
     out: &mut [u64; OUT],
 ) -> u32
-    ensures { λ r. ⌜ whole r (now (state .exit)) (now (out .exit)) (now (buf .exit)) (now («slot_mem» .exit)) (now («queue_mem» .exit)) ≡ wholeSaid noValues (advanced (choice (digesterOf digester) (now (table .entry))) commit (world (stateOf (now (state .entry))) (now (buf .entry)) (now («slot_mem» .entry)) (now («queue_mem» .entry)))) (now (state .entry)) (now (out .entry)) ⌝ }
+    ensures { λ r. ⌜ whole r (now (state .exit)) (now (out .exit)) (now (buf .exit)) (now («slot_mem» .exit)) (now («queue_mem» .exit)) ≡ wholeSaid noValues (advanced (choice (selectorOf digester) (now (table .entry))) commit (world (stateOf (now (state .entry))) (now (buf .entry)) (now («slot_mem» .entry)) (now («queue_mem» .entry)))) (now (state .entry)) (now (out .entry)) ⌝ }
 {
-    let chosen = numbers::digester_of(digester);
+    let chosen = numbers::selector_of(digester);
     let what = ingress::advance(
         numbers::state_of(state),
         commit,
@@ -315,9 +315,9 @@ pub extern "C" fn wx_ingress_write(
     queue_mem: &mut [u8],
     out: &mut [u64; OUT],
 ) -> u32
-    ensures { λ r. ⌜ whole r (now (state .exit)) (now (out .exit)) (now (buf .exit)) (now («slot_mem» .exit)) (now («queue_mem» .exit)) ≡ wholeSaid countValues (written (choice (digesterOf digester) (now (table .entry))) (now (piece .entry)) (world (stateOf (now (state .entry))) (now (buf .entry)) (now («slot_mem» .entry)) (now («queue_mem» .entry)))) (now (state .entry)) (now (out .entry)) ⌝ }
+    ensures { λ r. ⌜ whole r (now (state .exit)) (now (out .exit)) (now (buf .exit)) (now («slot_mem» .exit)) (now («queue_mem» .exit)) ≡ wholeSaid countValues (written (choice (selectorOf digester) (now (table .entry))) (now (piece .entry)) (world (stateOf (now (state .entry))) (now (buf .entry)) (now («slot_mem» .entry)) (now («queue_mem» .entry)))) (now (state .entry)) (now (out .entry)) ⌝ }
 {
-    let chosen = numbers::digester_of(digester);
+    let chosen = numbers::selector_of(digester);
     let what = ingress::write(
         numbers::state_of(state),
         piece,
@@ -341,10 +341,10 @@ pub extern "C" fn wx_ingress_clear(state: &mut [u64; NUMBERS])
 }
 
 // The version of these exports, for a caller to compare with the one it was written for: one more whenever a call's parameters, a lent array's length or the
-// meaning of a number in one changes.
+// meaning of a number in either changes.
 #[no_mangle]
 pub extern "C" fn wx_version() -> u32
-    ensures { λ r. ⌜ r ≡ 3 ⌝ }
+    ensures { λ r. ⌜ r ≡ 4 ⌝ }
 {
-    3
+    4
 }

@@ -119,7 +119,14 @@ pub fn advance(
     ensures nothing_left { λ r. ⌜ NothingLeft (choice selector (now (table .entry))) (result state r (now (buf .exit)) (now («slot_mem» .exit)) (now («queue_mem» .exit))) ⌝ }
 {
     let room = buf.len();
-    match judge(selector, state, table, room, slot_mem.len(), queue_mem.len()) {
+    match judge(
+        selector,
+        state,
+        table,
+        room,
+        slot_mem.len(),
+        queue_mem.len(),
+    ) {
         Checks::TooLong => Advanced::TooLong,
         Checks::BadTable(k) => Advanced::BadTable(k),
         Checks::BadState => Advanced::BadState,
@@ -245,7 +252,14 @@ pub fn write(
     ensures keeps { λ r. ⌜ Keeps (choice selector (now (table .entry))) (world state (now (buf .entry)) (now («slot_mem» .entry)) (now («queue_mem» .entry))) (take (tookOf (taking state r (now (buf .exit)) (now («slot_mem» .exit)) (now («queue_mem» .exit)) .said)) (now (piece .entry))) (taking state r (now (buf .exit)) (now («slot_mem» .exit)) (now («queue_mem» .exit))) ⌝ }
     ensures nothing_left { λ r. ⌜ NothingAfter (choice selector (now (table .entry))) (taking state r (now (buf .exit)) (now («slot_mem» .exit)) (now («queue_mem» .exit))) ⌝ }
 {
-    match judge(selector, state, table, buf.len(), slot_mem.len(), queue_mem.len()) {
+    match judge(
+        selector,
+        state,
+        table,
+        buf.len(),
+        slot_mem.len(),
+        queue_mem.len(),
+    ) {
         Checks::TooLong => Written::TooLong,
         Checks::BadTable(k) => Written::BadTable(k),
         Checks::BadState => Written::BadState,

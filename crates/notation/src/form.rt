@@ -1,11 +1,11 @@
 // The digester that a line chooses, its form, and the state that it starts from where it has one.
 use fields::Amount;
 use fields::LENGTH;
-use lines::Digester;
+use selector::Selector;
 
-// The digester that the first field chooses (R-3), and where the fields behind that word begin; without a word it is document 01's, and all fields count.
+// The digester that the first field chooses (R-1, R-3), and where the fields behind that word begin; without a word it is document 01's, and all fields count.
 pub struct Chosen {
-    pub digester: Digester,
+    pub selector: Selector,
     pub from: usize,
 }
 
@@ -13,24 +13,30 @@ pub struct Chosen {
 pub fn first_word(line: &[u8]) -> Chosen {
     if line.len() == LENGTH {
         return Chosen {
-            digester: Digester::Verbose,
+            selector: Selector::Verbose,
             from: 0,
         };
     }
     if text::matches_at(line, 0, b"connect ") {
         return Chosen {
-            digester: Digester::Connect,
+            selector: Selector::Connect,
+            from: 8,
+        };
+    }
+    if text::matches_at(line, 0, b"numeric ") {
+        return Chosen {
+            selector: Selector::Numeric,
             from: 8,
         };
     }
     if text::matches_at(line, 0, b"verbose ") {
         return Chosen {
-            digester: Digester::Verbose,
+            selector: Selector::Verbose,
             from: 8,
         };
     }
     Chosen {
-        digester: Digester::Verbose,
+        selector: Selector::Verbose,
         from: 0,
     }
 }

@@ -2,8 +2,8 @@
 // in `fields`; `say` prints. It is part of a harness and promises only that it doesn't trip; what is answered is held to a file of another origin (tests/model.py).
 //
 // A line has at most 65,535 bytes before its end, and its fields stand apart by one space. Blank lines and lines that begin with `#` are skipped.
-// The first field may be `verbose` or `connect`, the digester of the case (R-3); without it that is `verbose`, document 01's. Of the fields behind it, a comma in
-// the first tells the form, else their number does.
+// The first field may be `verbose`, `connect` (R-3) or `numeric` (R-1), the digester of the case; without it that is `verbose`, document 01's. Of the fields behind
+// it, a comma in the first tells the form, else their number does.
 // TABLE INPUT is a digest case; TABLE BUFFER SLOT-MEMORY QUEUE-MEMORY OPS an ingress case from end 0, a new slot and an empty queue;
 // STATE TABLE BUFFER SLOT-MEMORY QUEUE-MEMORY OPS one from any state, where STATE is
 // END,SIGNALLED,LENGTH,SLOT-LOST,START,COUNT,QUEUE-LOST (SIGNALLED 0 or 1; the slot holds an Ok).

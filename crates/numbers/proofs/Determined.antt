@@ -3,8 +3,8 @@ use mathlib.Core.Path.{_≡_, sym, _∙_}
 use Rattle.outcome.specs.One.{Alike, One}
 use Rattle.numbers.proofs as calls
 
-pub digester-of-one : One calls.digester_of.Reads.Post
-digester-of-one κs a r q s t h g = h ∙ sym g
+pub selector-of-one : One calls.selector_of.Reads.Post
+selector-of-one κs a r q s t h g = h ∙ sym g
 
 pub held-number-one : One calls.held_number.Reads.Post
 held-number-one κs a r q s t h g = h ∙ sym g

@@ -11,14 +11,14 @@ use borrow.Author.Tests.{lt-ltb, le-ltb, ltb-true, ltb-false, eq-eqb, ne-eqb, eq
 use Rattle.outcome.specs.Outcome.{if_then_else_}
 use Rattle.outcome.specs.Laws.{ways}
 use Rattle.text.specs.Logic.{and-both, order}
-use Rattle.lines.specs.declared.Digester.the-variants as digester
+use Rattle.selector.specs.declared.Selector.the-variants.{Verbose}
 use Rattle.answers.specs.declared.Kind.{Kind}
 use Rattle.answers.specs.declared.Kind.the-variants as kind
 use Rattle.slot.specs.Slot.{freed}
 use Rattle.slot.specs.declared.Held.{Held}
 use Rattle.slot.specs.declared.Held.the-variants.{Heard, Capacity}
 use Rattle.turn.specs.declared.State.{State}
-use Rattle.numbers.specs.Numbers.{digesterOf, kindNumber, kinds, kindOf, word, heldNumber, heldOf, slotOf, stateOf, kept, withSlot, withState}
+use Rattle.numbers.specs.Numbers.{selectorOf, kindNumber, kinds, kindOf, word, heldNumber, heldOf, slotOf, stateOf, kept, withSlot, withState}
 
 -- what a slot holds
 pub held-capacity : (n : ℕ) → 13 < n → Capacity ≡ heldOf n
@@ -39,12 +39,9 @@ none-below : (k n : ℕ) → NoneBelow k n → k ≤ n
 none-below zero n h = omega arith
 none-below (suc k) n h = up k n (none-below k n (h .0)) (h .1)
 
--- 1 is the number of the digester that hears a text; any other is that of document 01's
-pub digester-connect : (n : ℕ) → n ≡ 1 → digester.Connect ≡ digesterOf n
-digester-connect n e = rw e
-
-pub digester-other : (n : ℕ) → Unit {0} × (n ≡ 1 → ⊥) → digester.Verbose ≡ digesterOf n
-digester-other n h = rw (ne-eqb n 1 (h .1))
+-- a number that is no other digester's is that of document 01's
+pub selector-other : (n : ℕ) → (n ≡ 1 → ⊥) → (n ≡ 2 → ⊥) → Verbose ≡ selectorOf n
+selector-other n h g = rw (ne-eqb n 1 h, ne-eqb n 2 g)
 
 -- a number over 13 is no kind's
 pub kind-none : (n : ℕ) → NoneBelow 14 n → kind.None ≡ kindOf n

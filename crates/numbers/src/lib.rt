@@ -5,11 +5,11 @@ ghost use mathlib.Core.Path.{_≡_};
 ghost use Prim.Native.Nat.{_<_};
 ghost use lib.ListN.{getD};
 ghost use Rattle.outcome.specs.Outcome.{if_then_else_};
-ghost use Rattle.numbers.specs.Numbers.{digesterOf, kindNumber, kindOf, word, heldNumber, heldOf, answerOf, slotOf, queueOf, stateOf, kept, withSlot, withQueue, withState, laid, answerValues};
+ghost use Rattle.numbers.specs.Numbers.{selectorOf, kindNumber, kindOf, word, heldNumber, heldOf, answerOf, slotOf, queueOf, stateOf, kept, withSlot, withQueue, withState, laid, answerValues};
 use answers::Answer;
 use answers::Kind;
-use lines::Digester;
 use queue::Queue;
+use selector::Selector;
 use slot::Held;
 use slot::Slot;
 use turn::State;
@@ -48,13 +48,14 @@ const MOST_HELD: u64 = 14;
 
 const MOST_WORD: u64 = 4294967295;
 
-// The digester of a number (R-3): 0 document 01's, 1 the one that hears the text of a CONNECT line too; any other number reads as 0.
-pub fn digester_of(n: u32) -> Digester
-    ensures { λ r. ⌜ r ≡ digesterOf n ⌝ }
+// The digester of a number: 0 document 01's, 1 the one that hears the text of a CONNECT line too (R-3), 2 the one for V0 (R-1); any other number reads as 0.
+pub fn selector_of(n: u32) -> Selector
+    ensures { λ r. ⌜ r ≡ selectorOf n ⌝ }
 {
     match n {
-        1 => Digester::Connect,
-        _ => Digester::Verbose,
+        1 => Selector::Connect,
+        2 => Selector::Numeric,
+        _ => Selector::Verbose,
     }
 }
 

@@ -3,10 +3,10 @@ use answers::Kind;
 use fields::Memory;
 use ingress::Advanced;
 use ingress::Written;
-use lines::Digester;
 use notation::op::Op;
 use queue::Notice;
 use queue::Taken;
+use selector::Selector;
 use slot::Held;
 use slot::Looked;
 use slot::Reset;
@@ -44,13 +44,13 @@ fn leaving(s: State, o: Answered) -> Left {
 fn do_write(
     now: State,
     p: &[u8],
-    digester: Digester,
+    selector: Selector,
     table: &[u8],
     buf: &mut [u8],
     slot_mem: &mut [u8],
     queue_mem: &mut [u8],
 ) -> Left {
-    match ingress::write(now, p, digester, table, buf, slot_mem, queue_mem) {
+    match ingress::write(now, p, selector, table, buf, slot_mem, queue_mem) {
         Written::Is(s, n) => leaving(s, Answered::Took(n)),
         Written::TooLong => leaving(now, Answered::Refused(1)),
         Written::BadTable(k) => leaving(now, Answered::BadTable(k)),
@@ -62,13 +62,13 @@ fn do_write(
 fn do_advance(
     now: State,
     n: usize,
-    digester: Digester,
+    selector: Selector,
     table: &[u8],
     buf: &mut [u8],
     slot_mem: &mut [u8],
     queue_mem: &mut [u8],
 ) -> Left {
-    match ingress::advance(now, n, digester, table, buf, slot_mem, queue_mem) {
+    match ingress::advance(now, n, selector, table, buf, slot_mem, queue_mem) {
         Advanced::Is(s) => leaving(s, Answered::Advanced),
         Advanced::TooLong => leaving(now, Answered::Refused(1)),
         Advanced::BadTable(k) => leaving(now, Answered::BadTable(k)),
@@ -129,7 +129,7 @@ fn perform(
     op: Op,
     now: State,
     piece: &[u8],
-    digester: Digester,
+    selector: Selector,
     table: &[u8],
     buf: &mut [u8],
     slot_mem: &mut [u8],
@@ -138,11 +138,11 @@ fn perform(
     match op {
         Op::Write(len) => {
             let p = text::part(piece, 0, len);
-            do_write(now, p, digester, table, buf, slot_mem, queue_mem)
+            do_write(now, p, selector, table, buf, slot_mem, queue_mem)
         }
         Op::Advance(n, len) => {
             moves::put(buf, now.end, text::part(piece, 0, len));
-            do_advance(now, n, digester, table, buf, slot_mem, queue_mem)
+            do_advance(now, n, selector, table, buf, slot_mem, queue_mem)
         }
         Op::Clear => do_clear(now),
         Op::Reset => do_reset(now, slot_mem),
@@ -219,7 +219,7 @@ pub fn do_op(
     s: &[u8],
     now: Said,
     piece: &mut Memory,
-    digester: Digester,
+    selector: Selector,
     table: &[u8],
     buf: &mut [u8],
     slot_mem: &mut [u8],
@@ -228,7 +228,7 @@ pub fn do_op(
 ) -> Said {
     let op = notation::op::read_op(s, piece);
     let state = now.state;
-    let done = perform(op, state, piece, digester, table, buf, slot_mem, queue_mem);
+    let done = perform(op, state, piece, selector, table, buf, slot_mem, queue_mem);
     let next = done.state;
     let outcome = done.outcome;
     let used = say_outcome(outcome, slot_mem, queue_mem, out, now.at);

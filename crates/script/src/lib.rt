@@ -5,11 +5,11 @@ use answers::Kind;
 use data::Filled;
 use digest::Digested;
 use fields::Memory;
-use lines::Digester;
 use notation::form::Form;
 use notation::form::Start;
 use ops::Said;
 use queue::Queue;
+use selector::Selector;
 use slot::Held;
 use slot::Slot;
 use turn::State;
@@ -19,7 +19,7 @@ fn do_all(
     ops: &[u8],
     first: Said,
     piece: &mut Memory,
-    digester: Digester,
+    selector: Selector,
     table: &[u8],
     buf: &mut [u8],
     slot_mem: &mut [u8],
@@ -36,7 +36,7 @@ fn do_all(
             one,
             said,
             piece,
-            digester,
+            selector,
             table,
             buf,
             slot_mem,
@@ -95,7 +95,7 @@ fn run_script(
     ops: &[u8],
     first: Said,
     piece: &mut Memory,
-    digester: Digester,
+    selector: Selector,
     table: &[u8],
     buf: &mut [u8],
     slot_mem: &mut [u8],
@@ -106,7 +106,7 @@ fn run_script(
         ops,
         first,
         piece,
-        digester,
+        selector,
         table,
         buf,
         slot_mem,
@@ -122,7 +122,7 @@ fn cut_script(
     first: Said,
     len: Lengths,
     piece: &mut Memory,
-    digester: Digester,
+    selector: Selector,
     table: &[u8],
     buf: &mut [u8],
     slot_mem: &mut [u8],
@@ -145,7 +145,7 @@ fn cut_script(
         ops,
         first,
         piece,
-        digester,
+        selector,
         text::part(table, 0, len.table),
         &mut buf[..b],
         &mut slot_mem[..s],
@@ -205,7 +205,7 @@ fn script_case(
     line: &[u8],
     k: usize,
     start: State,
-    digester: Digester,
+    selector: Selector,
     piece: &mut Memory,
     table: &mut Memory,
     buf: &mut Memory,
@@ -230,7 +230,7 @@ fn script_case(
         first,
         len,
         piece,
-        digester,
+        selector,
         table,
         buf,
         slot_mem,
@@ -294,8 +294,8 @@ fn say_answer(a: Answer, out: &mut Memory, at: usize) -> usize {
 }
 
 // Digests, and says the answer or the refusal.
-fn do_digest(digester: Digester, table: &[u8], input: &[u8], out: &mut Memory, at: usize) -> usize {
-    match digest::digest(digester, table, input) {
+fn do_digest(selector: Selector, table: &[u8], input: &[u8], out: &mut Memory, at: usize) -> usize {
+    match selector::digest(selector, table, input) {
         Digested::Is(a) => say_answer(a, out, at),
         Digested::TooLong => say::words(out, at, b"refused 1\n"),
         Digested::BadTable(k) => {
@@ -308,7 +308,7 @@ fn do_digest(digester: Digester, table: &[u8], input: &[u8], out: &mut Memory, a
 // The case TABLE INPUT.
 fn digest_case(
     line: &[u8],
-    digester: Digester,
+    selector: Selector,
     table: &mut Memory,
     buf: &mut Memory,
     out: &mut Memory,
@@ -321,7 +321,7 @@ fn digest_case(
         return say::bad_line(out, at);
     };
     do_digest(
-        digester,
+        selector,
         text::part(table, 0, t),
         text::part(buf, 0, n),
         out,
@@ -358,16 +358,16 @@ pub fn answer(
     at: usize,
 ) -> usize {
     let chosen = notation::form::first_word(line);
-    let digester = chosen.digester;
+    let selector = chosen.selector;
     let rest = fields::between(line, chosen.from, line.len());
     match case_of(rest) {
-        Case::Digest => digest_case(rest, digester, table, buf, out, at),
+        Case::Digest => digest_case(rest, selector, table, buf, out, at),
         Case::Script(k, start) => {
             script_case(
                 rest,
                 k,
                 start,
-                digester,
+                selector,
                 piece,
                 table,
                 buf,

@@ -1,4 +1,4 @@
--- `wx_digest` meets its contract: it equals `digest::digest`.
+-- `wx_digest` meets its contract: it equals `selector::digest`.
 use mathlib.Core.Path.{refl, sym, ap, _∙_}
 use Rattle.numbers.specs.Numbers.{answerValues}
 use Rattle.gateway.specs.Laws.{says, chosen}
@@ -7,8 +7,8 @@ use borrow.Author.Needs.{needs}
 use Rattle.gateway.proofs.wx_digest.Statement.{statement}
 use Rattle.gateway.proofs.wx_digest.Tie as tie
 
-digester-of-requires : tie.Need-digester-of-requires
-digester-of-requires c κs = search needs
+selector-of-requires : tie.Need-selector-of-requires
+selector-of-requires c κs = search needs
 
 digest-requires : tie.Need-digest-requires
 digest-requires c κs = search needs
@@ -31,30 +31,30 @@ element-write-out c = search needs
 returns : tie.Need-returns
 returns c =
     let args = c .before .before .before .before .before .before .before .before .before .args in
-    let digester-of = c .before .before .before .before .before .before .digester-of in
+    let selector-of = c .before .before .before .before .before .before .selector-of in
     let digest = c .before .before .before .before .before .digest in
     let a = c .before .before .before .a in
-    says answerValues _ _ _ (ap digests.outcome (sym (a .given .1)) ∙ chosen (args .table .now) (args .input .now) _ _ (digester-of .ensures) _ (digest .ensures .0)) _ (c .lay-answer .ensures)
+    says answerValues _ _ _ (ap digests.outcome (sym (a .given .1)) ∙ chosen (args .table .now) (args .input .now) _ _ (selector-of .ensures) _ (digest .ensures)) _ (c .lay-answer .ensures)
 
 returns-2 : tie.Need-returns-2
 returns-2 c =
     let args = c .before .before .before .before .before .before .args in
-    let digester-of = c .before .before .before .digester-of in
+    let selector-of = c .before .before .before .selector-of in
     let digest = c .before .before .digest in
-    says answerValues (args .out .now) _ _ (ap digests.outcome (sym (c .enum-told .given .1)) ∙ chosen (args .table .now) (args .input .now) _ _ (digester-of .ensures) _ (digest .ensures .0)) (args .out .now) refl
+    says answerValues (args .out .now) _ _ (ap digests.outcome (sym (c .enum-told .given .1)) ∙ chosen (args .table .now) (args .input .now) _ _ (selector-of .ensures) _ (digest .ensures)) (args .out .now) refl
 
 returns-3 : tie.Need-returns-3
 returns-3 c =
     let args = c .before .before .before .before .before .before .before .args in
-    let digester-of = c .before .before .before .before .digester-of in
+    let selector-of = c .before .before .before .before .selector-of in
     let digest = c .before .before .before .digest in
-    says answerValues (args .out .now) _ _ (ap digests.outcome (sym (c .before .k .given .1)) ∙ chosen (args .table .now) (args .input .now) _ _ (digester-of .ensures) _ (digest .ensures .0)) _ refl
+    says answerValues (args .out .now) _ _ (ap digests.outcome (sym (c .before .k .given .1)) ∙ chosen (args .table .now) (args .input .now) _ _ (selector-of .ensures) _ (digest .ensures)) _ refl
 
 pub wx-digest-spec : {M : Type 1} → statement M
 wx-digest-spec =
     tie.close
     (tie.spec
-    digester-of-requires
+    selector-of-requires
     digest-requires
     enum-known-a
     lay-answer-requires

@@ -4,8 +4,8 @@ use borrow.Author.Needs.{needs}
 use Rattle.gateway.proofs.wx_ingress_advance.Statement.{statement}
 use Rattle.gateway.proofs.wx_ingress_advance.Tie as tie
 
-digester-of-requires : tie.Need-digester-of-requires
-digester-of-requires c κs = search needs
+selector-of-requires : tie.Need-selector-of-requires
+selector-of-requires c κs = search needs
 
 state-of-requires : tie.Need-state-of-requires
 state-of-requires c κs = search needs
@@ -28,16 +28,16 @@ same-length-3 c = search needs
 returns : tie.Need-returns
 returns c =
     let args = c .before .before .before .before .before .before .before .before .before .before .before .before .before .before .before .before .before .before .before .before .args in
-    let digester-of = c .before .before .before .before .before .before .before .before .before .before .before .before .before .before .before .digester-of in
+    let selector-of = c .before .before .before .before .before .before .before .before .before .before .before .before .before .before .before .selector-of in
     let state-of = c .before .before .before .before .before .before .before .before .before .before .before .before .before .state-of in
     let advance = c .before .before .before .before .before .before .before .before .before .advance in
-    advance-is (args .state .now) (args .out .now) _ (state-of .ensures) (args .digester) _ (digester-of .ensures) (args .table .now) (args .buf .now) (args .slot-mem .now) (args .queue-mem .now) _ _ _ _ _ _ (args .commit) (advance .result) (advance .ensures .0) (c .lay-advanced .ensures)
+    advance-is (args .state .now) (args .out .now) _ (state-of .ensures) (args .digester) _ (selector-of .ensures) (args .table .now) (args .buf .now) (args .slot-mem .now) (args .queue-mem .now) _ _ _ _ _ _ (args .commit) (advance .result) (advance .ensures .0) (c .lay-advanced .ensures)
 
 pub wx-ingress-advance-spec : {M : Type 1} → statement M
 wx-ingress-advance-spec =
     tie.close
     (tie.spec
-    digester-of-requires
+    selector-of-requires
     state-of-requires
     advance-requires
     lay-advanced-requires

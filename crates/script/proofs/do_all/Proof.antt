@@ -6,10 +6,10 @@ use Rattle.script.proofs.do_all.Statement.{statement}
 use Rattle.script.proofs.do_all.Tie as tie
 
 abbrev Inv-loop : tie.InvT-loop
-Inv-loop ops piece₀ digester table buf₀ slot-mem₀ queue-mem₀ out₀ said₀ from₀ left₀ piece buf slot-mem queue-mem out said from left = (length buf ≡ length buf₀) × ((length slot-mem ≡ length slot-mem₀) × (length queue-mem ≡ length queue-mem₀))
+Inv-loop ops piece₀ selector table buf₀ slot-mem₀ queue-mem₀ out₀ said₀ from₀ left₀ piece buf slot-mem queue-mem out said from left = (length buf ≡ length buf₀) × ((length slot-mem ≡ length slot-mem₀) × (length queue-mem ≡ length queue-mem₀))
 
 abbrev μ-loop : tie.MeasureT-loop
-μ-loop ops piece₀ digester table buf₀ slot-mem₀ queue-mem₀ out₀ said₀ from₀ left₀ piece buf slot-mem queue-mem out said from left = left
+μ-loop ops piece₀ selector table buf₀ slot-mem₀ queue-mem₀ out₀ said₀ from₀ left₀ piece buf slot-mem queue-mem out said from left = left
 
 count-requires : tie.Need-count-requires Inv-loop μ-loop
 count-requires c κs = search needs
