@@ -19,11 +19,15 @@ trimmed-part-requires-2 c κs = search needs
 
 returns : tie.Need-returns
 unfolding along
-returns c = rw (c .before .before .match .keys1, c .trimmed-part .ensures, c .before .behind .ensures)
+returns c =
+    let match = c .before .before .match in
+    rw (match .keys1, c .trimmed-part .ensures, c .before .behind .ensures)
 
 returns-2 : tie.Need-returns-2
 unfolding along
-returns-2 c = rw (c .before .before .match .keys2, c .trimmed-part2 .ensures, c .before .behind2 .ensures)
+returns-2 c =
+    let match = c .before .before .match in
+    rw (match .keys2, c .trimmed-part2 .ensures, c .before .behind2 .ensures)
 
 returns-3 : tie.Need-returns-3
 unfolding along
@@ -32,7 +36,8 @@ returns-3 c = rw (c .match .keys3)
 returns-4 : tie.Need-returns-4
 unfolding along
 returns-4 c =
-    let b = c .before .before .args .b in
+    let args = c .before .before .args in
+    let b = args .b in
     let n = c .match .rest in
     rw (ne-eqb b 48 (n .0 .0 .1), ne-eqb b 49 (n .0 .1), ne-eqb b 50 (n .1))
 

@@ -24,7 +24,11 @@ is-lone-requires : tie.Need-is-lone-requires Inv-loop μ-loop
 is-lone-requires c κs = search needs
 
 returns : tie.Need-returns Inv-loop μ-loop
-returns c = behind-stop (c .before .before .before .before .before .args .s .now) (c .before .before .before .loop .k) (c .before .before .loop-test .taken) (sym (c .before .is-lone .ensures) ∙ c .if1 .taken) ∙ sym (c .before .before .before .loop .inv)
+returns c =
+    let args = c .before .before .before .before .before .args in
+    let loop = c .before .before .before .loop in
+    let loop-test = c .before .before .loop-test in
+    _∙_ {b = loop .k} (omega arith) (behind-stop (args .s .now) (loop .k) (loop-test .taken) (sym (c .before .is-lone .ensures) ∙ c .if1 .taken) ∙ sym (loop .inv))
 
 sub-k : tie.Need-sub-k Inv-loop μ-loop
 sub-k c = omega arith
@@ -33,11 +37,18 @@ loop-less : tie.Need-loop-less Inv-loop μ-loop
 loop-less c = omega arith
 
 loop-again : tie.Need-loop-again Inv-loop μ-loop
-loop-again c = c .before .before .before .loop .inv ∙ behind-less (c .before .before .before .before .before .args .s .now) (c .before .before .before .loop .k) (c .before .before .loop-test .taken) (sym (c .before .is-lone .ensures) ∙ c .if1 .left)
+loop-again c =
+    let args = c .before .before .before .before .before .args in
+    let loop = c .before .before .before .loop in
+    let loop-test = c .before .before .loop-test in
+    loop .inv ∙ behind-less (args .s .now) (loop .k) (loop-test .taken) (sym (c .before .is-lone .ensures) ∙ c .if1 .left)
 
 returns-2 : tie.Need-returns-2 Inv-loop μ-loop
 unfolding behind
-returns-2 c = let z : c .before .loop .k ≡ 0 = omega arith in z ∙ sym (c .before .loop .inv ∙ ap (behind (c .before .before .before .args .s .now)) z)
+returns-2 c =
+    let args = c .before .before .before .args in
+    let loop = c .before .loop in
+    let z : loop .k ≡ 0 = omega arith in z ∙ sym (loop .inv ∙ ap (behind (args .s .now)) z)
 
 pub behind-spec : {M : Type 1} → statement M
 behind-spec =

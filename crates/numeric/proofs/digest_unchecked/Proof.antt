@@ -12,7 +12,10 @@ enum-known-p : tie.Need-enum-known-p
 enum-known-p c = search needs
 
 said-requires : tie.Need-said-requires
-said-requires c κs = leftmost-fits (c .before .before .before .before .before .args .input .now) _ (c .before .before .before .leftmost .ensures) _ (c .before .p .given .1)
+said-requires c κs =
+    let args = c .before .before .before .before .before .args in
+    let leftmost = c .before .before .before .leftmost in
+    leftmost-fits (args .input .now) _ (leftmost .ensures) _ (c .before .p .given .1)
 
 enum-told : tie.Need-enum-told
 enum-told c = search needs
@@ -21,10 +24,17 @@ nothing-requires : tie.Need-nothing-requires
 nothing-requires c κs = search needs
 
 returns : tie.Need-returns
-returns c = unchecked-at (c .before .before .before .before .before .before .args .input .now) _ (c .before .before .before .before .leftmost .ensures) _ (c .before .before .p .given .1) _ (c .said .ensures)
+returns c =
+    let args = c .before .before .before .before .before .before .args in
+    let leftmost = c .before .before .before .before .leftmost in
+    let p = c .before .before .p in
+    unchecked-at (args .input .now) _ (leftmost .ensures) _ (p .given .1) _ (c .said .ensures)
 
 returns-2 : tie.Need-returns-2
-returns-2 c = unchecked-none (c .before .before .before .before .before .args .input .now) _ (c .before .before .before .leftmost .ensures) (c .before .enum-told .given .1) _ (c .nothing .ensures)
+returns-2 c =
+    let args = c .before .before .before .before .before .args in
+    let leftmost = c .before .before .before .leftmost in
+    unchecked-none (args .input .now) _ (leftmost .ensures) (c .before .enum-told .given .1) _ (c .nothing .ensures)
 
 pub digest-unchecked-spec : {M : Type 1} → statement M
 digest-unchecked-spec =

@@ -21,7 +21,9 @@ is-lone-requires : tie.Need-is-lone-requires
 is-lone-requires c κs = search needs
 
 returns-2 : tie.Need-returns-2
-returns-2 c = rw (sym (c .before .before .is-digit .ensures) ∙ not-false _ (c .before .if1 .left)) (c .is-lone .ensures)
+returns-2 c =
+    let is-digit = c .before .before .is-digit in
+    rw (sym (is-digit .ensures) ∙ not-false _ (c .before .if1 .left)) (c .is-lone .ensures)
 
 pub is-code-spec : {M : Type 1} → statement M
 is-code-spec =

@@ -21,29 +21,56 @@ is-code-requires : tie.Need-is-code-requires Inv-loop μ-loop
 is-code-requires c κs = c .loop-test .taken
 
 returns : tie.Need-returns Inv-loop μ-loop
-returns c = walk-found (c .before .before .before .before .before .args .s .now) (c .before .before .before .loop .p) (c .before .before .before .loop .inv) (sym (c .before .is-code .ensures) ∙ c .if1 .taken)
+returns c =
+    let args = c .before .before .before .before .before .args in
+    let loop = c .before .before .before .loop in
+    walk-found (args .s .now) (loop .p) (loop .inv) (sym (c .before .is-code .ensures) ∙ c .if1 .taken)
 
 next-cr-requires : tie.Need-next-cr-requires Inv-loop μ-loop
 next-cr-requires c κs = tt
 
 returns-2 : tie.Need-returns-2 Inv-loop μ-loop
-returns-2 c = walk-last (c .before .before .before .before .before .before .before .args .s .now) (c .before .before .before .before .before .loop .p) (c .before .before .before .before .before .loop .inv) (sym (c .before .before .before .is-code .ensures) ∙ c .before .before .if1 .left) _ (c .before .next-cr .ensures) (omega (arith, c .if2 .taken))
+returns-2 c =
+    let args = c .before .before .before .before .before .before .before .args in
+    let if1 = c .before .before .if1 in
+    let is-code = c .before .before .before .is-code in
+    let loop = c .before .before .before .before .before .loop in
+    walk-last (args .s .now) (loop .p) (loop .inv) (sym (is-code .ensures) ∙ if1 .left) _ (c .before .next-cr .ensures) (omega (arith, c .if2 .taken))
 
 start-behind-requires : tie.Need-start-behind-requires Inv-loop μ-loop
-start-behind-requires c κs = cr-inside (c .before .before .before .before .before .before .before .args .s .now) (c .before .before .before .before .before .loop .p) (c .before .before .before .before .loop-test .taken) _ (c .before .next-cr .ensures) (c .if2 .left)
+start-behind-requires c κs =
+    let args = c .before .before .before .before .before .before .before .args in
+    let loop = c .before .before .before .before .before .loop in
+    let loop-test = c .before .before .before .before .loop-test in
+    cr-inside (args .s .now) (loop .p) (loop-test .taken) _ (c .before .next-cr .ensures) (c .if2 .left)
 
 loop-less : tie.Need-loop-less Inv-loop μ-loop
 loop-less c =
-    let g = cr-inside (c .before .before .before .before .before .before .before .before .args .s .now) (c .before .before .before .before .before .before .loop .p) (c .before .before .before .before .before .loop-test .taken) _ (c .before .before .next-cr .ensures) (c .before .if2 .left) in
-    omega (arith, c .start-behind .ensures, c .before .before .before .before .before .loop-test .taken, walk-less (c .before .before .before .before .before .before .before .before .args .s .now) (c .before .before .before .before .before .before .loop .p) (c .before .before .before .before .before .before .loop .inv) (sym (c .before .before .before .before .is-code .ensures) ∙ c .before .before .before .if1 .left) _ (c .before .before .next-cr .ensures) g)
+    let args = c .before .before .before .before .before .before .before .before .args in
+    let if1 = c .before .before .before .if1 in
+    let is-code = c .before .before .before .before .is-code in
+    let loop = c .before .before .before .before .before .before .loop in
+    let loop-test = c .before .before .before .before .before .loop-test in
+    let next-cr = c .before .before .next-cr in
+    let g = cr-inside (args .s .now) (loop .p) (loop-test .taken) _ (next-cr .ensures) (c .before .if2 .left) in
+    omega (arith, c .start-behind .ensures, loop-test .taken, walk-less (args .s .now) (loop .p) (loop .inv) (sym (is-code .ensures) ∙ if1 .left) _ (next-cr .ensures) g)
 
 loop-again : tie.Need-loop-again Inv-loop μ-loop
 loop-again c =
-    let g = cr-inside (c .before .before .before .before .before .before .before .before .args .s .now) (c .before .before .before .before .before .before .loop .p) (c .before .before .before .before .before .loop-test .taken) _ (c .before .before .next-cr .ensures) (c .before .if2 .left) in
-    rw (c .start-behind .ensures) (walk-on (c .before .before .before .before .before .before .before .before .args .s .now) (c .before .before .before .before .before .before .loop .p) (c .before .before .before .before .before .before .loop .inv) (sym (c .before .before .before .before .is-code .ensures) ∙ c .before .before .before .if1 .left) _ (c .before .before .next-cr .ensures) g)
+    let args = c .before .before .before .before .before .before .before .before .args in
+    let if1 = c .before .before .before .if1 in
+    let is-code = c .before .before .before .before .is-code in
+    let loop = c .before .before .before .before .before .before .loop in
+    let loop-test = c .before .before .before .before .before .loop-test in
+    let next-cr = c .before .before .next-cr in
+    let g = cr-inside (args .s .now) (loop .p) (loop-test .taken) _ (next-cr .ensures) (c .before .if2 .left) in
+    rw (c .start-behind .ensures) (walk-on (args .s .now) (loop .p) (loop .inv) (sym (is-code .ensures) ∙ if1 .left) _ (next-cr .ensures) g)
 
 returns-3 : tie.Need-returns-3 Inv-loop μ-loop
-returns-3 c = walk-end (c .before .before .before .args .s .now) (c .before .loop .p) (c .before .loop .inv) (c .loop-test .left)
+returns-3 c =
+    let args = c .before .before .before .args in
+    let loop = c .before .loop in
+    walk-end (args .s .now) (loop .p) (loop .inv) (c .loop-test .left)
 
 pub leftmost-spec : {M : Type 1} → statement M
 leftmost-spec =

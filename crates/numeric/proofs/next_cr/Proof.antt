@@ -24,7 +24,10 @@ shared-slice-read-if1 : tie.Need-shared-slice-read-if1 Inv-loop μ-loop
 shared-slice-read-if1 c = omega arith
 
 returns : tie.Need-returns Inv-loop μ-loop
-returns c = sym (c .before .before .before .loop .inv ∙ past-stop _ _ (c .before .before .before .loop .place) (c .before .before .loop-test .taken) (ap not (eq-eqb _ 13 (c .if1 .taken))))
+returns c =
+    let loop = c .before .before .before .loop in
+    let loop-test = c .before .before .loop-test in
+    sym (loop .inv ∙ past-stop _ _ (loop .place) (loop-test .taken) (ap not (eq-eqb _ 13 (c .if1 .taken))))
 
 add-place : tie.Need-add-place Inv-loop μ-loop
 add-place c = omega arith
@@ -33,10 +36,15 @@ loop-less : tie.Need-loop-less Inv-loop μ-loop
 loop-less c = omega arith
 
 loop-again : tie.Need-loop-again Inv-loop μ-loop
-loop-again c = c .before .before .before .loop .inv ∙ past-more _ _ (c .before .before .before .loop .place) (c .before .before .loop-test .taken) (ap not (ne-eqb _ 13 (c .if1 .left)))
+loop-again c =
+    let loop = c .before .before .before .loop in
+    let loop-test = c .before .before .loop-test in
+    loop .inv ∙ past-more _ _ (loop .place) (loop-test .taken) (ap not (ne-eqb _ 13 (c .if1 .left)))
 
 returns-2 : tie.Need-returns-2 Inv-loop μ-loop
-returns-2 c = sym (c .before .loop .inv ∙ past-end _ _ (c .before .loop .place) (c .loop-test .left))
+returns-2 c =
+    let loop = c .before .loop in
+    sym (loop .inv ∙ past-end _ _ (loop .place) (c .loop-test .left))
 
 pub next-cr-spec : {M : Type 1} → statement M
 next-cr-spec =

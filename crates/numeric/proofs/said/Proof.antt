@@ -20,7 +20,10 @@ with-payload-requires : tie.Need-with-payload-requires
 with-payload-requires c κs = search needs
 
 returns : tie.Need-returns
-returns c = said-is (c .before .before .before .before .before .args .s .now) (c .before .before .before .before .before .args .p) _ (c .before .before .kind-of .ensures) _ (c .before .along .ensures) _ (c .with-payload .ensures)
+returns c =
+    let args = c .before .before .before .before .before .args in
+    let kind-of = c .before .before .kind-of in
+    said-is (args .s .now) (args .p) _ (kind-of .ensures) _ (c .before .along .ensures) _ (c .with-payload .ensures)
 
 pub said-spec : {M : Type 1} → statement M
 said-spec =

@@ -25,10 +25,14 @@ check-empty-requires : tie.Need-check-empty-requires
 check-empty-requires c κs = search needs
 
 returns : tie.Need-returns
-returns c = c .check .ensures ∙ ap (λ (x : Selector). choice x (c .before .before .before .before .args .table .now) .rules) (sym (c .before .enum-told .given .1))
+returns c =
+    let args = c .before .before .before .before .args in
+    c .check .ensures ∙ ap (λ (x : Selector). choice x (args .table .now) .rules) (sym (c .before .enum-told .given .1))
 
 returns-2 : tie.Need-returns-2
-returns-2 c = c .check2 .ensures ∙ ap (λ (x : Selector). choice x (c .before .before .before .before .args .table .now) .rules) (sym (c .before .enum-told2 .given .1))
+returns-2 c =
+    let args = c .before .before .before .before .args in
+    c .check2 .ensures ∙ ap (λ (x : Selector). choice x (args .table .now) .rules) (sym (c .before .enum-told2 .given .1))
 
 returns-3 : tie.Need-returns-3
 returns-3 c = search needs

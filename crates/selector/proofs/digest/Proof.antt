@@ -25,13 +25,19 @@ digest-codes-requires : tie.Need-digest-codes-requires
 digest-codes-requires c κs = search needs
 
 returns : tie.Need-returns
-returns c = c .digest .ensures .0 ∙ ap (λ (x : Selector). digest x (c .before .before .before .before .before .args .table .now) (c .before .before .before .before .before .args .input .now)) (sym (c .before .enum-told .given .1))
+returns c =
+    let args = c .before .before .before .before .before .args in
+    c .digest .ensures .0 ∙ ap (λ (x : Selector). digest x (args .table .now) (args .input .now)) (sym (c .before .enum-told .given .1))
 
 returns-2 : tie.Need-returns-2
-returns-2 c = c .digest2 .ensures .0 ∙ ap (λ (x : Selector). digest x (c .before .before .before .before .before .args .table .now) (c .before .before .before .before .before .args .input .now)) (sym (c .before .enum-told2 .given .1))
+returns-2 c =
+    let args = c .before .before .before .before .before .args in
+    c .digest2 .ensures .0 ∙ ap (λ (x : Selector). digest x (args .table .now) (args .input .now)) (sym (c .before .enum-told2 .given .1))
 
 returns-3 : tie.Need-returns-3
-returns-3 c = c .digest-codes .ensures ∙ ap (λ (x : Selector). digest x (c .before .before .before .before .before .args .table .now) (c .before .before .before .before .before .args .input .now)) (sym (c .before .enum-told3 .given .1))
+returns-3 c =
+    let args = c .before .before .before .before .before .args in
+    c .digest-codes .ensures ∙ ap (λ (x : Selector). digest x (args .table .now) (args .input .now)) (sym (c .before .enum-told3 .given .1))
 
 pub digest-spec : {M : Type 1} → statement M
 digest-spec =

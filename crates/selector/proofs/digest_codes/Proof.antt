@@ -18,13 +18,19 @@ enum-told-2 : tie.Need-enum-told-2
 enum-told-2 c = search needs
 
 returns : tie.Need-returns
-returns c = ap outcome (sym (c .before .a .given .1)) ∙ c .before .before .before .digest .ensures .0
+returns c =
+    let digest = c .before .before .before .digest in
+    ap outcome (sym (c .before .a .given .1)) ∙ digest .ensures .0
 
 returns-2 : tie.Need-returns-2
-returns-2 c = ap outcome (sym (c .enum-told .given .1)) ∙ c .before .before .digest .ensures .0
+returns-2 c =
+    let digest = c .before .before .digest in
+    ap outcome (sym (c .enum-told .given .1)) ∙ digest .ensures .0
 
 returns-3 : tie.Need-returns-3
-returns-3 c = ap outcome (sym (c .enum-told2 .given .1)) ∙ c .before .before .digest .ensures .0
+returns-3 c =
+    let digest = c .before .before .digest in
+    ap outcome (sym (c .enum-told2 .given .1)) ∙ digest .ensures .0
 
 pub digest-codes-spec : {M : Type 1} → statement M
 digest-codes-spec =

@@ -26,13 +26,19 @@ digest-unchecked-requires-3 : tie.Need-digest-unchecked-requires-3
 digest-unchecked-requires-3 c κs = search needs
 
 returns : tie.Need-returns
-returns c = c .digest-unchecked .ensures ∙ ap (λ (x : Selector). choice x (c .before .before .before .before .before .args .table .now) .answers (c .before .before .before .before .before .args .input .now)) (sym (c .before .enum-told .given .1))
+returns c =
+    let args = c .before .before .before .before .before .args in
+    c .digest-unchecked .ensures ∙ ap (λ (x : Selector). choice x (args .table .now) .answers (args .input .now)) (sym (c .before .enum-told .given .1))
 
 returns-2 : tie.Need-returns-2
-returns-2 c = c .digest-unchecked2 .ensures ∙ ap (λ (x : Selector). choice x (c .before .before .before .before .before .args .table .now) .answers (c .before .before .before .before .before .args .input .now)) (sym (c .before .enum-told2 .given .1))
+returns-2 c =
+    let args = c .before .before .before .before .before .args in
+    c .digest-unchecked2 .ensures ∙ ap (λ (x : Selector). choice x (args .table .now) .answers (args .input .now)) (sym (c .before .enum-told2 .given .1))
 
 returns-3 : tie.Need-returns-3
-returns-3 c = c .digest-unchecked3 .ensures ∙ ap (λ (x : Selector). choice x (c .before .before .before .before .before .args .table .now) .answers (c .before .before .before .before .before .args .input .now)) (sym (c .before .enum-told3 .given .1))
+returns-3 c =
+    let args = c .before .before .before .before .before .args in
+    c .digest-unchecked3 .ensures ∙ ap (λ (x : Selector). choice x (args .table .now) .answers (args .input .now)) (sym (c .before .enum-told3 .given .1))
 
 pub digest-unchecked-spec : {M : Type 1} → statement M
 digest-unchecked-spec =

@@ -9,7 +9,9 @@ upto-requires : tie.Need-upto-requires
 upto-requires c κs = search needs
 
 returns : tie.Need-returns
-returns c = trimmed-none (c .before .before .before .args .s .now) (c .before .before .before .args .from) (c .before .before .before .args .to) _ (c .before .upto .ensures) (c .if1 .taken)
+returns c =
+    let args = c .before .before .before .args in
+    trimmed-none (args .s .now) (args .from) (args .to) _ (c .before .upto .ensures) (c .if1 .taken)
 
 part-trim-start : tie.Need-part-trim-start
 part-trim-start c = search needs
@@ -21,10 +23,17 @@ trim-requires : tie.Need-trim-requires
 trim-requires c κs = search needs
 
 add-t9 : tie.Need-add-t9
-add-t9 c = record { fits = omega (arith, trim-room (c .before .before .before .before .before .before .args .s .now) (c .before .before .before .before .before .before .args .from) _ (c .before .before .before .if1 .left) (omega (arith, c .before .before .before .before .upto .ensures)) _ (c .before .trim .ensures)) }
+add-t9 c =
+    let args = c .before .before .before .before .before .before .args in
+    let if1 = c .before .before .before .if1 in
+    let upto = c .before .before .before .before .upto in
+    record { fits = omega (arith, trim-room (args .s .now) (args .from) _ (if1 .left) (omega (arith, upto .ensures)) _ (c .before .trim .ensures)) }
 
 returns-2 : tie.Need-returns-2
-returns-2 c = trimmed-is (c .before .before .before .before .before .before .args .s .now) (c .before .before .before .before .before .before .args .from) (c .before .before .before .before .before .before .args .to) _ (c .before .before .before .before .upto .ensures) _ (c .before .trim .ensures)
+returns-2 c =
+    let args = c .before .before .before .before .before .before .args in
+    let upto = c .before .before .before .before .upto in
+    trimmed-is (args .s .now) (args .from) (args .to) _ (upto .ensures) _ (c .before .trim .ensures)
 
 pub trimmed-part-spec : {M : Type 1} → statement M
 trimmed-part-spec =
