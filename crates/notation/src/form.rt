@@ -1,6 +1,7 @@
 // The digester that a line chooses, its form, and the state that it starts from where it has one.
 use fields::Amount;
 use fields::LENGTH;
+use lines::Digester;
 use selector::Selector;
 
 // The digester that the first field chooses (R-1, R-3), and where the fields behind that word begin; without a word it is document 01's, and all fields count.
@@ -13,13 +14,13 @@ pub struct Chosen {
 pub fn first_word(line: &[u8]) -> Chosen {
     if line.len() == LENGTH {
         return Chosen {
-            selector: Selector::Verbose,
+            selector: Selector::Verbal(Digester::Verbose),
             from: 0,
         };
     }
     if text::matches_at(line, 0, b"connect ") {
         return Chosen {
-            selector: Selector::Connect,
+            selector: Selector::Verbal(Digester::Connect),
             from: 8,
         };
     }
@@ -31,12 +32,12 @@ pub fn first_word(line: &[u8]) -> Chosen {
     }
     if text::matches_at(line, 0, b"verbose ") {
         return Chosen {
-            selector: Selector::Verbose,
+            selector: Selector::Verbal(Digester::Verbose),
             from: 8,
         };
     }
     Chosen {
-        selector: Selector::Verbose,
+        selector: Selector::Verbal(Digester::Verbose),
         from: 0,
     }
 }

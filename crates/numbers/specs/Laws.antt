@@ -11,7 +11,8 @@ use borrow.Author.Tests.{lt-ltb, le-ltb, ltb-true, ltb-false, eq-eqb, ne-eqb, eq
 use Rattle.outcome.specs.Outcome.{if_then_else_}
 use Rattle.outcome.specs.Laws.{ways}
 use Rattle.text.specs.Logic.{and-both, order}
-use Rattle.selector.specs.declared.Selector.the-variants.{Verbose}
+use Rattle.lines.specs.declared.Digester.the-variants.{Verbose}
+use Rattle.selector.specs.declared.Selector.the-variants.{Verbal}
 use Rattle.answers.specs.declared.Kind.{Kind}
 use Rattle.answers.specs.declared.Kind.the-variants as kind
 use Rattle.slot.specs.Slot.{freed}
@@ -40,7 +41,7 @@ none-below zero n h = omega arith
 none-below (suc k) n h = up k n (none-below k n (h .0)) (h .1)
 
 -- a number that is no other digester's is that of document 01's
-pub selector-other : (n : ℕ) → (n ≡ 1 → ⊥) → (n ≡ 2 → ⊥) → Verbose ≡ selectorOf n
+pub selector-other : (n : ℕ) → (n ≡ 1 → ⊥) → (n ≡ 2 → ⊥) → Verbal Verbose ≡ selectorOf n
 selector-other n h g = rw (ne-eqb n 1 h, ne-eqb n 2 g)
 
 -- a number over 13 is no kind's

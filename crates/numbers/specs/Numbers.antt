@@ -5,11 +5,12 @@ use lib.ListN.{getD}
 use lib.Seq.{sets}
 use lib.Dec.{eqb, ltb}
 use Rattle.outcome.specs.Outcome.{if_then_else_}
+use Rattle.lines.specs.declared.Digester.the-variants.{Verbose, Connect}
 use Rattle.answers.specs.declared.Kind.{Kind}
 use Rattle.answers.specs.declared.Kind.the-variants as kind
 use Rattle.answers.specs.declared.Answer.{Answer}
 use Rattle.selector.specs.declared.Selector.{Selector}
-use Rattle.selector.specs.declared.Selector.the-variants.{Verbose, Connect, Numeric}
+use Rattle.selector.specs.declared.Selector.the-variants.{Verbal, Numeric}
 use Rattle.slot.specs.declared.Held.{Held}
 use Rattle.slot.specs.declared.Held.the-variants.{Heard, Capacity}
 use Rattle.slot.specs.declared.Slot.{Slot}
@@ -18,7 +19,7 @@ use Rattle.turn.specs.declared.State.{State}
 
 -- The digesters by number: 0 document 01's, 1 the one that hears the text of a CONNECT line too (R-3), 2 the one for V0 (R-1); any other number reads as 0.
 abbrev pub selectorOf : ℕ → Selector
-selectorOf n = if eqb n 1 then Connect else if eqb n 2 then Numeric else Verbose
+selectorOf n = if eqb n 1 then Verbal Connect else if eqb n 2 then Numeric else Verbal Verbose
 
 -- the number of each kind
 abbrev pub kindNumber : Kind → ℕ

@@ -8,6 +8,7 @@ ghost use Rattle.outcome.specs.Outcome.{if_then_else_};
 ghost use Rattle.numbers.specs.Numbers.{selectorOf, kindNumber, kindOf, word, heldNumber, heldOf, answerOf, slotOf, queueOf, stateOf, kept, withSlot, withQueue, withState, laid, answerValues};
 use answers::Answer;
 use answers::Kind;
+use lines::Digester;
 use queue::Queue;
 use selector::Selector;
 use slot::Held;
@@ -53,9 +54,9 @@ pub fn selector_of(n: u32) -> Selector
     ensures { λ r. ⌜ r ≡ selectorOf n ⌝ }
 {
     match n {
-        1 => Selector::Connect,
+        1 => Selector::Verbal(Digester::Connect),
         2 => Selector::Numeric,
-        _ => Selector::Verbose,
+        _ => Selector::Verbal(Digester::Verbose),
     }
 }
 

@@ -1,7 +1,7 @@
 -- What is left from a line start on is heard as in the whole: its line starts and its codes are those of the whole. What a code leaves begins at one (`Leftmost`),
 -- so this carries demand 3 through an advance, turn by turn.
 use mathlib.Core.Path.{_≡_, refl, sym, ap, _∙_}
-use mathlib.Core.Bool.{Bool, true, false, _&&_, _||_, not}
+use mathlib.Core.Bool.{true, false, _&&_, _||_, not}
 use mathlib.Core.List.{List}
 use Prim.Native.Nat.{ℕ, zero, suc, _+_, _-_, _≤_}
 use native.Mathlib.Nat.{add-zero}

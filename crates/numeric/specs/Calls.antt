@@ -10,7 +10,7 @@ use borrow.Author.Tests.{le-ltb, lt-ltb}
 use Rattle.outcome.specs.Outcome.{Outcome, answered, refused}
 use Rattle.outcome.specs.Laws.{ways}
 use Rattle.text.specs.Logic.{false-true, not-true-false}
-use Rattle.text.specs.Text.{among, trimmedPart}
+use Rattle.text.specs.Text.{among}
 use Rattle.text.specs.Laws.{trimmed-room}
 use Rattle.text.specs.Bytes.{bytes}
 use Rattle.text.specs.declared.Span.{Span}
@@ -23,7 +23,7 @@ use Rattle.answers.specs.Laws.{nothing-within, payload-within}
 use Rattle.numeric.specs.declared.Digested.{Digested}
 use Rattle.numeric.specs.declared.Digested.the-variants as cases
 use Rattle.numeric.specs.Numeric.{kindOf, codeAt, leftmost, behind, along, ring, said, saidOf, digestUnchecked, ruled, underTable, digest, outcome}
-use Rattle.numeric.specs.Heard.{NoCode, Leftmost, Heard, HeardIn}
+use Rattle.numeric.specs.Heard.{NoCode, Heard, HeardIn}
 use Rattle.numeric.specs.Laws.{LeastAt, LeastSays, least-says, behind-is, code-parts, code-fits, code-rest}
 
 -- no two answers of `digest` have the same outcome

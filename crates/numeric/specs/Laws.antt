@@ -13,11 +13,10 @@ use borrow.Author.Tests.{le-leb, lt-leb, eq-eqb, ne-eqb, eqb-true, eqb-false, no
 use Rattle.outcome.specs.Outcome.{if_then_else_}
 use Rattle.outcome.specs.Laws.{ways}
 use Rattle.text.specs.Logic.{false-true, not-true-false, and-both, order}
-use Rattle.text.specs.Text.{among, past}
+use Rattle.text.specs.Text.{past}
 use Rattle.text.specs.Laws.{past-bounds, past-passes, past-stops}
 use Rattle.text.specs.declared.Found.{Found}
 use Rattle.text.specs.declared.Found.the-variants.{At, Nothing}
-use Rattle.answers.specs.declared.Kind.the-variants as kind
 use Rattle.numeric.specs.Numeric.{isCr, isLf, loneCr, lineStart, kindOf, isDigit, codeAt, least, leftmost, behind}
 use Rattle.numeric.specs.Heard.{Behind}
 

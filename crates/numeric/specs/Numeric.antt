@@ -79,7 +79,7 @@ along s p b =
     else if among (bytes "2") b then record { start = p; len = 1 }
     else record { start = 0; len = 0 }
 
--- RING is a notice under a number that no table's record has.
+-- RING's number, which no table's record has; no other of these kinds has one.
 abbrev pub ring : ℕ
 ring = 255
 

@@ -1,7 +1,7 @@
 -- The digester that a caller chooses (R-1, R-3), and all that the ingress knows of it.
 use mathlib.Core.Path.{_≡_}
 use mathlib.Core.Bool.{true, false}
-use mathlib.Core.List.{List, [], _∷_}
+use mathlib.Core.List.{List}
 use Prim.Native.Nat.{ℕ, _+_, _≤_, _<_}
 use native.Mathlib.Omega.{arith}
 use lib.ListN.{length}
@@ -11,7 +11,6 @@ use Rattle.table.specs.Laws.{ruling-two}
 use Rattle.answers.specs.declared.Answer.{Answer}
 use Rattle.answers.specs.Answer.{isFound, isNotice}
 use Rattle.lines.specs.declared.Digester.{Digester}
-use Rattle.lines.specs.declared.Digester.the-variants as digester
 use Rattle.digest.specs.Digest as verbose
 use Rattle.digest.specs.Finished.{NothingFinished}
 use Rattle.digest.specs.Calls as verboses
@@ -19,7 +18,7 @@ use Rattle.numeric.specs.Numeric as numeric
 use Rattle.numeric.specs.Heard.{NoCode}
 use Rattle.numeric.specs.Calls as numerics
 use Rattle.selector.specs.declared.Selector.{Selector}
-use Rattle.selector.specs.declared.Selector.the-variants.{Verbose, Connect, Numeric}
+use Rattle.selector.specs.declared.Selector.the-variants.{Verbal, Numeric}
 
 -- What is known of an answer, under a table that the digester takes and of at most 4,096 bytes: one that found something consumes at least one byte, and its payload
 -- lies in what it consumes; where it found nothing, nothing is finished.
@@ -39,7 +38,7 @@ pub record Choice : Type 1 where
   pub byte : (s : List ℕ) → isNotice (answers s .kind) ≡ true → answers s .number < 256
   pub trusted : (n : ℕ) → rules ≡ answered n → (s : List ℕ) → length s ≤ 4096 → Trusted (answers s) (Quiet s)
 
--- document 01's digester, and the one that hears the text of a CONNECT line too
+-- those of document 01's lines
 abbrev verbal : Digester → List ℕ → Choice
 verbal d t =
     record {
@@ -66,12 +65,10 @@ coded t =
     }
 
 abbrev pub choice : Selector → List ℕ → Choice
-choice Verbose t = verbal digester.Verbose t
-choice Connect t = verbal digester.Connect t
+choice (Verbal d) t = verbal d t
 choice Numeric t = coded t
 
 -- what the chosen digester says of an input, its refusals included
 abbrev pub digest : Selector → List ℕ → List ℕ → Outcome Answer
-digest Verbose t s = verbose.digest digester.Verbose t s
-digest Connect t s = verbose.digest digester.Connect t s
+digest (Verbal d) t s = verbose.digest d t s
 digest Numeric t s = numeric.digest t s

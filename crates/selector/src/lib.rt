@@ -11,10 +11,9 @@ use digest::Digested;
 use lines::Digester;
 use table::Checked;
 
-// The digesters: document 01's; the same with the text of a CONNECT line heard (R-3); the one for modems in V0 (R-1).
+// The digesters: one of document 01's lines, which hears the text of a CONNECT line or doesn't (R-3); the one for modems in V0 (R-1).
 pub enum Selector {
-    Verbose,
-    Connect,
+    Verbal(Digester),
     Numeric,
 }
 
@@ -33,8 +32,7 @@ pub fn check(selector: Selector, table: &[u8]) -> Checked
     ensures { λ r. ⌜ tables.outcome r ≡ choice selector (now (table .entry)) .rules ⌝ }
 {
     match selector {
-        Selector::Verbose => table::check(table),
-        Selector::Connect => table::check(table),
+        Selector::Verbal(_) => table::check(table),
         Selector::Numeric => check_empty(table),
     }
 }
@@ -55,8 +53,7 @@ pub fn digest(selector: Selector, table: &[u8], input: &[u8]) -> Digested
     ensures { λ r. ⌜ digests.outcome r ≡ digest selector (now (table .entry)) (now (input .entry)) ⌝ }
 {
     match selector {
-        Selector::Verbose => digest::digest(Digester::Verbose, table, input),
-        Selector::Connect => digest::digest(Digester::Connect, table, input),
+        Selector::Verbal(digester) => digest::digest(digester, table, input),
         Selector::Numeric => digest_codes(table, input),
     }
 }
@@ -66,8 +63,7 @@ pub fn digest_unchecked(selector: Selector, table: &[u8], input: &[u8]) -> Answe
     ensures { λ r. ⌜ r ≡ choice selector (now (table .entry)) .answers (now (input .entry)) ⌝ }
 {
     match selector {
-        Selector::Verbose => digest::digest_unchecked(Digester::Verbose, table, input),
-        Selector::Connect => digest::digest_unchecked(Digester::Connect, table, input),
+        Selector::Verbal(digester) => digest::digest_unchecked(digester, table, input),
         Selector::Numeric => numeric::digest_unchecked(input),
     }
 }

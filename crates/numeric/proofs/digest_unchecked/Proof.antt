@@ -1,5 +1,4 @@
 -- `digest_unchecked` meets its contract: by the leftmost code.
-use mathlib.Core.Path.{sym, _∙_}
 use Rattle.numeric.specs.Calls.{leftmost-fits, unchecked-at, unchecked-none}
 use borrow.Author.Needs.{needs}
 use Rattle.numeric.proofs.digest_unchecked.Statement.{statement}

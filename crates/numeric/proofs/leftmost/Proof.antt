@@ -4,7 +4,6 @@ use Prim.Native.Nat.{_-_}
 use native.Mathlib.Omega.{arith}
 use lib.ListN.{length}
 use Rattle.numeric.specs.Laws.{cr-inside, Walked, walked-first, walk-found, walk-end, walk-last, walk-on, walk-less}
-use borrow.Author.Needs.{needs}
 use Rattle.numeric.proofs.leftmost.Statement.{statement}
 use Rattle.numeric.proofs.leftmost.Tie as tie
 

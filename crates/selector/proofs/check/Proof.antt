@@ -15,12 +15,6 @@ check-requires c κs = search needs
 enum-told-2 : tie.Need-enum-told-2
 enum-told-2 c = search needs
 
-check-requires-2 : tie.Need-check-requires-2
-check-requires-2 c κs = search needs
-
-enum-told-3 : tie.Need-enum-told-3
-enum-told-3 c = search needs
-
 check-empty-requires : tie.Need-check-empty-requires
 check-empty-requires c κs = search needs
 
@@ -32,21 +26,9 @@ returns c =
 returns-2 : tie.Need-returns-2
 returns-2 c =
     let args = c .before .before .before .before .args in
-    c .check2 .ensures ∙ ap (λ (x : Selector). choice x (args .table .now) .rules) (sym (c .before .enum-told2 .given .1))
-
-returns-3 : tie.Need-returns-3
-returns-3 c = search needs
+    c .check-empty .ensures ∙ ap (λ (x : Selector). choice x (args .table .now) .rules) (sym (c .before .enum-told2 .given .1))
 
 pub check-spec : {M : Type 1} → statement M
 check-spec =
     tie.close
-    (tie.spec
-    enum-told
-    check-requires
-    enum-told-2
-    check-requires-2
-    enum-told-3
-    check-empty-requires
-    returns
-    returns-2
-    returns-3)
+    (tie.spec enum-told check-requires enum-told-2 check-empty-requires returns returns-2)

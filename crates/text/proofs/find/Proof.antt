@@ -5,7 +5,6 @@ use lib.ListN.{length}
 use Rattle.text.specs.Text.{stands, findIn}
 use Rattle.text.specs.Steps.{begins-end, find-here, find-next}
 use Rattle.text.specs.Laws.{find-late}
-use borrow.Author.Needs.{needs}
 use native.Mathlib.Omega.{arith}
 use Rattle.text.proofs.find.Statement.{statement}
 use Rattle.text.proofs.find.Tie as tie

@@ -1,7 +1,6 @@
 -- `matches_at` meets its contract: past the end, without room, and with room.
 use mathlib.Core.Path.{sym}
 use Rattle.text.specs.Steps.{stands-past, stands-short}
-use borrow.Author.Needs.{needs}
 use native.Mathlib.Omega.{arith}
 use Rattle.text.proofs.matches_at.Statement.{statement}
 use Rattle.text.proofs.matches_at.Tie as tie
