@@ -20,11 +20,13 @@ use Rattle.answers.specs.declared.Kind.{Kind}
 use Rattle.answers.specs.declared.Answer.{Answer}
 use Rattle.answers.specs.Answer.{Number, hasNumber, stored, isFound, nothing, withPayload, Within}
 use Rattle.answers.specs.Laws.{nothing-within, payload-within}
+use Rattle.numeric.specs.declared.Code.{Code}
+use Rattle.numeric.specs.declared.Code.the-variants as codes
 use Rattle.numeric.specs.declared.Digested.{Digested}
 use Rattle.numeric.specs.declared.Digested.the-variants as cases
 use Rattle.numeric.specs.Numeric.{kindOf, codeAt, leftmost, behind, along, ring, said, saidOf, digestUnchecked, ruled, underTable, digest, outcome}
 use Rattle.numeric.specs.Heard.{NoCode, Heard, HeardIn}
-use Rattle.numeric.specs.Laws.{LeastAt, LeastSays, least-says, behind-is, code-parts, code-fits, code-rest}
+use Rattle.numeric.specs.Laws.{coded, LeastSays, least-says, behind-is, code-parts, code-fits, code-rest}
 
 -- no two answers of `digest` have the same outcome
 pub outcome-one : (r q : Digested) → outcome r ≡ outcome q → r ≡ q
@@ -38,6 +40,14 @@ outcome-one cases.BadTable (cases.Is a) e = let z : _≡_ {A = ℕ} 0 1 = cc in 
 outcome-one cases.BadTable cases.TooLong e = let z : _≡_ {A = ℕ} 0 1 = cc in absurd (omega arith)
 outcome-one cases.BadTable cases.BadTable e = refl
 
+abbrev place-of : Code → ℕ
+place-of (codes.At p from) = p
+place-of codes.Nothing = 0
+
+abbrev start-of : Code → ℕ
+start-of (codes.At p from) = from
+start-of codes.Nothing = 0
+
 module _ (s : List ℕ) where
   -- the way out of `said`
   pub said-is : (p : ℕ) (k : Kind) → k ≡ kindOf (getD s p 0) → (t : Span) → t ≡ along s p (getD s p 0) → (a : Answer) → a ≡ withPayload k ring t (p + 2) → a ≡ said s p
@@ -49,24 +59,32 @@ module _ (s : List ℕ) where
   unfolding leftmost
   says = least-says (codeAt s) (length s) 0
 
-  module _ (r : Found) (e : r ≡ leftmost s) where
-    at-leftmost : (x : Found) → r ≡ x → saidOf s x ≡ digestUnchecked s
-    unfolding digestUnchecked
-    at-leftmost x q = ap (saidOf s) (sym q ∙ e)
+  -- what the walk came to
+  came-to : (f : Found) → LeastSays (codeAt s) (length s) 0 f → (p from : ℕ) → codes.At p from ≡ coded s f → (f ≡ At p) × ((codeAt s p ≡ true) × (from ≡ behind s p))
+  came-to (At k) w p from e =
+      let z : k ≡ p = sym (ap place-of e) in
+      (ap At z, (ap (codeAt s) (sym z) ∙ w .here, ap start-of e ∙ ap (behind s) z))
+  came-to Nothing w p from e = let z : _≡_ {A = ℕ} 0 1 = cc in absurd (omega arith)
 
-    pub leftmost-fits : (p : ℕ) → r ≡ At p → p + 2 ≤ length s
-    leftmost-fits p q = code-fits s p (found p q .here)
-      where
-        found : (p : ℕ) → r ≡ At p → LeastAt (codeAt s) (length s) 0 p
-        found p q = rw (sym e ∙ q) at says
+  came-none : (f : Found) → codes.Nothing ≡ coded s f → f ≡ Nothing
+  came-none (At k) e = let z : _≡_ {A = ℕ} 0 1 = cc in absurd (omega arith)
+  came-none Nothing e = refl
 
-    pub unchecked-at : (p : ℕ) → r ≡ At p → (a : Answer) → a ≡ said s p → a ≡ digestUnchecked s
-    unfolding saidOf
-    unchecked-at p q a f = f ∙ at-leftmost (At p) q
+  -- the ways out of `digest_unchecked`, r being what the walk answered
+  module _ (r : Code) (e : r ≡ coded s (leftmost s)) where
+    at-code : (p from : ℕ) → r ≡ codes.At p from → (leftmost s ≡ At p) × ((codeAt s p ≡ true) × (from ≡ behind s p))
+    at-code p from q = came-to (leftmost s) says p from (sym q ∙ e)
 
-    pub unchecked-none : r ≡ Nothing → (a : Answer) → a ≡ nothing 0 → a ≡ digestUnchecked s
-    unfolding saidOf
-    unchecked-none q a f = f ∙ at-leftmost Nothing q
+    pub said-room : (p from : ℕ) → r ≡ codes.At p from → (p + 2 ≤ length s) × (from ≡ behind s p)
+    said-room p from q = let w = at-code p from q in (code-fits s p (w .1 .0), w .1 .1)
+
+    pub unchecked-at : (p from : ℕ) → r ≡ codes.At p from → (a : Answer) → a ≡ said s p → a ≡ digestUnchecked s
+    unfolding digestUnchecked saidOf
+    unchecked-at p from q a f = rw (at-code p from q .0) f
+
+    pub unchecked-none : r ≡ codes.Nothing → (a : Answer) → a ≡ nothing 0 → a ≡ digestUnchecked s
+    unfolding digestUnchecked saidOf
+    unchecked-none q a f = rw (came-none (leftmost s) (sym q ∙ e)) f
 
   -- a code is found, and its number fits a byte
   said-found : (p : ℕ) → codeAt s p ≡ true → isFound (said s p) ≡ true

@@ -5,7 +5,7 @@ use mathlib.Core.Bool.{Bool, true, false, _&&_, _||_, not, or-true}
 use mathlib.Core.List.{List}
 use Prim.Native.Nat.{ℕ, zero, suc, _+_, _-_, _≤_, _<_}
 use native.Mathlib.Numerals.{add-one, sub-one}
-use native.Mathlib.Nat.{eq-or-lt-of-le}
+use native.Mathlib.Nat.{add-zero, eq-or-lt-of-le}
 use native.Mathlib.Omega.{arith}
 use lib.ListN.{length, getD, List·getD-eq-default}
 use lib.Dec.{eqb, leb}
@@ -17,6 +17,8 @@ use Rattle.text.specs.Text.{past}
 use Rattle.text.specs.Laws.{past-bounds, past-passes, past-stops}
 use Rattle.text.specs.declared.Found.{Found}
 use Rattle.text.specs.declared.Found.the-variants.{At, Nothing}
+use Rattle.numeric.specs.declared.Code.{Code}
+use Rattle.numeric.specs.declared.Code.the-variants as codes
 use Rattle.numeric.specs.Numeric.{isCr, isLf, loneCr, lineStart, kindOf, isDigit, codeAt, least, leftmost, behind}
 use Rattle.numeric.specs.Heard.{Behind}
 
@@ -27,6 +29,15 @@ notCr b = not (isCr b)
 -- the line start behind the CR at i
 unfoldable pub startBehind : List ℕ → ℕ → ℕ
 startBehind s i = if loneCr s i then i + 1 else i + 2
+
+-- where what stands before that begins
+unfoldable pub beginsBehind : List ℕ → ℕ → ℕ → ℕ
+beginsBehind s i from = if loneCr s i then i + 1 else from
+
+-- a code's place, and where what stands before it begins
+abbrev pub coded : List ℕ → Found → Code
+coded s (At p) = codes.At p (behind s p)
+coded s Nothing = codes.Nothing
 
 -- the codes are 0 to 8 without 5
 digit-from : (d : ℕ) → d ≤ 8 → (d ≡ 5 → ⊥) → isDigit (48 + d) ≡ true
@@ -238,26 +249,44 @@ module _ (s : List ℕ) where
   unfolding codeAt
   no-start p e = rw e
 
-  -- the walk: p is a line start, and no code stands before it
-  pub record Walked (p : ℕ) : Type 0 where
+  -- where nothing between is a lone CR, what stands before begins at the same place
+  behind-same : (n p : ℕ) → ((j : ℕ) → p ≤ j → j < p + n → loneCr s j ≡ false) → behind s (p + n) ≡ behind s p
+  unfolding behind
+  behind-same zero p h = ap (behind s) (add-zero p)
+  behind-same (suc n) p h =
+      let z : p + suc n ≡ suc (p + n) = omega arith in
+      ap (behind s) z ∙ (rw (h (p + n) (omega arith) (omega arith)) (behind-same n p (λ j x y. h j x (omega arith))))
+
+  behind-upto : (p k : ℕ) → p ≤ k → ((j : ℕ) → p ≤ j → j < k → loneCr s j ≡ false) → behind s k ≡ behind s p
+  behind-upto p k g h =
+      let z : p + (k - p) ≡ k = omega arith in
+      ap (behind s) (sym z) ∙ behind-same (k - p) p (λ j x y. h j x (omega arith))
+
+  behind-lone : (k : ℕ) → loneCr s k ≡ true → k + 1 ≡ behind s (k + 1)
+  unfolding behind
+  behind-lone k e = rw (add-one, e)
+
+  -- the walk: p is a line start, no code stands before it, and what stands before it begins at `from`
+  pub record Walked (p from : ℕ) : Type 0 where
     pub start : lineStart s p ≡ true
     pub none : (j : ℕ) → j < p → codeAt s j ≡ false
+    pub begins : from ≡ behind s p
 
-  pub walked-first : Walked 0
-  unfolding lineStart
-  walked-first = record { start = refl; none = λ j x. absurd (omega arith) }
+  pub walked-first : Walked 0 0
+  unfolding lineStart behind
+  walked-first = record { start = refl; none = λ j x. absurd (omega arith); begins = refl }
 
-  module _ (p : ℕ) (w : Walked p) where
+  module _ (p from : ℕ) (w : Walked p from) where
     -- a code here is the leftmost
-    pub walk-found : isDigit (getD s p 0) && loneCr s (p + 1) ≡ true → At p ≡ leftmost s
+    pub walk-found : isDigit (getD s p 0) && loneCr s (p + 1) ≡ true → codes.At p from ≡ coded s (leftmost s)
     unfolding leftmost codeAt
     walk-found e =
         let c : codeAt s p ≡ true = rw (w .start) e in
-        least-at (codeAt s) (length s) 0 p (omega arith) (omega (arith, code-fits p c)) c (λ j x y. w .none j y)
+        ap (codes.At p) (w .begins) ∙ ap (coded s) (least-at (codeAt s) (length s) 0 p (omega arith) (omega (arith, code-fits p c)) c (λ j x y. w .none j y))
 
-    pub walk-end : length s ≤ p → Nothing ≡ leftmost s
+    pub walk-end : length s ≤ p → codes.Nothing ≡ coded s (leftmost s)
     unfolding leftmost
-    walk-end h = least-none (codeAt s) (length s) 0 (λ j x y. w .none j (omega arith))
+    walk-end h = ap (coded s) (least-none (codeAt s) (length s) 0 (λ j x y. w .none j (omega arith)))
 
     module _ (n : isDigit (getD s p 0) && loneCr s (p + 1) ≡ false) (q : ℕ) (e : q ≡ past notCr s p) where
       not-here : codeAt s p ≡ false
@@ -272,17 +301,39 @@ module _ (s : List ℕ) where
           (order j p)
 
       -- no CR is left
-      pub walk-last : length s ≤ q → Nothing ≡ leftmost s
+      pub walk-last : length s ≤ q → codes.Nothing ≡ coded s (leftmost s)
       unfolding leftmost
-      walk-last h = least-none (codeAt s) (length s) 0 (λ j x y. none-to j (omega arith))
+      walk-last h = ap (coded s) (least-none (codeAt s) (length s) 0 (λ j x y. none-to j (omega arith)))
 
       -- on to the next line start
       module _ (g : q < length s) where
-        pub walk-on : Walked (startBehind s q)
+        no-lone : (j : ℕ) → p ≤ j → j < q → loneCr s j ≡ false
+        no-lone j x y = lone-not j (λ z. absurd (no-cr p (w .start) q e j x y z))
+
+        begins-on : beginsBehind s q from ≡ behind s (startBehind s q)
+        unfolding beginsBehind startBehind
+        begins-on =
+            let m : p ≤ q = omega (arith, e, past-bounds notCr s p .0) in
+            both-ways (loneCr s q) (behind-lone q)
+            (λ l.
+            w .begins
+            ∙ sym
+            (behind-upto p (q + 2) (omega arith) (λ j x y.
+            ⊎-elim
+            (λ (z : j < q). no-lone j x z)
+            (λ (z : q ≤ j). ⊎-elim (λ (o : q ≡ j). ap (loneCr s) (sym o) ∙ l) (λ (o : q < j). let v : q + 1 ≡ j = omega arith in lone-not j (λ r. absurd (omega (arith, ap (λ (k : ℕ). getD s k 0) v, r, lf-behind q (cr-at p (w .start) q e g) l)))) (eq-or-lt-of-le z))
+            (order j q))))
+          where
+            both-ways : (b : Bool) → (b ≡ true → q + 1 ≡ behind s (q + 1)) → (b ≡ false → from ≡ behind s (q + 2)) → (if b then q + 1 else from) ≡ behind s (if b then q + 1 else q + 2)
+            both-ways true x y = x refl
+            both-ways false x y = y refl
+
+        pub walk-on : Walked (startBehind s q) (beginsBehind s q from)
         walk-on =
             record {
               start = start-behind p (w .start) q e g;
               none = λ j x. ⊎-elim (λ (y : q < j). no-start j (not-behind p (w .start) q e g j y x)) (λ (y : j ≤ q). none-to j y) (order q j);
+              begins = begins-on;
             }
 
         pub walk-less : p < startBehind s q
@@ -290,16 +341,6 @@ module _ (s : List ℕ) where
         walk-less = ways (λ n. p < n) (loneCr s q) (λ l. omega (arith, e, past-bounds notCr s p .0)) (λ l. omega (arith, e, past-bounds notCr s p .0))
 
   -- where what stands before p begins
-  pub behind-stop : (k : ℕ) → 0 < k → loneCr s (k - 1) ≡ true → k ≡ behind s k
-  unfolding behind
-  behind-stop zero h e = absurd (omega arith)
-  behind-stop (suc k) h e = rw (rw sub-one at e)
-
-  pub behind-less : (k : ℕ) → 0 < k → loneCr s (k - 1) ≡ false → behind s k ≡ behind s (k - 1)
-  unfolding behind
-  behind-less zero h e = absurd (omega arith)
-  behind-less (suc k) h e = rw (sub-one, rw sub-one at e)
-
   pub behind-is : (p : ℕ) → Behind s p (behind s p)
   unfolding behind
   behind-is zero = record { before = omega arith; opens = inl refl; last = λ j x y. absurd (omega arith) }

@@ -1,6 +1,6 @@
 // The digester for modems left in numeric mode, V0 (R-1): an answer ends in one of V.250's decimal codes and a CR, with no CRLF before it.
-// The work grows with the input's length and no faster: the walk from line start to line start looks at each byte once for a CR and at three bytes of each line
-// start; where the code is an Ok, the bytes before it are looked at once more for the last lone CR, and those at the payload's two ends once for blanks.
+// The work grows with the input's length and no faster: one walk from line start to line start looks at each byte once for a CR, at three bytes of each line start
+// and at two of each line's end; the blanks at the two ends of an Ok's payload are looked at once more.
 // No public function has a `requires`.
 ghost use mathlib.Core.Path.{_≡_};
 ghost use mathlib.Core.Bool.{_&&_};
@@ -9,10 +9,9 @@ ghost use lib.ListN.{length, getD};
 ghost use Rattle.text.specs.Text.{past};
 ghost use Rattle.numeric.specs.Numeric.{loneCr, kindOf, isDigit, leftmost, behind, along, said, digestUnchecked, digest, outcome};
 ghost use Rattle.numeric.specs.Heard.{HeardIn};
-ghost use Rattle.numeric.specs.Laws.{notCr, startBehind};
+ghost use Rattle.numeric.specs.Laws.{notCr, startBehind, beginsBehind, coded};
 use answers::Answer;
 use answers::Kind;
-use text::Found;
 use text::Span;
 
 // The kind that a code stands for: CONNECT is an Ok, RING a notice; None for a byte that is no code.
@@ -97,45 +96,51 @@ fn start_behind(s: &[u8], cr: usize) -> usize
     cr + 2
 }
 
-// The leftmost code's place, by a walk from line start to line start.
-fn leftmost(s: &[u8]) -> Found
-    ensures { λ r. ⌜ r ≡ leftmost (now (s .entry)) ⌝ }
+// Where what stands before that line start begins: behind the CR at `cr` where it is alone, else where it began before, at `from`.
+fn begins_behind(s: &[u8], cr: usize, from: usize) -> usize
+    requires { ⌜ cr < length (now s) ⌝ }
+    ensures { λ r. ⌜ r ≡ beginsBehind (now (s .entry)) cr from ⌝ }
+{
+    if is_lone(s, cr) {
+        return cr + 1;
+    }
+    from
+}
+
+// A code: its place, and where what stands before it begins.
+pub enum Code {
+    At(usize, usize),
+    Nothing,
+}
+
+// The leftmost code, by a walk from line start to line start.
+fn leftmost(s: &[u8]) -> Code
+    ensures { λ r. ⌜ r ≡ coded (now (s .entry)) (leftmost (now (s .entry))) ⌝ }
 {
     let mut p = 0;
+    let mut from = 0;
     while p < s.len() {
         if is_code(s, p) {
-            return Found::At(p);
+            return Code::At(p, from);
         }
         let cr = next_cr(s, p);
         if cr == s.len() {
-            return Found::Nothing;
+            return Code::Nothing;
         }
         p = start_behind(s, cr);
+        from = begins_behind(s, cr, from);
     }
-    Found::Nothing
+    Code::Nothing
 }
 
-// Where what stands before p begins: behind the last lone CR, or at the first byte.
-fn behind(s: &[u8], p: usize) -> usize
-    ensures { λ r. ⌜ r ≡ behind (now (s .entry)) p ⌝ }
-{
-    let mut k = p;
-    while 0 < k {
-        if is_lone(s, k - 1) {
-            return k;
-        }
-        k -= 1;
-    }
-    k
-}
-
-// What goes along with the code b at p: with an Ok what stands before it, trimmed; with a RING the digit; with another nothing.
-fn along(s: &[u8], p: usize, b: u8) -> Span
+// What goes along with the code b at p: with an Ok what stands before it, from `from` on, trimmed; with a RING the digit; with another nothing.
+fn along(s: &[u8], p: usize, from: usize, b: u8) -> Span
+    requires { ⌜ from ≡ behind (now s) p ⌝ }
     ensures { λ r. ⌜ r ≡ along (now (s .entry)) p b ⌝ }
 {
     match b {
-        b'0' => text::trimmed_part(s, behind(s, p), p),
-        b'1' => text::trimmed_part(s, behind(s, p), p),
+        b'0' => text::trimmed_part(s, from, p),
+        b'1' => text::trimmed_part(s, from, p),
         b'2' => Span { start: p, len: 1 },
         _ => Span { start: 0, len: 0 },
     }
@@ -145,12 +150,12 @@ fn along(s: &[u8], p: usize, b: u8) -> Span
 const RING: u32 = 255;
 
 // What the code at p says; it is consumed through its CR.
-fn said(s: &[u8], p: usize) -> Answer
-    requires { ⌜ p + 2 ≤ length (now s) ⌝ }
+fn said(s: &[u8], p: usize, from: usize) -> Answer
+    requires { ⌜ (p + 2 ≤ length (now s)) × (from ≡ behind (now s) p) ⌝ }
     ensures { λ r. ⌜ r ≡ said (now (s .entry)) p ⌝ }
 {
     let b = s[p];
-    answers::with_payload(kind_of(b), RING, along(s, p, b), p + 2)
+    answers::with_payload(kind_of(b), RING, along(s, p, from, b), p + 2)
 }
 
 // What the input was, by its leftmost code; with none it is None, 0. It asks for no table: the ingress has checked that there is none.
@@ -158,8 +163,8 @@ pub fn digest_unchecked(input: &[u8]) -> Answer
     ensures { λ r. ⌜ r ≡ digestUnchecked (now (input .entry)) ⌝ }
 {
     match leftmost(input) {
-        Found::At(p) => said(input, p),
-        Found::Nothing => answers::nothing(0),
+        Code::At(p, from) => said(input, p, from),
+        Code::Nothing => answers::nothing(0),
     }
 }
 

@@ -5,14 +5,8 @@ use borrow.Author.Needs.{needs}
 use Rattle.numeric.proofs.along.Statement.{statement}
 use Rattle.numeric.proofs.along.Tie as tie
 
-behind-requires : tie.Need-behind-requires
-behind-requires c κs = search needs
-
 trimmed-part-requires : tie.Need-trimmed-part-requires
 trimmed-part-requires c κs = search needs
-
-behind-requires-2 : tie.Need-behind-requires-2
-behind-requires-2 c κs = search needs
 
 trimmed-part-requires-2 : tie.Need-trimmed-part-requires-2
 trimmed-part-requires-2 c κs = search needs
@@ -20,14 +14,14 @@ trimmed-part-requires-2 c κs = search needs
 returns : tie.Need-returns
 unfolding along
 returns c =
-    let match = c .before .before .match in
-    rw (match .keys1, c .trimmed-part .ensures, c .before .behind .ensures)
+    let pre = c .before .before .before .pre in
+    rw (c .before .match .keys1, c .trimmed-part .ensures, pre)
 
 returns-2 : tie.Need-returns-2
 unfolding along
 returns-2 c =
-    let match = c .before .before .match in
-    rw (match .keys2, c .trimmed-part2 .ensures, c .before .behind2 .ensures)
+    let pre = c .before .before .before .pre in
+    rw (c .before .match .keys2, c .trimmed-part2 .ensures, pre)
 
 returns-3 : tie.Need-returns-3
 unfolding along
@@ -45,9 +39,7 @@ pub along-spec : {M : Type 1} → statement M
 along-spec =
     tie.close
     (tie.spec
-    behind-requires
     trimmed-part-requires
-    behind-requires-2
     trimmed-part-requires-2
     returns
     returns-2

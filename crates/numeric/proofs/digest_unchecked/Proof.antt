@@ -1,5 +1,5 @@
--- `digest_unchecked` meets its contract: by the leftmost code.
-use Rattle.numeric.specs.Calls.{leftmost-fits, unchecked-at, unchecked-none}
+-- `digest_unchecked` meets its contract: by what the walk came to.
+use Rattle.numeric.specs.Calls.{said-room, unchecked-at, unchecked-none}
 use borrow.Author.Needs.{needs}
 use Rattle.numeric.proofs.digest_unchecked.Statement.{statement}
 use Rattle.numeric.proofs.digest_unchecked.Tie as tie
@@ -14,7 +14,7 @@ said-requires : tie.Need-said-requires
 said-requires c κs =
     let args = c .before .before .before .before .before .args in
     let leftmost = c .before .before .before .leftmost in
-    leftmost-fits (args .input .now) _ (leftmost .ensures) _ (c .before .p .given .1)
+    said-room (args .input .now) _ (leftmost .ensures) _ _ (c .before .p .given .1)
 
 enum-told : tie.Need-enum-told
 enum-told c = search needs
@@ -27,7 +27,7 @@ returns c =
     let args = c .before .before .before .before .before .before .args in
     let leftmost = c .before .before .before .before .leftmost in
     let p = c .before .before .p in
-    unchecked-at (args .input .now) _ (leftmost .ensures) _ (p .given .1) _ (c .said .ensures)
+    unchecked-at (args .input .now) _ (leftmost .ensures) _ _ (p .given .1) _ (c .said .ensures)
 
 returns-2 : tie.Need-returns-2
 returns-2 c =

@@ -1,20 +1,27 @@
 -- `said` meets its contract.
+use native.Mathlib.Omega.{arith}
 use Rattle.numeric.specs.Calls.{said-is}
 use borrow.Author.Needs.{needs}
 use Rattle.numeric.proofs.said.Statement.{statement}
 use Rattle.numeric.proofs.said.Tie as tie
 
 shared-slice-read-b : tie.Need-shared-slice-read-b
-shared-slice-read-b c = search needs
+shared-slice-read-b c =
+    let pre = c .before .before .pre in
+    omega (arith, pre .0)
 
 kind-of-requires : tie.Need-kind-of-requires
 kind-of-requires c κs = search needs
 
 along-requires : tie.Need-along-requires
-along-requires c κs = search needs
+along-requires c κs =
+    let pre = c .before .before .before .pre in
+    pre .1
 
 add-with-payload : tie.Need-add-with-payload
-add-with-payload c = search needs
+add-with-payload c =
+    let pre = c .before .before .before .before .pre in
+    record { fits = omega (arith, pre .0) }
 
 with-payload-requires : tie.Need-with-payload-requires
 with-payload-requires c κs = search needs
