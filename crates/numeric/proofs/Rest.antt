@@ -10,7 +10,7 @@ use lib.ListN.{getD, drop}
 use lib.Seq.{getD-drop}
 use borrow.Author.Tests.{eqb-true}
 use Rattle.text.specs.Logic.{not-true-false, and-both}
-use Rattle.numeric.specs.Numeric.{isCr, isLf, loneCr, lineStart, isDigit, codeAt}
+use Rattle.numeric.specs.Numeric.{isCr, isLf, loneCr, lineStart, isListed, codeAt}
 use Rattle.numeric.specs.Heard.{NoCode}
 use Rattle.numeric.specs.Laws.{no-crlf}
 
@@ -47,7 +47,7 @@ module _ (s : List ℕ) (c : ℕ) (h : lineStart s c ≡ true) where
   unfolding codeAt
   rest-codes j =
       let z : c + (j + 1) ≡ c + j + 1 = omega arith in
-      λ i. rest-starts j i && (isDigit (getD-drop c s j 0 i) && (rest-lone (j + 1) ∙ ap (loneCr s) z) i)
+      λ i. rest-starts j i && (isListed (getD-drop c s j 0 i) && (rest-lone (j + 1) ∙ ap (loneCr s) z) i)
 
   -- nothing finished in what is left is nothing finished there in the whole
   pub rest-none : NoCode (drop c s) → (j : ℕ) → c ≤ j → codeAt s j ≡ false

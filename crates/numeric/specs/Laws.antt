@@ -19,7 +19,7 @@ use Rattle.text.specs.declared.Found.{Found}
 use Rattle.text.specs.declared.Found.the-variants.{At, Nothing}
 use Rattle.numeric.specs.declared.Code.{Code}
 use Rattle.numeric.specs.declared.Code.the-variants as codes
-use Rattle.numeric.specs.Numeric.{isCr, isLf, loneCr, lineStart, kindOf, isDigit, codeAt, least, leftmost, behind}
+use Rattle.numeric.specs.Numeric.{isCr, isLf, loneCr, lineStart, kindOf, isListed, codeAt, least, leftmost, behind}
 use Rattle.numeric.specs.Heard.{Behind}
 
 -- what the search for the next CR passes over
@@ -40,36 +40,36 @@ coded s (At p) = codes.At p (behind s p)
 coded s Nothing = codes.Nothing
 
 -- the codes are 0 to 8 without 5
-digit-from : (d : ℕ) → d ≤ 8 → (d ≡ 5 → ⊥) → isDigit (48 + d) ≡ true
+listed-from : (d : ℕ) → d ≤ 8 → (d ≡ 5 → ⊥) → isListed (48 + d) ≡ true
 unfolding kindOf
-digit-from zero h n = refl
-digit-from (suc zero) h n = refl
-digit-from (suc (suc zero)) h n = refl
-digit-from (suc (suc (suc zero))) h n = refl
-digit-from (suc (suc (suc (suc zero)))) h n = refl
-digit-from (suc (suc (suc (suc (suc zero))))) h n = absurd (n refl)
-digit-from (suc (suc (suc (suc (suc (suc zero)))))) h n = refl
-digit-from (suc (suc (suc (suc (suc (suc (suc zero))))))) h n = refl
-digit-from (suc (suc (suc (suc (suc (suc (suc (suc zero)))))))) h n = refl
-digit-from (suc (suc (suc (suc (suc (suc (suc (suc (suc d))))))))) h n = absurd (omega arith)
+listed-from zero h n = refl
+listed-from (suc zero) h n = refl
+listed-from (suc (suc zero)) h n = refl
+listed-from (suc (suc (suc zero))) h n = refl
+listed-from (suc (suc (suc (suc zero)))) h n = refl
+listed-from (suc (suc (suc (suc (suc zero))))) h n = absurd (n refl)
+listed-from (suc (suc (suc (suc (suc (suc zero)))))) h n = refl
+listed-from (suc (suc (suc (suc (suc (suc (suc zero))))))) h n = refl
+listed-from (suc (suc (suc (suc (suc (suc (suc (suc zero)))))))) h n = refl
+listed-from (suc (suc (suc (suc (suc (suc (suc (suc (suc d))))))))) h n = absurd (omega arith)
 
-digit-is : (b : ℕ) → (b ≡ 53 → ⊥) → 48 ≤ b → b ≤ 56 → isDigit b ≡ true
-digit-is b n h g =
+listed-is : (b : ℕ) → (b ≡ 53 → ⊥) → 48 ≤ b → b ≤ 56 → isListed b ≡ true
+listed-is b n h g =
     let e : 48 + (b - 48) ≡ b = omega arith in
-    ap isDigit (sym e) ∙ digit-from (b - 48) (omega arith) (λ z. n (omega arith))
+    ap isListed (sym e) ∙ listed-from (b - 48) (omega arith) (λ z. n (omega arith))
 
-pub digit-none : (b : ℕ) → (b ≡ 53) ⊎ ((b < 48) ⊎ (56 < b)) → isDigit b ≡ false
+pub listed-none : (b : ℕ) → (b ≡ 53) ⊎ ((b < 48) ⊎ (56 < b)) → isListed b ≡ false
 unfolding kindOf
-digit-none b (inl e) = rw e
-digit-none b (inr h) =
+listed-none b (inl e) = rw e
+listed-none b (inr h) =
     let n : (k : ℕ) → 48 ≤ k → k ≤ 56 → eqb b k ≡ false = λ k x y. ne-eqb b k (λ e. ⊎-elim (λ (z : b < 48). absurd (omega arith)) (λ (z : 56 < b). absurd (omega arith)) h) in
     rw (n 48 (omega arith) (omega arith), n 49 (omega arith) (omega arith), n 50 (omega arith) (omega arith), n 51 (omega arith) (omega arith), n 52 (omega arith) (omega arith), n 54 (omega arith) (omega arith), n 55 (omega arith) (omega arith), n 56 (omega arith) (omega arith))
 
-pub digit-upto : (b : ℕ) → (b ≡ 53 → ⊥) → 48 ≤ b → leb b 56 ≡ isDigit b
-digit-upto b n h =
+pub listed-upto : (b : ℕ) → (b ≡ 53 → ⊥) → 48 ≤ b → leb b 56 ≡ isListed b
+listed-upto b n h =
     ⊎-elim
-    (λ (q : 56 < b). lt-leb b 56 q ∙ sym (digit-none b (inr (inr q))))
-    (λ (q : b ≤ 56). le-leb b 56 q ∙ sym (digit-is b n h q))
+    (λ (q : 56 < b). lt-leb b 56 q ∙ sym (listed-none b (inr (inr q))))
+    (λ (q : b ≤ 56). le-leb b 56 q ∙ sym (listed-is b n h q))
     (order 56 b)
 
 -- the least place that passes
@@ -230,11 +230,11 @@ module _ (s : List ℕ) where
   cr-inside p h q e n = let w : q ≤ length s = omega (arith, e, past-bounds notCr s p .1 (omega arith)) in ⊎-elim (λ (x : q ≡ length s). absurd (n x)) (λ (x : q < length s). x) (eq-or-lt-of-le w)
 
   -- a code: its parts, and that it fits
-  pub code-parts : (p : ℕ) → codeAt s p ≡ true → (lineStart s p ≡ true) × ((isDigit (getD s p 0) ≡ true) × (loneCr s (p + 1) ≡ true))
+  pub code-parts : (p : ℕ) → codeAt s p ≡ true → (lineStart s p ≡ true) × ((isListed (getD s p 0) ≡ true) × (loneCr s (p + 1) ≡ true))
   unfolding codeAt
   code-parts p e =
-      let w = and-both (lineStart s p) (isDigit (getD s p 0) && loneCr s (p + 1)) e in
-      (w .0, and-both (isDigit (getD s p 0)) (loneCr s (p + 1)) (w .1))
+      let w = and-both (lineStart s p) (isListed (getD s p 0) && loneCr s (p + 1)) e in
+      (w .0, and-both (isListed (getD s p 0)) (loneCr s (p + 1)) (w .1))
 
   pub code-fits : (p : ℕ) → codeAt s p ≡ true → p + 2 ≤ length s
   code-fits p e = omega (arith, inside-cr (p + 1) (lone-cr (p + 1) (code-parts p e .1 .1) .0))
@@ -278,7 +278,7 @@ module _ (s : List ℕ) where
 
   module _ (p from : ℕ) (w : Walked p from) where
     -- a code here is the leftmost
-    pub walk-found : isDigit (getD s p 0) && loneCr s (p + 1) ≡ true → codes.At p from ≡ coded s (leftmost s)
+    pub walk-found : isListed (getD s p 0) && loneCr s (p + 1) ≡ true → codes.At p from ≡ coded s (leftmost s)
     unfolding leftmost codeAt
     walk-found e =
         let c : codeAt s p ≡ true = rw (w .start) e in
@@ -288,7 +288,7 @@ module _ (s : List ℕ) where
     unfolding leftmost
     walk-end h = ap (coded s) (least-none (codeAt s) (length s) 0 (λ j x y. w .none j (omega arith)))
 
-    module _ (n : isDigit (getD s p 0) && loneCr s (p + 1) ≡ false) (q : ℕ) (e : q ≡ past notCr s p) where
+    module _ (n : isListed (getD s p 0) && loneCr s (p + 1) ≡ false) (q : ℕ) (e : q ≡ past notCr s p) where
       not-here : codeAt s p ≡ false
       unfolding codeAt
       not-here = rw (w .start) n

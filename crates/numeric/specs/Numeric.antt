@@ -47,13 +47,14 @@ kindOf b =
     else if among (bytes "8") b then NoAnswer
     else None
 
-abbrev pub isDigit : ℕ → Bool
-isDigit b = kindFound (kindOf b)
+-- one of these digits
+abbrev pub isListed : ℕ → Bool
+isListed b = kindFound (kindOf b)
 
--- A code: one of these digits at a line start, then a CR with no LF behind it.
+-- A code: one of them at a line start, then a CR with no LF behind it.
 unfoldable pub codeAt : List ℕ → ℕ → Bool
 unfolding lineStart kindOf loneCr
-codeAt s p = lineStart s p && (isDigit (getD s p 0) && loneCr s (p + 1))
+codeAt s p = lineStart s p && (isListed (getD s p 0) && loneCr s (p + 1))
 
 -- the least of the n places from i on that passes f
 unfoldable pub least : (ℕ → Bool) → ℕ → ℕ → Found
@@ -103,11 +104,11 @@ abbrev pub ruled : List ℕ → Outcome ℕ
 ruled [] = answered 0
 ruled (x ∷ t) = refused 2 (0 ∷ [])
 
--- Refusal 1: the input is over 4,096 bytes.
 abbrev pub underTable : Outcome ℕ → List ℕ → Outcome Answer
 underTable (answered n) s = answered (digestUnchecked s)
 underTable (refused n v) s = refused n v
 
+-- Refusal 1: the input is over 4,096 bytes; then refusal 2.
 unfoldable pub digest : List ℕ → List ℕ → Outcome Answer
 unfolding digestUnchecked
 digest t s = if ltb 4096 (length s) then refused 1 [] else underTable (ruled t) s

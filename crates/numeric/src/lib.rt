@@ -7,7 +7,7 @@ ghost use mathlib.Core.Bool.{_&&_};
 ghost use Prim.Native.Nat.{_≤_, _<_, _+_};
 ghost use lib.ListN.{length, getD};
 ghost use Rattle.text.specs.Text.{past};
-ghost use Rattle.numeric.specs.Numeric.{loneCr, kindOf, isDigit, leftmost, behind, along, said, digestUnchecked, digest, outcome};
+ghost use Rattle.numeric.specs.Numeric.{loneCr, kindOf, isListed, leftmost, behind, along, said, digestUnchecked, digest, outcome};
 ghost use Rattle.numeric.specs.Heard.{HeardIn};
 ghost use Rattle.numeric.specs.Laws.{notCr, startBehind, beginsBehind, coded};
 use answers::Answer;
@@ -48,8 +48,8 @@ fn is_lone(s: &[u8], i: usize) -> bool
 }
 
 // Is b one of the digits that are codes?
-fn is_digit(b: u8) -> bool
-    ensures { λ r. ⌜ r ≡ isDigit b ⌝ }
+fn is_listed(b: u8) -> bool
+    ensures { λ r. ⌜ r ≡ isListed b ⌝ }
 {
     if b == b'5' {
         return false;
@@ -63,9 +63,9 @@ fn is_digit(b: u8) -> bool
 // Is the line start p a code: one of the digits, then a lone CR?
 fn is_code(s: &[u8], p: usize) -> bool
     requires { ⌜ p < length (now s) ⌝ }
-    ensures { λ r. ⌜ r ≡ isDigit (getD (now (s .entry)) p 0) && loneCr (now (s .entry)) (p + 1) ⌝ }
+    ensures { λ r. ⌜ r ≡ isListed (getD (now (s .entry)) p 0) && loneCr (now (s .entry)) (p + 1) ⌝ }
 {
-    if !is_digit(s[p]) {
+    if !is_listed(s[p]) {
         return false;
     }
     is_lone(s, p + 1)
