@@ -77,7 +77,7 @@ module _ (c : Choice) (w : World) (g : Good c w) where
   good-at b e l h =
       record { long = omega (arith, g .long); records = g .records; ruled = g .ruled; inside = omega arith; slotFits = g .slotFits; queueFits = g .queueFits }
 
-  commit-good : (n : ℕ) → n ≤ length (w .buf) - w .state .end → Good c (committed w n)
+  pub commit-good : (n : ℕ) → n ≤ length (w .buf) - w .state .end → Good c (committed w n)
   commit-good n h = good-at (w .buf) (w .state .end + n) refl (omega (arith, g .inside))
 
   commit-arrives : (n : ℕ) → Arrives w (committedBytes w n) (committed w n)

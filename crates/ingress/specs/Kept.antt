@@ -36,7 +36,7 @@ module _ (c : Choice) (w : World) where
 
 -- and what it keeps
 module _ (c : Choice) (w : World) (x : Stretch) (v : World) (u : Consumes c w x v) where
-  turned-held : held w ≡ x .bytes ++ held v
+  pub turned-held : held w ≡ x .bytes ++ held v
   turned-held =
       let k = once-went c w v (x .answer .consumed) (u .goes) in
       let f : take (says c w .consumed) (held w) ≡ x .bytes = ap (λ (n : ℕ). take n (held w)) (sym (k .1 .1)) ∙ sym (u .front) in

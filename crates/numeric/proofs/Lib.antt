@@ -1,2 +1,1 @@
 mod Determined
-mod Rest

@@ -2,3 +2,4 @@ pub mod Numeric
 pub mod Heard
 pub mod Laws
 pub mod Calls
+pub mod Rest

@@ -32,6 +32,11 @@ module _ (s : State) (b m n : List ℕ) (e : ℕ) (h : e ≡ min (s .end) (lengt
   unfolding says
   says-is c = ap (c .answers) held-is
 
+-- It is what the digester answers.
+pub says-answers : (c : Choice) (w : World) → says c w ≡ c .answers (held w)
+unfolding says
+says-answers c w = refl
+
 -- It is said of the bytes held alone.
 pub says-same : (c : Choice) (w v : World) → held w ≡ held v → says c w ≡ says c v
 unfolding says

@@ -3,7 +3,7 @@
 use mathlib.Core.Path.{_≡_, refl, sym, ap, _∙_}
 use mathlib.Core.Bool.{true, false, _&&_, _||_, not}
 use mathlib.Core.List.{List}
-use Prim.Native.Nat.{ℕ, zero, suc, _+_, _-_, _≤_}
+use Prim.Native.Nat.{ℕ, zero, suc, _+_}
 use native.Mathlib.Nat.{add-zero}
 use native.Mathlib.Omega.{arith}
 use lib.ListN.{getD, drop}
@@ -11,7 +11,6 @@ use lib.Seq.{getD-drop}
 use borrow.Author.Tests.{eqb-true}
 use Rattle.text.specs.Logic.{not-true-false, and-both}
 use Rattle.numeric.specs.Numeric.{isCr, isLf, loneCr, lineStart, isListed, codeAt}
-use Rattle.numeric.specs.Heard.{NoCode}
 use Rattle.numeric.specs.Laws.{no-crlf}
 
 -- the byte behind a line start's first
@@ -48,9 +47,3 @@ module _ (s : List ℕ) (c : ℕ) (h : lineStart s c ≡ true) where
   rest-codes j =
       let z : c + (j + 1) ≡ c + j + 1 = omega arith in
       λ i. rest-starts j i && (isListed (getD-drop c s j 0 i) && (rest-lone (j + 1) ∙ ap (loneCr s) z) i)
-
-  -- nothing finished in what is left is nothing finished there in the whole
-  pub rest-none : NoCode (drop c s) → (j : ℕ) → c ≤ j → codeAt s j ≡ false
-  rest-none n j g =
-      let z : c + (j - c) ≡ j = omega arith in
-      ap (codeAt s) (sym z) ∙ sym (rest-codes (j - c)) ∙ n (j - c)
