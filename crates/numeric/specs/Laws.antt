@@ -17,6 +17,7 @@ use Rattle.text.specs.Text.{past}
 use Rattle.text.specs.Laws.{past-bounds, past-passes, past-stops}
 use Rattle.text.specs.declared.Found.{Found}
 use Rattle.text.specs.declared.Found.the-variants.{At, Nothing}
+use Rattle.numeric.specs.declared.Line.{Line}
 use Rattle.numeric.specs.declared.Code.{Code}
 use Rattle.numeric.specs.declared.Code.the-variants as codes
 use Rattle.numeric.specs.Numeric.{isCr, isLf, loneCr, lineStart, kindOf, isListed, codeAt, least, leftmost, behind}
@@ -26,13 +27,9 @@ use Rattle.numeric.specs.Heard.{Behind}
 abbrev pub notCr : ℕ → Bool
 notCr b = not (isCr b)
 
--- the line start behind the CR at i
-unfoldable pub startBehind : List ℕ → ℕ → ℕ
-startBehind s i = if loneCr s i then i + 1 else i + 2
-
--- where what stands before that begins
-unfoldable pub beginsBehind : List ℕ → ℕ → ℕ → ℕ
-beginsBehind s i from = if loneCr s i then i + 1 else from
+-- the line start behind the CR at i, and where what stands before that begins
+unfoldable pub lineBehind : List ℕ → ℕ → ℕ → Line
+lineBehind s i from = if loneCr s i then record { start = i + 1; from = i + 1 } else record { start = i + 2; from = from }
 
 -- a code's place, and where what stands before it begins
 abbrev pub coded : List ℕ → Found → Code
@@ -207,16 +204,16 @@ module _ (s : List ℕ) where
       pub cr-at : getD s q 0 ≡ 13
       cr-at = eqb-true (getD s q 0) 13 (not-false (isCr (getD s q 0)) (ap (λ (n : ℕ). notCr (getD s n 0)) e ∙ past-stops notCr s p (omega (arith, e))))
 
-      start-behind : lineStart s (startBehind s q) ≡ true
-      unfolding startBehind
-      start-behind =
-          ways (λ n. lineStart s n ≡ true) (loneCr s q) (λ l. start-lone q l)
+      start-behind : (from : ℕ) → lineStart s (lineBehind s q from .start) ≡ true
+      unfolding lineBehind
+      start-behind from =
+          ways (λ (l : Line). lineStart s (l .start) ≡ true) (loneCr s q) (λ l. start-lone q l)
           (λ l. start-crlf q cr-at (lf-behind q cr-at l))
 
-      not-behind : (j : ℕ) → q < j → j < startBehind s q → lineStart s j ≡ false
-      unfolding startBehind
-      not-behind j x =
-          ways (λ n. j < n → lineStart s j ≡ false) (loneCr s q) (λ l y. absurd (omega arith))
+      not-behind : (from j : ℕ) → q < j → j < lineBehind s q from .start → lineStart s j ≡ false
+      unfolding lineBehind
+      not-behind from j x =
+          ways (λ (n : Line). j < n .start → lineStart s j ≡ false) (loneCr s q) (λ l y. absurd (omega arith))
           (λ l y.
           not-true-false (lineStart s j) (λ o.
           elim (opened j o) [
@@ -310,11 +307,11 @@ module _ (s : List ℕ) where
         no-lone : (j : ℕ) → p ≤ j → j < q → loneCr s j ≡ false
         no-lone j x y = lone-not j (λ z. absurd (no-cr p (w .start) q e j x y z))
 
-        begins-on : beginsBehind s q from ≡ behind s (startBehind s q)
-        unfolding beginsBehind startBehind
+        begins-on : lineBehind s q from .from ≡ behind s (lineBehind s q from .start)
+        unfolding lineBehind
         begins-on =
             let m : p ≤ q = omega (arith, e, past-bounds notCr s p .0) in
-            both-ways (loneCr s q) (behind-lone q)
+            ways (λ (l : Line). l .from ≡ behind s (l .start)) (loneCr s q) (behind-lone q)
             (λ l.
             w .begins
             ∙ sym
@@ -323,22 +320,18 @@ module _ (s : List ℕ) where
             (λ (z : j < q). no-lone j x z)
             (λ (z : q ≤ j). ⊎-elim (λ (o : q ≡ j). ap (loneCr s) (sym o) ∙ l) (λ (o : q < j). let v : q + 1 ≡ j = omega arith in lone-not j (λ r. absurd (omega (arith, ap (λ (k : ℕ). getD s k 0) v, r, lf-behind q (cr-at p (w .start) q e g) l)))) (eq-or-lt-of-le z))
             (order j q))))
-          where
-            both-ways : (b : Bool) → (b ≡ true → q + 1 ≡ behind s (q + 1)) → (b ≡ false → from ≡ behind s (q + 2)) → (if b then q + 1 else from) ≡ behind s (if b then q + 1 else q + 2)
-            both-ways true x y = x refl
-            both-ways false x y = y refl
 
-        pub walk-on : Walked (startBehind s q) (beginsBehind s q from)
+        pub walk-on : Walked (lineBehind s q from .start) (lineBehind s q from .from)
         walk-on =
             record {
-              start = start-behind p (w .start) q e g;
-              none = λ j x. ⊎-elim (λ (y : q < j). no-start j (not-behind p (w .start) q e g j y x)) (λ (y : j ≤ q). none-to j y) (order q j);
+              start = start-behind p (w .start) q e g from;
+              none = λ j x. ⊎-elim (λ (y : q < j). no-start j (not-behind p (w .start) q e g from j y x)) (λ (y : j ≤ q). none-to j y) (order q j);
               begins = begins-on;
             }
 
-        pub walk-less : p < startBehind s q
-        unfolding startBehind
-        walk-less = ways (λ n. p < n) (loneCr s q) (λ l. omega (arith, e, past-bounds notCr s p .0)) (λ l. omega (arith, e, past-bounds notCr s p .0))
+        pub walk-less : p < lineBehind s q from .start
+        unfolding lineBehind
+        walk-less = ways (λ (n : Line). p < n .start) (loneCr s q) (λ l. omega (arith, e, past-bounds notCr s p .0)) (λ l. omega (arith, e, past-bounds notCr s p .0))
 
   -- where what stands before p begins
   pub behind-is : (p : ℕ) → Behind s p (behind s p)

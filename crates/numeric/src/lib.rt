@@ -9,7 +9,7 @@ ghost use lib.ListN.{length, getD};
 ghost use Rattle.text.specs.Text.{past};
 ghost use Rattle.numeric.specs.Numeric.{loneCr, kindOf, isListed, leftmost, behind, along, said, digestUnchecked, digest, outcome};
 ghost use Rattle.numeric.specs.Heard.{HeardIn};
-ghost use Rattle.numeric.specs.Laws.{notCr, startBehind, beginsBehind, coded};
+ghost use Rattle.numeric.specs.Laws.{notCr, lineBehind, coded};
 use answers::Answer;
 use answers::Kind;
 use text::Span;
@@ -85,35 +85,38 @@ fn next_cr(s: &[u8], from: usize) -> usize
     place
 }
 
-// The line start behind the CR at `cr`: that of a CRLF, or of the CR alone.
-fn start_behind(s: &[u8], cr: usize) -> usize
-    requires { ⌜ cr < length (now s) ⌝ }
-    ensures { λ r. ⌜ r ≡ startBehind (now (s .entry)) cr ⌝ }
-{
-    if is_lone(s, cr) {
-        return cr + 1;
-    }
-    cr + 2
+// A line start, and where what stands before it begins: behind the last lone CR, or at the first byte.
+pub struct Line {
+    pub start: usize,
+    pub from: usize,
 }
 
-// Where what stands before that line start begins: behind the CR at `cr` where it is alone, else where it began before, at `from`.
-fn begins_behind(s: &[u8], cr: usize, from: usize) -> usize
+// The line behind the CR at `cr`, of which what stands before began at `from` so far.
+fn line_behind(s: &[u8], cr: usize, from: usize) -> Line
     requires { ⌜ cr < length (now s) ⌝ }
-    ensures { λ r. ⌜ r ≡ beginsBehind (now (s .entry)) cr from ⌝ }
+    ensures { λ r. ⌜ r ≡ lineBehind (now (s .entry)) cr from ⌝ }
 {
     if is_lone(s, cr) {
-        return cr + 1;
+        let next = cr + 1;
+        return Line {
+            start: next,
+            from: next,
+        };
     }
-    from
+    let after = cr + 2;
+    Line {
+        start: after,
+        from: from,
+    }
 }
 
-// A code: its place, and where what stands before it begins.
+// What the walk comes to: a code at a line start, or none.
 pub enum Code {
     At(usize, usize),
     Nothing,
 }
 
-// The leftmost code, by a walk from line start to line start.
+// The leftmost code, with where what stands before it begins, by a walk from line start to line start.
 fn leftmost(s: &[u8]) -> Code
     ensures { λ r. ⌜ r ≡ coded (now (s .entry)) (leftmost (now (s .entry))) ⌝ }
 {
@@ -127,8 +130,9 @@ fn leftmost(s: &[u8]) -> Code
         if cr == s.len() {
             return Code::Nothing;
         }
-        p = start_behind(s, cr);
-        from = begins_behind(s, cr, from);
+        let line = line_behind(s, cr, from);
+        p = line.start;
+        from = line.from;
     }
     Code::Nothing
 }
