@@ -55,7 +55,7 @@
  *
  * Work: a digest's grows with its input, and no faster: twice the input takes at most 2.2 times the instructions (docs/BENCHMARKS.md; at most some 1.2 million for
  * 4,096 bytes). An advance or write digests again all that is in the buffer, so that a stream handed over in pieces that finish nothing costs the square of its
- * length: 1,024 bytes one by one took 36 million instructions, and 4,096 took 541 million. WX_NUMERIC walks over its input once; the same limit holds for it.
+ * length: 1,024 bytes one by one took 36 million instructions, and 4,096 took 540 million. WX_NUMERIC walks over its input once; the same limit holds for it.
  *
  * Licence: Apache-2.0 (see LICENSE and NOTICE).
  */
