@@ -170,7 +170,7 @@ fn write_once(
     ensures { λ r. ⌜ writing r (now (buf .exit)) (now («slot_mem» .exit)) (now («queue_mem» .exit)) ≡ writeOnce (choice selector (now (table .entry))) (now (bytes .entry)) (world state (now (buf .entry)) (now («slot_mem» .entry)) (now («queue_mem» .entry))) ⌝ }
 {
     let end = state.end;
-    let n = turn::fitting(bytes.len(), buf.len() - end);
+    let n = text::fitting(bytes.len(), buf.len() - end);
     if n == 0 {
         return Wrote::Is(state, 0);
     }

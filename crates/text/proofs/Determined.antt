@@ -13,6 +13,9 @@ kept-one κs a x y s t = determined
 pub trim-one : One calls.trim.Reads.Post
 trim-one κs a x y s t = determined
 
+pub fitting-one : One calls.fitting.Reads.Post
+fitting-one κs a x y s t = determined
+
 pub trimmed-part-one : One calls.trimmed_part.Reads.Post
 trimmed-part-one κs a x y s t = determined
 

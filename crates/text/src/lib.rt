@@ -101,14 +101,14 @@ pub fn trim(set: Blanks, s: &[u8]) -> Span
     Span { start: a, len: n }
 }
 
-// A place of s, or its end where the place lies past it.
-fn upto(s: &[u8], place: usize) -> usize
-    ensures { λ r. ⌜ r ≡ min place (length (now (s .entry))) ⌝ }
+// How many of len bytes fit into the room.
+pub fn fitting(len: usize, room: usize) -> usize
+    ensures { λ r. ⌜ r ≡ min len room ⌝ }
 {
-    if s.len() < place {
-        return s.len();
+    if room < len {
+        return room;
     }
-    place
+    len
 }
 
 // What stands from `from` up to `to` without the trim blanks at its two ends, as a part of s; a `to` past the end counts as the end.
@@ -116,7 +116,7 @@ fn upto(s: &[u8], place: usize) -> usize
 pub fn trimmed_part(s: &[u8], from: usize, to: usize) -> Span
     ensures { λ r. ⌜ r ≡ trimmedPart (now (s .entry)) from to ⌝ }
 {
-    let end = upto(s, to);
+    let end = fitting(to, s.len());
     if end < from {
         return Span {
             start: from,
@@ -124,8 +124,9 @@ pub fn trimmed_part(s: &[u8], from: usize, to: usize) -> Span
         };
     }
     let t = trim(Blanks::Trim, &s[from..end]);
+    let start = from + t.start;
     Span {
-        start: from + t.start,
+        start: start,
         len: t.len,
     }
 }

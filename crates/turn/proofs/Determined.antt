@@ -20,9 +20,6 @@ with-slot-one κs a x y s t = determined
 pub with-queue-one : One calls.State.with_queue.Reads.Post
 with-queue-one κs a x y s t = determined
 
-pub fitting-one : One calls.fitting.Reads.Post
-fitting-one κs a x y s t = determined
-
 abbrev stepped-of : Step → Stepped
 stepped-of (went w n) = steps.Is (w .state) n
 stepped-of (stuck w) = steps.Full

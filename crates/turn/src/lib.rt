@@ -3,7 +3,7 @@
 // It relies on the promises and laws of digester, slot and queue, and opens none of their definitions. No public function has a `requires`.
 ghost use mathlib.Core.Path.{_≡_};
 ghost use mathlib.Core.Bool.{true};
-ghost use Prim.Native.Nat.{_<_, min};
+ghost use Prim.Native.Nat.{_<_};
 ghost use Rattle.answers.specs.Answer.{isNotice};
 ghost use Rattle.selector.specs.Selector.{choice};
 ghost use Rattle.turn.specs.Turn.{withEnd, withSlot, withQueue, deliver, delivery, world, once, stepped};
@@ -93,16 +93,6 @@ fn deliver(
     }
 }
 
-// How many of len bytes fit into the room.
-pub fn fitting(len: usize, room: usize) -> usize
-    ensures { λ r. ⌜ r ≡ min len room ⌝ }
-{
-    if room < len {
-        return room;
-    }
-    len
-}
-
 // One turn: the next state and the bytes consumed, or that its notice must wait.
 pub enum Stepped {
     Is(State, usize),
@@ -120,7 +110,7 @@ pub fn step(
 ) -> Stepped
     ensures { λ r. ⌜ stepped state r (now (buf .exit)) (now («slot_mem» .exit)) (now («queue_mem» .exit)) ≡ once (choice selector (now (table .entry))) (world state (now (buf .entry)) (now («slot_mem» .entry)) (now («queue_mem» .entry))) ⌝ }
 {
-    let end = fitting(state.end, buf.len());
+    let end = text::fitting(state.end, buf.len());
     let a = selector::digest_unchecked(selector, table, &buf[..end]);
     let n = a.consumed;
     let part = answers::carried(a);

@@ -5,13 +5,13 @@ use borrow.Author.Needs.{needs}
 use Rattle.text.proofs.trimmed_part.Statement.{statement}
 use Rattle.text.proofs.trimmed_part.Tie as tie
 
-upto-requires : tie.Need-upto-requires
-upto-requires c κs = search needs
+fitting-requires : tie.Need-fitting-requires
+fitting-requires c κs = search needs
 
 returns : tie.Need-returns
 returns c =
     let args = c .before .before .before .args in
-    trimmed-none (args .s .now) (args .from) (args .to) _ (c .before .upto .ensures) (c .if1 .taken)
+    trimmed-none (args .s .now) (args .from) (args .to) _ (c .before .fitting .ensures) (c .if1 .taken)
 
 part-trim-start : tie.Need-part-trim-start
 part-trim-start c = search needs
@@ -22,20 +22,20 @@ part-trim-end c = search needs
 trim-requires : tie.Need-trim-requires
 trim-requires c κs = search needs
 
-add-t9 : tie.Need-add-t9
-add-t9 c =
+add-start : tie.Need-add-start
+add-start c =
     let args = c .before .before .before .before .before .before .args in
     let if1 = c .before .before .before .if1 in
-    let upto = c .before .before .before .before .upto in
-    record { fits = omega (arith, trim-room (args .s .now) (args .from) _ (if1 .left) (omega (arith, upto .ensures)) _ (c .before .trim .ensures)) }
+    let fitting = c .before .before .before .before .fitting in
+    record { fits = omega (arith, trim-room (args .s .now) (args .from) _ (if1 .left) (omega (arith, fitting .ensures)) _ (c .before .trim .ensures)) }
 
 returns-2 : tie.Need-returns-2
 returns-2 c =
     let args = c .before .before .before .before .before .before .args in
-    let upto = c .before .before .before .before .upto in
-    trimmed-is (args .s .now) (args .from) (args .to) _ (upto .ensures) _ (c .before .trim .ensures)
+    let fitting = c .before .before .before .before .fitting in
+    trimmed-is (args .s .now) (args .from) (args .to) _ (fitting .ensures) _ (c .before .trim .ensures)
 
 pub trimmed-part-spec : {M : Type 1} → statement M
 trimmed-part-spec =
     tie.close
-    (tie.spec upto-requires returns part-trim-start part-trim-end trim-requires add-t9 returns-2)
+    (tie.spec fitting-requires returns part-trim-start part-trim-end trim-requires add-start returns-2)
