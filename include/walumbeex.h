@@ -17,7 +17,20 @@
  * Nothing is kept after a call returns, and nothing is allocated.
  *
  * A program: check the version; wx_slot_new, wx_queue_new and wx_ingress_clear on one array of WX_NUMBERS numbers; then, for what each read of the device gave,
- * wx_ingress_write, wx_slot_lookup and wx_slot_reset where an answer is held, wx_queue_take until it is empty. bindings/c/hear.c is one.
+ * wx_ingress_write, wx_slot_lookup where an answer is held, wx_queue_take until it is empty; and wx_slot_reset with the next serial number before each command that
+ * is sent, or, in a program that sends none, behind each answer. bindings/c/hear.c is one that sends none.
+ *
+ * Late answers. A client gives up, sends the next command, and the late answer fills its slot. So the slot has the serial number of its command, WX_SERIAL: 0 in a
+ * new slot, then that of the last reset that wasn't refused. An answer bears the number in force when it was stored, which is out[4] of wx_slot_lookup.
+ *   - What the number does: it tells apart what was stored before a reset and what was stored after it; and it catches a client that repeats a reset. A second
+ *     reset with the same command's number is refused (WX_REPEATED), so that it can't free an answer that has arrived since.
+ *   - What it can't do: tell which command an answer belongs to, since AT answers carry no serial number:
+ *         a reset with 1, no answer; a reset with 2; now the late answer of command 1 arrives, is stored, and bears 2
+ *     and the answer of command 2, which meets a signalled slot, is lost and counted.
+ *   - What a client can do: wait for the line to be quiet, and hand over all that came, before it resets for the next command. A late answer that arrives by then
+ *     is freed with that reset. One that arrives later, or of which a part lies unfinished in the buffer, bears the next number.
+ *   - The next number is any but the one in force. To have a repeated reset caught, count the commands, and hand over that count. A program that needn't, as hear.c,
+ *     takes `(uint32_t)(state[WX_SERIAL] + 1)`: in a state that began with wx_slot_new that never is the one in force, and after 4,294,967,295 it is 0.
  *
  * Where a piece is cut changes what is heard. A `>` or `@` with only blanks (space, tab, CR, LF) behind it is a prompt, and so is a custom prompt's text, so a
  * piece that ends at such a byte inside a line is heard as a prompt:
@@ -74,11 +87,13 @@ extern "C" {
  * Version 2: a numeric error has its digits.
  * Version 3: wx_digest, wx_ingress_advance and wx_ingress_write take a digester, in front of the table; a longer CONNECT line has its text, at out[7] and out[8] of
  * wx_digest; WX_OUT, 7 before, is 9.
- * Version 4: a third digester, WX_NUMERIC; its number, 2, read as WX_VERBOSE before. A notice's number may be WX_RING. */
-#define WX_VERSION 4u
+ * Version 4: a third digester, WX_NUMERIC; its number, 2, read as WX_VERBOSE before. A notice's number may be WX_RING.
+ * Version 5: the slot has a serial number, WX_SERIAL; WX_NUMBERS, 9 before, is 10. wx_slot_reset takes the next one and may be refused with WX_REPEATED;
+ * wx_slot_lookup has it at out[4]. A state of nine numbers that was kept is one of ten with 0 behind it. */
+#define WX_VERSION 5u
 
 /* What a function that returns uint32_t returns (but wx_version): 0, or the number of the refusal. Of those that a call can give, the lowest is given.
- * A refusal of 1 to 4 leaves every number and byte as it stood, but for out[0] at WX_BAD_TABLE. */
+ * A refusal of 1 to 4, or of 15, leaves every number and byte as it stood, but for out[0] at WX_BAD_TABLE. */
 #define WX_DONE 0u      /* not refused */
 #define WX_TOO_LONG 1u  /* the input or the ingress buffer is over WX_LONGEST bytes */
 #define WX_BAD_TABLE 2u /* the table breaks a rule; out[0] is the first faulty record's number (64 for a 65th record);
@@ -88,6 +103,7 @@ extern "C" {
 #define WX_NO_ROOM 4u   /* the commit is more than the room behind END */
 #define WX_FULL 5u      /* a notice of 1 to 128 bytes meets a full queue: the earlier steps are done, the notice and what lay
                            with it are still in the buffer */
+#define WX_REPEATED 15u /* the serial number of a reset is the one already in force */
 
 /* The limits. A code of +CME ERROR or +CMS ERROR is at most 65,535: a line with a larger one is no error. */
 #define WX_LONGEST 4096       /* the longest input of a digest, and the longest ingress buffer; a piece given to wx_ingress_write may be longer */
@@ -129,13 +145,13 @@ extern "C" {
 /* The number of the notice RING by WX_NUMERIC, in the place of a record's: no table has so many. */
 #define WX_RING 255u
 
-/* A state: nine numbers. Every array is a state.
- * END, LEN, START and COUNT are taken whole; NUMBER, SLOT_LOST and QUEUE_LOST over 4,294,967,295 read as that.
+/* A state: ten numbers. Every array is a state.
+ * END, LEN, START and COUNT are taken whole; NUMBER, SLOT_LOST, QUEUE_LOST and SERIAL over 4,294,967,295 read as that.
  * A number that reads already as it is to read stays as it stood, so that a call changes no number but those that it gives another
  * meaning. One that it changes is left in its plain form: 0 or 1 for SIGNALLED, at most 14 for HELD, at most 4,294,967,295 for the
- * three named last.
+ * four named last.
  * A first state: wx_slot_new, wx_queue_new and wx_ingress_clear on any array. */
-#define WX_NUMBERS 9
+#define WX_NUMBERS 10
 enum {
     WX_END = 0,        /* where the bytes in the buffer end */
     WX_SIGNALLED = 1,  /* the slot: 0 free, any other number signalled */
@@ -145,7 +161,8 @@ enum {
     WX_SLOT_LOST = 5,  /* answers lost because the slot was signalled; it stays at 4,294,967,295 */
     WX_START = 6,      /* the queue: the place of its oldest record in the ring */
     WX_COUNT = 7,      /* how many records it holds */
-    WX_QUEUE_LOST = 8  /* notices lost for a payload of 0 or over 128 bytes; it stays at 4,294,967,295 */
+    WX_QUEUE_LOST = 8, /* notices lost for a payload of 0 or over 128 bytes; it stays at 4,294,967,295 */
+    WX_SERIAL = 9      /* the slot's serial number in force, 0 in a new slot; wx_slot_reset gives it the next one */
 };
 
 /* The kinds of an answer. A number over 13 that is handed in as a kind reads as WX_NONE.
@@ -200,7 +217,7 @@ uint32_t wx_digest(uint32_t digester, const uint8_t *table, size_t table_len, co
  * out[0], out[1]: the part's place in the input and its length: place and len where they fit, else 0 and 0. */
 void wx_payload(const uint8_t *input, size_t input_len, size_t place, size_t len, uint64_t out[WX_OUT]);
 
-/* Makes the slot's five numbers those of a new slot: free, an empty Ok held, nothing lost. The other numbers stay. */
+/* Makes the slot's six numbers those of a new slot: free, an empty Ok held, nothing lost, the serial number 0. The other numbers stay. */
 void wx_slot_new(uint64_t state[WX_NUMBERS]);
 
 /* Signals an answer to the slot.
@@ -215,14 +232,16 @@ uint32_t wx_slot_signal(uint64_t state[WX_NUMBERS], const uint64_t answer[WX_OUT
                         uint8_t *mem, size_t mem_len);
 
 /* Looks at the slot, which changes nothing.
- * out[0]: 1 where the slot is signalled; then out[1] is what it holds (a kind or WX_CAPACITY), out[2] its number and out[3] the
- * length of its payload or digits. Of a free slot out[0] is 0 and the others stay.
+ * out[0]: 1 where the slot is signalled; then out[1] is what it holds (a kind or WX_CAPACITY), out[2] its number, out[3] the length
+ * of its payload or digits and out[4] the serial number that it bears. Of a free slot out[0] is 0 and the others stay.
  * Refusals: WX_BAD_STATE. */
 uint32_t wx_slot_lookup(const uint64_t state[WX_NUMBERS], const uint8_t *mem, size_t mem_len, uint64_t out[WX_OUT]);
 
-/* Frees the slot and changes nothing else.
- * Refusals: WX_BAD_STATE. */
-uint32_t wx_slot_reset(uint64_t state[WX_NUMBERS], const uint8_t *mem, size_t mem_len);
+/* Frees the slot for the command of the next serial number, which it stores, and changes nothing else.
+ * serial: any number but the one in force, on a free slot too; a lower one is good, and so is 0, but in a new slot 0 is in force.
+ * mem, mem_len: the slot's memory.
+ * Refusals: WX_BAD_STATE, WX_REPEATED (both leave everything). */
+uint32_t wx_slot_reset(uint64_t state[WX_NUMBERS], uint32_t serial, const uint8_t *mem, size_t mem_len);
 
 /* The payload that a signalled slot holds, or the digits, as a part of the slot's memory.
  * out[0]: its place there, which is 0; out[1]: its length, 0 of a free slot and where LEN is past the memory. */
@@ -252,7 +271,7 @@ uint32_t wx_queue_take(uint64_t state[WX_NUMBERS], const uint8_t *mem, size_t me
  * digester: WX_VERBOSE, WX_CONNECT or WX_NUMERIC; table: the token table, for WX_NUMERIC the empty one; buf: the ingress buffer;
  * slot_mem, queue_mem: the memories of slot and queue.
  * out[0]: at WX_BAD_TABLE the first faulty record's number; else out stays.
- * Refusals: all five. After WX_FULL take a notice, then advance by 0. */
+ * Refusals: all but WX_REPEATED. After WX_FULL take a notice, then advance by 0. */
 uint32_t wx_ingress_advance(uint64_t state[WX_NUMBERS], size_t commit, uint32_t digester, const uint8_t *table, size_t table_len,
                             uint8_t *buf, size_t buf_len, uint8_t *slot_mem, size_t slot_mem_len, uint8_t *queue_mem,
                             size_t queue_mem_len, uint64_t out[WX_OUT]);

@@ -320,6 +320,7 @@ class World:
         self.table, self.buf, self.slot_mem, self.queue_mem = table, bytearray(buf), bytearray(slot_mem), bytearray(queue_mem)
         self.end = 0
         self.signalled, self.kind, self.number, self.length, self.slot_lost = False, "ok", None, 0, 0
+        self.serial = 0  # R-11: "0 in a new slot"
         self.start, self.count, self.queue_lost = 0, 0, 0
 
     # -- the slot --
@@ -349,17 +350,21 @@ class World:
         self.slot_mem[:len(payload)] = payload
         self.length = len(payload)
 
-    def reset(self):
-        """"Reading doesn't free; reset does, and changes nothing else.\""""
+    def reset(self, serial):
+        """"Reading doesn't free; reset does, and changes nothing else", but that it "takes the next one and stores it" (R-11). "A reset with the serial number
+        already in force is refused", "15 serial repeated, after 3, slot unchanged"; reading: any other number is accepted, a lower one and 0 too."""
         self.slot_fits()
-        self.signalled = False
+        if serial == self.serial:
+            raise Refused(15)
+        self.signalled, self.serial = False, serial
 
     def lookup(self):
-        """What a signalled slot holds, or None for a free one."""
+        """What a signalled slot holds, or None for a free one. R-11: "a stored answer bears the one in force when it was stored"; reading: that is the slot's
+        one serial number, since only a reset changes it, and a reset frees."""
         self.slot_fits()
         if not self.signalled:
             return None
-        return self.kind, self.number, bytes(self.slot_mem[:self.length])
+        return self.kind, self.number, bytes(self.slot_mem[:self.length]), self.serial
 
     # -- the queue --
 
@@ -491,10 +496,11 @@ def data_of(text):
 
 
 def number_of(text, most):
-    """A decimal number of at least one digit, at most `most`."""
-    if not text or any(c not in "0123456789" for c in text) or int(text) > most:
+    """A decimal number of at least one digit, at most `most`; zeros in front don't count."""
+    digits = text.lstrip("0")
+    if not text or len(digits) > len(str(MOST)) or any(c not in "0123456789" for c in text) or int(digits or "0") > most:
         raise BadLine
-    return int(text)
+    return int(digits or "0")
 
 
 def op_of(text):
@@ -509,6 +515,8 @@ def op_of(text):
     limits = {"M": MOST, "P": 255}
     if letter in limits:
         return letter, number_of(rest, limits[letter])
+    if letter == "R" and rest:
+        return letter, number_of(rest, MOST)
     if letter in ("C", "R", "T", "L", "B"):
         if rest:
             raise BadLine
@@ -531,11 +539,11 @@ def perform(w, letter, x):
         return "nothing" if got is None else "notice %d %s" % (got[0], shown(got[1]))
     if letter == "L":
         got = w.lookup()
-        return "nothing" if got is None else "held %s %s %s" % (got[0], dashed(got[1]), shown(got[2]))
+        return "nothing" if got is None else "held %s %s %s serial %d" % (got[0], dashed(got[1]), shown(got[2]), got[3])
     if letter == "C":
         w.end = 0  # "Clear takes the end alone, makes it 0 and has no refusal"
     elif letter == "R":
-        w.reset()
+        w.reset((w.serial + 1) % (MOST + 1) if x is None else x)
     elif letter == "E":
         w.signal("cme", *x)
     else:
@@ -566,8 +574,8 @@ def refusal(r):
 
 def state(w):
     """The last state."""
-    return "end %d buffer %s slot %s %s %s %d %d memory %s queue %d %d %d memory %s" % (
-        w.end, shown(w.buf), "signalled" if w.signalled else "free", w.kind, dashed(w.number), w.length, w.slot_lost,
+    return "end %d buffer %s slot %s %s %s %d %d serial %d memory %s queue %d %d %d memory %s" % (
+        w.end, shown(w.buf), "signalled" if w.signalled else "free", w.kind, dashed(w.number), w.length, w.slot_lost, w.serial,
         shown(w.slot_mem), w.start, w.count, w.queue_lost, shown(w.queue_mem))
 
 
@@ -596,11 +604,11 @@ def digest_case(mode, table, data):
 
 
 def started(w, text):
-    """END,SIGNALLED,LEN,SLOT-LOST,START,COUNT,QUEUE-LOST."""
+    """END,SIGNALLED,LEN,SLOT-LOST,START,COUNT,QUEUE-LOST,SERIAL."""
     numbers = text.split(",")
-    if len(numbers) != 7:
+    if len(numbers) != 8:
         raise BadLine
-    w.end, flag, w.length, w.slot_lost, w.start, w.count, w.queue_lost = [number_of(n, MOST) for n in numbers]
+    w.end, flag, w.length, w.slot_lost, w.start, w.count, w.queue_lost, w.serial = [number_of(n, MOST) for n in numbers]
     if flag > 1:
         raise BadLine
     w.signalled = flag == 1

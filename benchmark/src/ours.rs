@@ -5,16 +5,20 @@ use crate::sides::Ears;
 use crate::{BUFFER, QUEUE, SLOT};
 use std::hint::black_box;
 
+/// The numbers of a state; the last is the slot's serial number.
+type State = [u64; 10];
+const SERIAL: usize = 9;
+
 extern "C" {
     fn wx_digest(digester: u32, table: *const u8, table_len: usize, input: *const u8, input_len: usize, out: *mut [u64; 9]) -> u32;
-    fn wx_slot_new(state: *mut [u64; 9]);
-    fn wx_slot_signal(state: *mut [u64; 9], answer: *const [u64; 9], payload: *const u8, payload_len: usize, mem: *mut u8, mem_len: usize) -> u32;
-    fn wx_slot_lookup(state: *const [u64; 9], mem: *const u8, mem_len: usize, out: *mut [u64; 9]) -> u32;
-    fn wx_slot_reset(state: *mut [u64; 9], mem: *const u8, mem_len: usize) -> u32;
-    fn wx_queue_new(state: *mut [u64; 9]);
-    fn wx_ingress_clear(state: *mut [u64; 9]);
+    fn wx_slot_new(state: *mut State);
+    fn wx_slot_signal(state: *mut State, answer: *const [u64; 9], payload: *const u8, payload_len: usize, mem: *mut u8, mem_len: usize) -> u32;
+    fn wx_slot_lookup(state: *const State, mem: *const u8, mem_len: usize, out: *mut [u64; 9]) -> u32;
+    fn wx_slot_reset(state: *mut State, serial: u32, mem: *const u8, mem_len: usize) -> u32;
+    fn wx_queue_new(state: *mut State);
+    fn wx_ingress_clear(state: *mut State);
     fn wx_ingress_write(
-        state: *mut [u64; 9],
+        state: *mut State,
         piece: *const u8,
         piece_len: usize,
         digester: u32,
@@ -90,7 +94,7 @@ fn in_its_type(kind: u64, number: u64) -> (&'static str, Option<u64>) {
 }
 
 pub struct Ingress {
-    state: [u64; 9],
+    state: State,
     table: Vec<u8>,
     buf: Vec<u8>,
     slot_mem: Vec<u8>,
@@ -99,8 +103,8 @@ pub struct Ingress {
 
 impl Ingress {
     pub fn new(table: &[u8]) -> Self {
-        let mut state = [0; 9];
-        // SAFETY: `state` is an array of nine.
+        let mut state = [0; 10];
+        // SAFETY: `state` is an array of ten.
         unsafe {
             wx_slot_new(&mut state);
             wx_queue_new(&mut state);
@@ -112,7 +116,7 @@ impl Ingress {
 impl Ears for Ingress {
     #[inline]
     fn clear(&mut self) {
-        // SAFETY: `state` is an array of nine.
+        // SAFETY: `state` is an array of ten.
         unsafe { wx_ingress_clear(&mut self.state) }
     }
 
@@ -151,8 +155,10 @@ impl Ears for Ingress {
 
     #[inline]
     fn reset(&mut self) {
+        // The number in force would be refused: each reset takes the one after it.
+        let serial = (self.state[SERIAL] as u32).wrapping_add(1);
         // SAFETY: as above.
-        let refusal = unsafe { wx_slot_reset(&mut self.state, self.slot_mem.as_ptr(), self.slot_mem.len()) };
+        let refusal = unsafe { wx_slot_reset(&mut self.state, serial, self.slot_mem.as_ptr(), self.slot_mem.len()) };
         assert_eq!(refusal, 0, "our slot refused a reset");
     }
 

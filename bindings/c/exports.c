@@ -12,7 +12,7 @@
 #define TABLE "UR\7+UUSORD"
 
 /* A caller's arrays are of this length: where one of these changes, so does the version. */
-#if WX_VERSION != 4u || WX_NUMBERS != 9 || WX_OUT != 9
+#if WX_VERSION != 5u || WX_NUMBERS != 10 || WX_OUT != 9
 #error "an array has changed: raise WX_VERSION and wx_version, and write the new lengths here"
 #endif
 
@@ -26,17 +26,21 @@ static void same(const char *what, uint64_t said, uint64_t expected)
     fprintf(stderr, "exports: %s: %llu and not %llu\n", what, (unsigned long long)said, (unsigned long long)expected);
 }
 
-static void same_all(const char *what, const uint64_t *said, const uint64_t *expected, size_t n)
+static void same_all(const char *what, const uint64_t *said, size_t n, const uint64_t *expected, size_t told)
 {
     char name[100];
-    for (size_t i = 0; i < n; i++) {
+    snprintf(name, sizeof name, "%s, how many numbers are expected", what);
+    same(name, told, n);
+    for (size_t i = 0; i < n && i < told; i++) {
         snprintf(name, sizeof name, "%s, number %zu", what, i);
         same(name, said[i], expected[i]);
     }
 }
 
-#define OUT(what, ...) same_all(what, out, (const uint64_t[WX_OUT]){__VA_ARGS__}, WX_OUT)
-#define STATE(what, ...) same_all(what, state, (const uint64_t[WX_NUMBERS]){__VA_ARGS__}, WX_NUMBERS)
+/* All the numbers of an array: one that is left out would be expected to be 0. */
+#define ALL_OF(...) (const uint64_t[]){__VA_ARGS__}, sizeof((const uint64_t[]){__VA_ARGS__}) / sizeof(uint64_t)
+#define OUT(what, ...) same_all(what, out, WX_OUT, ALL_OF(__VA_ARGS__))
+#define STATE(what, ...) same_all(what, state, WX_NUMBERS, ALL_OF(__VA_ARGS__))
 
 static void same_bytes(const char *what, const void *said, const char *expected, size_t n)
 {
@@ -300,47 +304,131 @@ static void slot(void)
     reset_to_was(state, WX_NUMBERS);
     reset_to_was(out, WX_OUT);
     wx_slot_new(state);
-    STATE("a new slot", WAS, 0, WX_OK, 0, 0, 0, WAS, WAS, WAS);
+    STATE("a new slot", WAS, 0, WX_OK, 0, 0, 0, WAS, WAS, WAS, 0);
     same("a look at a free slot", wx_slot_lookup(state, mem, sizeof mem, out), WX_DONE);
     OUT("a look at a free slot", 0, WAS, WAS, WAS, WAS, WAS, WAS, WAS, WAS);
 
     static const uint64_t ok[WX_OUT] = {WX_OK, 0, 2, 3, 9}, cme[WX_OUT] = {WX_CME, 10, 0, 0, 9}, none[WX_OUT] = {WX_NONE};
     same("a signal", wx_slot_signal(state, ok, (const uint8_t *)"xyz", 3, mem, sizeof mem), WX_DONE);
-    STATE("a signal", WAS, 1, WX_OK, 0, 3, 0, WAS, WAS, WAS);
+    STATE("a signal", WAS, 1, WX_OK, 0, 3, 0, WAS, WAS, WAS, 0);
     same_bytes("a signal, memory", mem, "xyzd", 4);
     same("a signal that is lost", wx_slot_signal(state, cme, (const uint8_t *)"", 0, mem, sizeof mem), WX_DONE);
     same("a signal of None", wx_slot_signal(state, none, (const uint8_t *)"", 0, mem, sizeof mem), WX_DONE);
-    STATE("a signal that is lost", WAS, 1, WX_OK, 0, 3, 1, WAS, WAS, WAS);
+    STATE("a signal that is lost", WAS, 1, WX_OK, 0, 3, 1, WAS, WAS, WAS, 0);
     same("a look", wx_slot_lookup(state, mem, sizeof mem, out), WX_DONE);
-    OUT("a look", 1, WX_OK, 0, 3, WAS, WAS, WAS, WAS, WAS);
+    OUT("a look", 1, WX_OK, 0, 3, 0, WAS, WAS, WAS, WAS);
     reset_to_was(out, WX_OUT);
     wx_slot_payload(state, mem, sizeof mem, out);
     OUT("the stored payload", 0, 3, WAS, WAS, WAS, WAS, WAS, WAS, WAS);
-    same("a reset", wx_slot_reset(state, mem, sizeof mem), WX_DONE);
-    STATE("a reset", WAS, 0, WX_OK, 0, 3, 1, WAS, WAS, WAS);
+    same("a reset", wx_slot_reset(state, 5, mem, sizeof mem), WX_DONE);
+    STATE("a reset", WAS, 0, WX_OK, 0, 3, 1, WAS, WAS, WAS, 5);
     wx_slot_payload(state, mem, sizeof mem, out);
     OUT("a free slot's payload", 0, 0, WAS, WAS, WAS, WAS, WAS, WAS, WAS);
     same("a long Ok", wx_slot_signal(state, ok, (const uint8_t *)"12345", 5, mem, sizeof mem), WX_DONE);
-    STATE("a long Ok", WAS, 1, WX_CAPACITY, 0, 0, 1, WAS, WAS, WAS);
+    STATE("a long Ok", WAS, 1, WX_CAPACITY, 0, 0, 1, WAS, WAS, WAS, 5);
     same_bytes("a long Ok, memory", mem, "xyzd", 4);
 
     state[WX_LEN] = 5;
     reset_to_was(out, WX_OUT);
     same("a length past the memory, look", wx_slot_lookup(state, mem, sizeof mem, out), WX_BAD_STATE);
     OUT("a length past the memory, look", WAS, WAS, WAS, WAS, WAS, WAS, WAS, WAS, WAS);
-    same("a length past the memory, reset", wx_slot_reset(state, mem, sizeof mem), WX_BAD_STATE);
+    same("a length past the memory, reset", wx_slot_reset(state, 6, mem, sizeof mem), WX_BAD_STATE);
+    same("a length past the memory, the same reset", wx_slot_reset(state, 5, mem, sizeof mem), WX_BAD_STATE);
     same("a length past the memory, signal", wx_slot_signal(state, ok, (const uint8_t *)"x", 1, mem, sizeof mem), WX_BAD_STATE);
-    STATE("a length past the memory", WAS, 1, WX_CAPACITY, 0, 5, 1, WAS, WAS, WAS);
+    STATE("a length past the memory", WAS, 1, WX_CAPACITY, 0, 5, 1, WAS, WAS, WAS, 5);
     wx_slot_payload(state, mem, sizeof mem, out);
     OUT("a length past the memory, payload", 0, 0, WAS, WAS, WAS, WAS, WAS, WAS, WAS);
 
     /* numbers out of plain form: what a call doesn't change stays as it stood */
     state[WX_SIGNALLED] = 7, state[WX_HELD] = 99, state[WX_NUMBER] = UINT64_MAX, state[WX_LEN] = 3, state[WX_SLOT_LOST] = UINT64_MAX;
+    state[WX_SERIAL] = UINT64_MAX;
     same("out of plain form, None", wx_slot_signal(state, none, (const uint8_t *)"", 0, mem, sizeof mem), WX_DONE);
     same("out of plain form, lost", wx_slot_signal(state, cme, (const uint8_t *)"", 0, mem, sizeof mem), WX_DONE);
-    STATE("out of plain form, signals", WAS, 7, 99, UINT64_MAX, 3, UINT64_MAX, WAS, WAS, WAS);
-    same("out of plain form, reset", wx_slot_reset(state, mem, sizeof mem), WX_DONE);
-    STATE("out of plain form, reset", WAS, 0, 99, UINT64_MAX, 3, UINT64_MAX, WAS, WAS, WAS);
+    STATE("out of plain form, signals", WAS, 7, 99, UINT64_MAX, 3, UINT64_MAX, WAS, WAS, WAS, UINT64_MAX);
+    same("out of plain form, reset", wx_slot_reset(state, 6, mem, sizeof mem), WX_DONE);
+    STATE("out of plain form, reset", WAS, 0, 99, UINT64_MAX, 3, UINT64_MAX, WAS, WAS, WAS, 6);
+}
+
+static const uint64_t an_ok[WX_OUT] = {WX_OK}, a_prompt[WX_OUT] = {WX_PROMPT, '>'}, a_notice[WX_OUT] = {WX_NOTICE}, no_answer[WX_OUT] = {WX_NONE};
+
+#define MOST 4294967295u
+
+/* By hand from R-11: each of these takes the place of the one before, a lower one too, and 0 behind another; itself it is refused, on a free slot and on
+ * a signalled one, where everything stays. */
+static void slot_serial(void)
+{
+    static const uint32_t next[] = {1, 7, 3, 0, MOST, MOST - 1, 2147483648u, MOST, 0, 1};
+    uint64_t state[WX_NUMBERS], out[WX_OUT], in_force = 0;
+    uint8_t mem[] = {'a', 'b', 'c', 'd'};
+#define RESET(what, serial, refusal) same(what, wx_slot_reset(state, serial, mem, sizeof mem), refusal)
+#define SIGNAL(what, answer, bytes) \
+    same(what, wx_slot_signal(state, answer, (const uint8_t *)bytes, sizeof bytes - 1, mem, sizeof mem), WX_DONE)
+    reset_to_was(state, WX_NUMBERS);
+    wx_slot_new(state);
+    RESET("0 on a new slot", 0, WX_REPEATED);
+    STATE("0 on a new slot", WAS, 0, WX_OK, 0, 0, 0, WAS, WAS, WAS, 0);
+    same_bytes("0 on a new slot, memory", mem, "abcd", 4);
+    SIGNAL("an answer", an_ok, "xyz");
+    for (uint64_t i = 0; i < sizeof next / sizeof next[0]; i++) {
+        RESET("the number in force, signalled", (uint32_t)in_force, WX_REPEATED);
+        STATE("the number in force, signalled", WAS, 1, WX_OK, 0, 3, i, WAS, WAS, WAS, in_force);
+        same_bytes("the number in force, signalled, memory", mem, "xyzd", 4);
+
+        in_force = next[i];
+        RESET("the next number", next[i], WX_DONE);
+        STATE("the next number", WAS, 0, WX_OK, 0, 3, i, WAS, WAS, WAS, in_force);
+        RESET("the number in force, free", next[i], WX_REPEATED);
+        STATE("the number in force, free", WAS, 0, WX_OK, 0, 3, i, WAS, WAS, WAS, in_force);
+        reset_to_was(out, WX_OUT);
+        same("a free slot bears nothing", wx_slot_lookup(state, mem, sizeof mem, out), WX_DONE);
+        OUT("a free slot bears nothing", 0, WAS, WAS, WAS, WAS, WAS, WAS, WAS, WAS);
+
+        /* signals leave it, whatever else they do */
+        SIGNAL("None", no_answer, "");
+        SIGNAL("a notice", a_notice, "");
+        SIGNAL("an answer", an_ok, "xyz");
+        SIGNAL("a lost answer", a_prompt, "");
+        STATE("signals", WAS, 1, WX_OK, 0, 3, i + 1, WAS, WAS, WAS, in_force);
+        same("what it bears", wx_slot_lookup(state, mem, sizeof mem, out), WX_DONE);
+        OUT("what it bears", 1, WX_OK, 0, 3, in_force, WAS, WAS, WAS, WAS);
+
+        /* 3 before 15 */
+        state[WX_LEN] = 5;
+        RESET("3 before 15", next[i], WX_BAD_STATE);
+        RESET("3 with another number", next[i] ^ 1, WX_BAD_STATE);
+        STATE("3 before 15", WAS, 1, WX_OK, 0, 5, i + 1, WAS, WAS, WAS, in_force);
+        same_bytes("3 before 15, memory", mem, "xyzd", 4);
+        state[WX_LEN] = 3;
+    }
+}
+
+/* A serial number over 32 bits reads as 4,294,967,295, and stays as it stood until a reset gives another. */
+static void slot_serial_over(void)
+{
+    static const uint64_t over[] = {UINT64_C(4294967296), UINT64_C(4294967302), UINT64_C(8589934591), UINT64_MAX};
+    static const uint32_t next[] = {0, 6, MOST - 1};
+    for (size_t i = 0; i < 3 * sizeof over / sizeof over[0]; i++) {
+        const uint64_t as_it_stood = over[i / 3];
+        uint64_t state[WX_NUMBERS], out[WX_OUT];
+        uint8_t mem[] = {'a', 'b', 'c', 'd'};
+        reset_to_was(state, WX_NUMBERS);
+        reset_to_was(out, WX_OUT);
+        wx_slot_new(state);
+        state[WX_SERIAL] = as_it_stood;
+        RESET("over 32 bits, free", MOST, WX_REPEATED);
+        STATE("over 32 bits, free", WAS, 0, WX_OK, 0, 0, 0, WAS, WAS, WAS, as_it_stood);
+        SIGNAL("over 32 bits, None", no_answer, "");
+        SIGNAL("over 32 bits, an answer", a_prompt, "");
+        SIGNAL("over 32 bits, a lost answer", an_ok, "xyz");
+        STATE("over 32 bits, signals", WAS, 1, WX_PROMPT, '>', 0, 1, WAS, WAS, WAS, as_it_stood);
+        same("over 32 bits, a look", wx_slot_lookup(state, mem, sizeof mem, out), WX_DONE);
+        OUT("over 32 bits, a look", 1, WX_PROMPT, '>', 0, MOST, WAS, WAS, WAS, WAS);
+        RESET("over 32 bits, signalled", MOST, WX_REPEATED);
+        STATE("over 32 bits, signalled", WAS, 1, WX_PROMPT, '>', 0, 1, WAS, WAS, WAS, as_it_stood);
+        RESET("over 32 bits, the next number", next[i % 3], WX_DONE);
+        STATE("over 32 bits, the next number", WAS, 0, WX_PROMPT, '>', 0, 1, WAS, WAS, WAS, next[i % 3]);
+        same_bytes("over 32 bits, memory", mem, "abcd", 4);
+    }
 }
 
 /* The digits of a numeric error in memories that are too short for them, just long enough, and longer. */
@@ -361,15 +449,15 @@ static void slot_digits(void)
         reset_to_was(out, WX_OUT);
         wx_slot_new(state);
         same("digits", wx_slot_signal(state, cme, (const uint8_t *)"0010", 4, mem, mem_len), WX_DONE);
-        STATE("digits", WAS, 1, WX_CME, 10, cases[i].len, 0, WAS, WAS, WAS);
+        STATE("digits", WAS, 1, WX_CME, 10, cases[i].len, 0, WAS, WAS, WAS, 0);
         same_bytes("digits, memory", mem, cases[i].mem, sizeof mem);
         same("digits, look", wx_slot_lookup(state, mem, mem_len, out), WX_DONE);
-        OUT("digits, look", 1, WX_CME, 10, cases[i].len, WAS, WAS, WAS, WAS, WAS);
+        OUT("digits, look", 1, WX_CME, 10, cases[i].len, 0, WAS, WAS, WAS, WAS);
         reset_to_was(out, WX_OUT);
         wx_slot_payload(state, mem, mem_len, out);
         OUT("digits, payload", 0, cases[i].len, WAS, WAS, WAS, WAS, WAS, WAS, WAS);
         same("digits that are lost", wx_slot_signal(state, cms, (const uint8_t *)"07", 2, mem, mem_len), WX_DONE);
-        STATE("digits that are lost", WAS, 1, WX_CME, 10, cases[i].len, 1, WAS, WAS, WAS);
+        STATE("digits that are lost", WAS, 1, WX_CME, 10, cases[i].len, 1, WAS, WAS, WAS, 0);
         same_bytes("digits that are lost, memory", mem, cases[i].mem, sizeof mem);
     }
 }
@@ -388,7 +476,7 @@ static void slot_bytes(void)
         reset_to_was(state, WX_NUMBERS);
         wx_slot_new(state);
         same("any bytes", wx_slot_signal(state, answer, (const uint8_t *)"x?", 2, mem, sizeof mem), WX_DONE);
-        STATE("any bytes", WAS, 1, cases[i].kind, cases[i].number, cases[i].len, 0, WAS, WAS, WAS);
+        STATE("any bytes", WAS, 1, cases[i].kind, cases[i].number, cases[i].len, 0, WAS, WAS, WAS, 0);
         same_bytes("any bytes, memory", mem, cases[i].mem, sizeof mem);
     }
 }
@@ -403,23 +491,23 @@ static void queue(void)
     reset_to_was(state, WX_NUMBERS);
     reset_to_was(out, WX_OUT);
     wx_queue_new(state);
-    STATE("a new queue", WAS, WAS, WAS, WAS, WAS, WAS, 0, 0, 0);
+    STATE("a new queue", WAS, WAS, WAS, WAS, WAS, WAS, 0, 0, 0, WAS);
     same("a put", wx_queue_put(state, mem, sizeof mem, 5, (const uint8_t *)"RING", 4), WX_DONE);
-    STATE("a put", WAS, WAS, WAS, WAS, WAS, WAS, 0, 1, 0);
+    STATE("a put", WAS, WAS, WAS, WAS, WAS, WAS, 0, 1, 0, WAS);
     same_bytes("a put, memory", mem, "UR\5\4RING", 9);
     same("a full queue", wx_queue_put(state, mem, sizeof mem, 6, (const uint8_t *)"BUSY", 4), WX_FULL);
     same("a long notice", wx_queue_put(state, mem, sizeof mem, 6, longer, sizeof longer), WX_DONE);
-    STATE("a long notice", WAS, WAS, WAS, WAS, WAS, WAS, 0, 1, 1);
+    STATE("a long notice", WAS, WAS, WAS, WAS, WAS, WAS, 0, 1, 1, WAS);
     same("a take", wx_queue_take(state, mem, sizeof mem, out), WX_DONE);
     OUT("a take", 1, 5, 4, 4, WAS, WAS, WAS, WAS, WAS);
     reset_to_was(out, WX_OUT);
     same("an empty queue", wx_queue_take(state, mem, sizeof mem, out), WX_DONE);
     OUT("an empty queue", 0, WAS, WAS, WAS, WAS, WAS, WAS, WAS, WAS);
-    STATE("an empty queue", WAS, WAS, WAS, WAS, WAS, WAS, 0, 0, 1);
+    STATE("an empty queue", WAS, WAS, WAS, WAS, WAS, WAS, 0, 0, 1, WAS);
     state[WX_START] = 1;
     same("a start past the ring, take", wx_queue_take(state, mem, sizeof mem, out), WX_BAD_STATE);
     same("a start past the ring, put", wx_queue_put(state, mem, sizeof mem, 5, (const uint8_t *)"RING", 4), WX_BAD_STATE);
-    STATE("a start past the ring", WAS, WAS, WAS, WAS, WAS, WAS, 1, 0, 1);
+    STATE("a start past the ring", WAS, WAS, WAS, WAS, WAS, WAS, 1, 0, 1, WAS);
 }
 
 static void ingress(void)
@@ -435,28 +523,29 @@ static void ingress(void)
     wx_slot_new(state);
     wx_queue_new(state);
     wx_ingress_clear(state);
-    STATE("a first state", 0, 0, WX_OK, 0, 0, 0, 0, 0, 0);
+    STATE("a first state", 0, 0, WX_OK, 0, 0, 0, 0, 0, 0, 0);
+    same("a first reset", wx_slot_reset(state, 7, slot_mem, sizeof slot_mem), WX_DONE);
     reset_to_was(out, WX_OUT);
     same("a write", wx_ingress_write(state, answer, sizeof answer - 1, WITH_TABLE, MEMORIES), WX_DONE);
     OUT("a write", sizeof answer - 1, WAS, WAS, WAS, WAS, WAS, WAS, WAS, WAS);
-    STATE("a write", 0, 1, WX_OK, 0, 11, 0, 0, 0, 0);
+    STATE("a write", 0, 1, WX_OK, 0, 11, 0, 0, 0, 0, 7);
     same_bytes("a write, the slot's memory", slot_mem, "+CSQ: 17,99", 11);
 
     same("a full queue", wx_ingress_write(state, notices, sizeof notices - 1, WITH_TABLE, MEMORIES), WX_FULL);
     OUT("a full queue", sizeof notices - 1, WAS, WAS, WAS, WAS, WAS, WAS, WAS, WAS);
-    STATE("a full queue", 14, 1, WX_OK, 0, 11, 0, 0, 1, 0);
+    STATE("a full queue", 14, 1, WX_OK, 0, 11, 0, 0, 1, 0, 7);
     same_bytes("a full queue, the buffer", buf, "\r\n+UUSORD: 2\r\n", 14);
     same("still full", wx_ingress_advance(state, 0, WITH_TABLE, MEMORIES), WX_FULL);
     same("the first notice", wx_queue_take(state, queue_mem, sizeof queue_mem, out), WX_DONE);
     OUT("the first notice", 1, 0, 4, 10, WAS, WAS, WAS, WAS, WAS);
     same_bytes("the first notice", queue_mem + 4, "+UUSORD: 1", 10);
     same("going on", wx_ingress_advance(state, 0, WITH_TABLE, MEMORIES), WX_DONE);
-    STATE("going on", 0, 1, WX_OK, 0, 11, 0, 0, 1, 0);
+    STATE("going on", 0, 1, WX_OK, 0, 11, 0, 0, 1, 0, 7);
     same_bytes("the second notice", queue_mem + 4, "+UUSORD: 2", 10);
 
     memcpy(buf, "\r\nNO", 4);
     same("an advance", wx_ingress_advance(state, 4, WITH_TABLE, MEMORIES), WX_DONE);
-    STATE("an advance", 4, 1, WX_OK, 0, 11, 0, 0, 1, 0);
+    STATE("an advance", 4, 1, WX_OK, 0, 11, 0, 0, 1, 0, 7);
     reset_to_was(out, WX_OUT);
     same("a commit over the room", wx_ingress_advance(state, 61, WITH_TABLE, MEMORIES), WX_NO_ROOM);
     same("a buffer of 4,097 bytes",
@@ -465,11 +554,11 @@ static void ingress(void)
     OUT("refused", WAS, WAS, WAS, WAS, WAS, WAS, WAS, WAS, WAS);
     same("a faulty table", wx_ingress_write(state, answer, 1, WX_VERBOSE, faulty, 2, MEMORIES), WX_BAD_TABLE);
     OUT("a faulty table", 0, WAS, WAS, WAS, WAS, WAS, WAS, WAS, WAS);
-    STATE("refused", 4, 1, WX_OK, 0, 11, 0, 0, 1, 0);
+    STATE("refused", 4, 1, WX_OK, 0, 11, 0, 0, 1, 0, 7);
     state[WX_END] = 65;
     same("an end past the buffer", wx_ingress_advance(state, 0, WITH_TABLE, MEMORIES), WX_BAD_STATE);
     wx_ingress_clear(state);
-    STATE("a clear", 0, 1, WX_OK, 0, 11, 0, 0, 1, 0);
+    STATE("a clear", 0, 1, WX_OK, 0, 11, 0, 0, 1, 0, 7);
 }
 
 /* The ingress hands the digits on to the slot. */
@@ -495,7 +584,7 @@ static void ingress_digits(void)
         reset_to_was(out, WX_OUT);
         same("digits handed on", wx_ingress_write(state, piece, strlen(cases[i].piece), WX_VERBOSE, piece, 0, MEMORIES), WX_DONE);
         OUT("digits handed on", strlen(cases[i].piece), WAS, WAS, WAS, WAS, WAS, WAS, WAS, WAS);
-        STATE("digits handed on", 0, 1, cases[i].kind, cases[i].number, cases[i].len, 0, 0, 0, 0);
+        STATE("digits handed on", 0, 1, cases[i].kind, cases[i].number, cases[i].len, 0, 0, 0, 0, 0);
         same_bytes("digits handed on, the slot's memory", slot_mem, cases[i].mem, sizeof slot_mem);
     }
 }
@@ -535,7 +624,7 @@ static void ingress_connect(void)
                 same("CONNECT, an advance", wx_ingress_advance(state, len, digester, piece, 0, MEMORIES), WX_DONE);
                 OUT("CONNECT, an advance", WAS, WAS, WAS, WAS, WAS, WAS, WAS, WAS, WAS);
             }
-            STATE("CONNECT", cases[i].end, cases[i].signalled, cases[i].kind, 0, cases[i].len, 0, 0, 0, 0);
+            STATE("CONNECT", cases[i].end, cases[i].signalled, cases[i].kind, 0, cases[i].len, 0, 0, 0, 0, 0);
             same_bytes("CONNECT, the buffer", buf, cases[i].piece + len - cases[i].end, cases[i].end);
             same_bytes("CONNECT, the slot's memory", slot_mem, cases[i].mem, sizeof slot_mem);
         }
@@ -573,14 +662,14 @@ static void ingress_numeric_full(uint64_t state[WX_NUMBERS], uint8_t *buf, uint8
 #define EMPTY_TABLE WX_NUMERIC, piece, 0
     same("V0, a full queue", wx_ingress_write(state, piece, 10, EMPTY_TABLE, LENT(buf, 64)), WX_FULL);
     same("V0, a full queue, taken", out[0], 10);
-    STATE("V0, a full queue", 10, 0, WX_OK, 0, 11, 0, 0, 1, 0);
+    STATE("V0, a full queue", 10, 0, WX_OK, 0, 11, 0, 0, 1, 0, 1);
     same_bytes("V0, a full queue, the buffer", buf, "AT+X\r2\r4\r0", 10);
     same("V0, still full", wx_ingress_advance(state, 0, EMPTY_TABLE, LENT(buf, 64)), WX_FULL);
     reset_to_was(out, WX_OUT);
     same("V0, the first RING", wx_queue_take(state, queue_mem, WX_RECORD, out), WX_DONE);
     OUT("V0, the first RING", 1, WX_RING, 4, 1, WAS, WAS, WAS, WAS, WAS);
     same("V0, going on", wx_ingress_advance(state, 0, EMPTY_TABLE, LENT(buf, 64)), WX_DONE);
-    STATE("V0, going on", 1, 1, WX_ERROR, 0, 0, 0, 0, 1, 0);
+    STATE("V0, going on", 1, 1, WX_ERROR, 0, 0, 0, 0, 1, 0, 1);
     same_bytes("V0, going on, the buffer", buf, "0", 1);
 }
 
@@ -594,17 +683,17 @@ static void ingress_numeric(void)
     wx_queue_new(state);
     wx_ingress_clear(state);
     same("V0, half a line", wx_ingress_write(state, first, sizeof first - 1, WX_NUMERIC, first, 0, MEMORIES), WX_DONE);
-    STATE("V0, half a line", 15, 0, WX_OK, 0, 0, 0, 0, 0, 0);
+    STATE("V0, half a line", 15, 0, WX_OK, 0, 0, 0, 0, 0, 0, 0);
     same("V0, an answer and RING", wx_ingress_write(state, second, sizeof second - 1, WX_NUMERIC, first, 0, MEMORIES), WX_DONE);
     same("V0, an answer and RING, taken", out[0], sizeof second - 1);
-    STATE("V0, an answer and RING", 0, 1, WX_OK, 0, 11, 0, 0, 1, 0);
-    same("a reset", wx_slot_reset(state, slot_mem, sizeof slot_mem), WX_DONE);
+    STATE("V0, an answer and RING", 0, 1, WX_OK, 0, 11, 0, 0, 1, 0, 0);
+    same("a reset", wx_slot_reset(state, 1, slot_mem, sizeof slot_mem), WX_DONE);
     ingress_numeric_full(state, buf, slot_mem, queue_mem);
 
     buf[1] = 'x';
     same("V0, a commit", wx_ingress_advance(state, 1, WX_NUMERIC, first, 0, MEMORIES), WX_DONE);
     ingress_numeric_refusals(state, buf, slot_mem, queue_mem);
-    STATE("V0, refused", 2, 1, WX_ERROR, 0, 0, 0, 0, 1, 0);
+    STATE("V0, refused", 2, 1, WX_ERROR, 0, 0, 0, 0, 1, 0, 1);
     same_bytes("V0, the buffer", buf, "0x", 2);
     same_bytes("V0, the slot's memory", slot_mem, "+CSQ: 17,99", 11);
     same_bytes("V0, the queue's memory", queue_mem, "UR\377\0012", 5);
@@ -635,7 +724,7 @@ static void cut_numeric(void)
         wx_ingress_clear(state);
         same("V0, before the cut", wx_ingress_write(state, first, strlen(cases[i].first), WX_NUMERIC, first, 0, MEMORIES), WX_DONE);
         same("V0, behind it", wx_ingress_write(state, second, strlen(cases[i].second), WX_NUMERIC, first, 0, MEMORIES), WX_DONE);
-        STATE("V0, a cut", cases[i].end, cases[i].signalled, WX_OK, 0, cases[i].len, 0, 0, 0, 0);
+        STATE("V0, a cut", cases[i].end, cases[i].signalled, WX_OK, 0, cases[i].len, 0, 0, 0, 0, 0);
     }
 }
 
@@ -651,14 +740,88 @@ static void cut(void)
     wx_ingress_clear(state);
 #define WRITE(what, piece, n) same(what, wx_ingress_write(state, piece, n, WX_VERBOSE, (const uint8_t *)"", 0, MEMORIES), WX_DONE)
     WRITE("a whole answer", answer, len);
-    STATE("a whole answer", 0, 1, WX_OK, 0, 25, 0, 0, 0, 0);
+    STATE("a whole answer", 0, 1, WX_OK, 0, 25, 0, 0, 0, 0, 0);
     same_bytes("a whole answer", slot_mem, "+CGDCONT: 1,\"IP\",\"me@apn\"", 25);
-    same("a reset", wx_slot_reset(state, slot_mem, sizeof slot_mem), WX_DONE);
+    same("a reset", wx_slot_reset(state, 1, slot_mem, sizeof slot_mem), WX_DONE);
     WRITE("cut behind the @", answer, at);
-    STATE("cut behind the @", 0, 1, WX_PROMPT, '@', 0, 0, 0, 0, 0);
-    same("a reset", wx_slot_reset(state, slot_mem, sizeof slot_mem), WX_DONE);
+    STATE("cut behind the @", 0, 1, WX_PROMPT, '@', 0, 0, 0, 0, 0, 1);
+    same("a reset", wx_slot_reset(state, 2, slot_mem, sizeof slot_mem), WX_DONE);
     WRITE("behind the cut", answer + at, len - at);
-    STATE("behind the cut", 0, 1, WX_OK, 0, 0, 0, 0, 0, 0);
+    STATE("behind the cut", 0, 1, WX_OK, 0, 0, 0, 0, 0, 0, 2);
+}
+
+static uint32_t look(const uint64_t state[WX_NUMBERS], const uint8_t *mem, size_t mem_len, uint64_t out[WX_OUT])
+{
+    reset_to_was(out, WX_OUT);
+    return wx_slot_lookup(state, mem, mem_len, out);
+}
+
+/* What the header says of late answers: one that arrives behind the next reset bears its number, one that arrives before is freed with it. */
+static void late(void)
+{
+    static const uint8_t first[] = "AT+CSQ\r\r\n+CSQ: 17,99\r\n\r\nOK\r\n", second[] = "AT\r\r\nOK\r\n";
+    uint64_t state[WX_NUMBERS], out[WX_OUT];
+    uint8_t buf[64], slot_mem[16], queue_mem[WX_RECORD];
+    wx_slot_new(state);
+    wx_queue_new(state);
+    wx_ingress_clear(state);
+#define NEXT(what, serial, refusal) same(what, wx_slot_reset(state, serial, slot_mem, sizeof slot_mem), refusal)
+#define LOOK(what) same(what, look(state, slot_mem, sizeof slot_mem, out), WX_DONE)
+    NEXT("command 1", 1, WX_DONE);
+    NEXT("command 2", 2, WX_DONE);
+    WRITE("the late answer of command 1", first, sizeof first - 1);
+    LOOK("the late answer of command 1");
+    OUT("the late answer of command 1", 1, WX_OK, 0, 11, 2, WAS, WAS, WAS, WAS);
+    WRITE("the answer of command 2", second, sizeof second - 1);
+    STATE("the answer of command 2", 0, 1, WX_OK, 0, 11, 1, 0, 0, 0, 2);
+    NEXT("a second reset for command 2", 2, WX_REPEATED);
+    LOOK("a second reset for command 2");
+    OUT("a second reset for command 2", 1, WX_OK, 0, 11, 2, WAS, WAS, WAS, WAS);
+
+    NEXT("command 3", (uint32_t)(state[WX_SERIAL] + 1), WX_DONE);
+    WRITE("the late answer of command 3", first, sizeof first - 1);
+    LOOK("the late answer of command 3");
+    OUT("the late answer of command 3", 1, WX_OK, 0, 11, 3, WAS, WAS, WAS, WAS);
+    NEXT("command 4", (uint32_t)(state[WX_SERIAL] + 1), WX_DONE);
+    LOOK("before the answer of command 4");
+    OUT("before the answer of command 4", 0, WAS, WAS, WAS, WAS, WAS, WAS, WAS, WAS);
+    WRITE("the answer of command 4", second, sizeof second - 1);
+    LOOK("the answer of command 4");
+    OUT("the answer of command 4", 1, WX_OK, 0, 0, 4, WAS, WAS, WAS, WAS);
+    STATE("the answer of command 4", 0, 1, WX_OK, 0, 0, 1, 0, 0, 0, 4);
+
+    /* the last number and the one after it */
+    NEXT("command 4,294,967,295", MOST, WX_DONE);
+    NEXT("command 0", (uint32_t)(state[WX_SERIAL] + 1), WX_DONE);
+    STATE("command 0", 0, 0, WX_OK, 0, 0, 1, 0, 0, 0, 0);
+}
+
+/* The calls that aren't the slot's leave a serial number as it stood, out of plain form too. */
+static void serial_stays(void)
+{
+    static const uint64_t numbers[] = {7, MOST, UINT64_C(4294967296), UINT64_MAX};
+    static const uint8_t table[] = TABLE, notices[] = "\r\n+UUSORD: 1\r\n\r\n+UUSORD: 2\r\n\r\nOK\r\n";
+    for (size_t i = 0; i < sizeof numbers / sizeof numbers[0]; i++) {
+        const uint64_t serial = numbers[i];
+        uint64_t state[WX_NUMBERS], out[WX_OUT];
+        uint8_t buf[64] = {0}, slot_mem[16] = {0}, queue_mem[WX_RECORD] = {0};
+        wx_slot_new(state);
+        state[WX_SERIAL] = serial;
+        wx_queue_new(state);
+        wx_ingress_clear(state);
+        STATE("the number stays, a new queue", 0, 0, WX_OK, 0, 0, 0, 0, 0, 0, serial);
+        same("the number stays, a write", wx_ingress_write(state, notices, sizeof notices - 1, WITH_TABLE, MEMORIES), WX_FULL);
+        STATE("the number stays, a write", 20, 0, WX_OK, 0, 0, 0, 0, 1, 0, serial);
+        same("the number stays, a take", wx_queue_take(state, queue_mem, sizeof queue_mem, out), WX_DONE);
+        STATE("the number stays, a take", 20, 0, WX_OK, 0, 0, 0, 0, 0, 0, serial);
+        same("the number stays, an advance", wx_ingress_advance(state, 0, WITH_TABLE, MEMORIES), WX_DONE);
+        STATE("the number stays, an advance", 0, 1, WX_OK, 0, 0, 0, 0, 1, 0, serial);
+        same("the number stays, a put", wx_queue_put(state, queue_mem, sizeof queue_mem, 0, notices, 0), WX_DONE);
+        same("the number stays, half a line", wx_ingress_write(state, notices, 5, WITH_TABLE, MEMORIES), WX_DONE);
+        STATE("the number stays, a put", 5, 1, WX_OK, 0, 0, 0, 0, 1, 1, serial);
+        wx_ingress_clear(state);
+        STATE("the number stays, a clear", 0, 1, WX_OK, 0, 0, 0, 0, 1, 1, serial);
+    }
 }
 
 int main(void)
@@ -674,6 +837,8 @@ int main(void)
     digest_numeric_refusals();
     deepest(WX_NUMERIC);
     slot();
+    slot_serial();
+    slot_serial_over();
     slot_digits();
     slot_bytes();
     queue();
@@ -683,6 +848,8 @@ int main(void)
     ingress_numeric();
     cut();
     cut_numeric();
+    late();
+    serial_stays();
     if (differences == 0)
         puts("exports: every function of walumbeex.h answered as document 01 says");
     return differences != 0;

@@ -46,6 +46,15 @@ static void stop(const char *what)
     exit(1);
 }
 
+/* Stops where a call was refused. */
+static void must_be_done(uint32_t refusal)
+{
+    if (refusal == WX_DONE)
+        return;
+    fprintf(stderr, "hear: refusal %u\n", (unsigned)refusal);
+    exit(1);
+}
+
 /* The bytes, with a backslash for what can't be printed. */
 static void escaped(FILE *to, const uint8_t *bytes, size_t n)
 {
@@ -95,15 +104,15 @@ static void notices(void)
         ;
 }
 
-/* Prints the answer that is held, behind the notices that came before it, and frees the slot. */
+/* Prints the answer that is held, behind the notices that came before it, and frees the slot. No command is sent here: the serial numbers count the answers. */
 static void answer(void)
 {
     if (state[WX_SIGNALLED] == 0)
         return;
     notices();
-    if (wx_slot_lookup(state, slot_mem, sizeof slot_mem, out) == WX_DONE)
-        print(out[1], out[2], slot_mem, out[3]);
-    wx_slot_reset(state, slot_mem, sizeof slot_mem);
+    must_be_done(wx_slot_lookup(state, slot_mem, sizeof slot_mem, out));
+    print(out[1], out[2], slot_mem, out[3]);
+    must_be_done(wx_slot_reset(state, (uint32_t)(state[WX_SERIAL] + 1), slot_mem, sizeof slot_mem));
 }
 
 static uint32_t advance(void)
@@ -126,10 +135,7 @@ static void hear(const uint8_t *piece, size_t n)
         /* A notice that is taken makes room for the one that waits. */
         while (refusal == WX_FULL && notice())
             refusal = advance();
-        if (refusal != WX_DONE) {
-            fprintf(stderr, "hear: refusal %u\n", (unsigned)refusal);
-            exit(1);
-        }
+        must_be_done(refusal);
         answer();
         if (taken == 0 && state[WX_END] == sizeof buf) {
             fprintf(stderr, "hear: the buffer is full and nothing in it is finished: %zu bytes dropped\n", sizeof buf);

@@ -54,7 +54,8 @@ fn number(code: u16, digits: &[u8]) -> String {
     digits.escape_ascii().to_string()
 }
 
-/// Prints the answer that is held, behind the notices that came before it, and frees the slot.
+/// Prints the answer that is held, behind the notices that came before it, and frees the slot. No command is sent here: the serial
+/// numbers count the answers.
 fn answer(ingress: &mut Ingress<'_>) -> Result<(), Box<dyn Error>> {
     if !ingress.res_slot.signalled() {
         return Ok(());
@@ -73,7 +74,7 @@ fn answer(ingress: &mut Ingress<'_>) -> Result<(), Box<dyn Error>> {
         Some(Response::ConnectionError(e)) => print(&format!("connection  {e}"))?,
         Some(Response::CustomError { text, .. }) => print(&format!("error       {}", text.escape_ascii()))?,
     }
-    ingress.res_slot.reset()?;
+    ingress.res_slot.reset_next()?;
     Ok(())
 }
 

@@ -8,21 +8,23 @@
 //!
 //! The calling convention is System V's: `build.rs` links for x86-64 Linux with pointers of 64 bits only, where it is `"C"`.
 
-use crate::Refusal;
+use crate::{Refusal, ResetRefusal};
 
 /// The version of the calls and arrays below: `WX_VERSION` of `include/walumbeex.h`.
-const VERSION: u32 = 4;
+const VERSION: u32 = 5;
 
-/// The places of a state's nine numbers.
+/// The places of a state's ten numbers, of those that are used here. The slot's are 1 to 5 and the last, the queue's 6 to 8.
 pub(crate) const END: usize = 0;
 pub(crate) const SIGNALLED: usize = 1;
 pub(crate) const SLOT_LOST: usize = 5;
 pub(crate) const START: usize = 6;
 pub(crate) const COUNT: usize = 7;
 pub(crate) const QUEUE_LOST: usize = 8;
+pub(crate) const SERIAL: usize = 9;
 
-/// A state's nine numbers.
-pub(crate) type State = [u64; 9];
+/// A state's ten numbers.
+pub(crate) const NUMBERS: usize = 10;
+pub(crate) type State = [u64; NUMBERS];
 
 /// The nine numbers that a call may answer.
 const OUT: usize = 9;
@@ -41,7 +43,7 @@ extern "C" {
         mem_len: usize,
     ) -> u32;
     fn wx_slot_lookup(state: *const u64, mem: *const u8, mem_len: usize, out: *mut u64) -> u32;
-    fn wx_slot_reset(state: *mut u64, mem: *const u8, mem_len: usize) -> u32;
+    fn wx_slot_reset(state: *mut u64, serial: u32, mem: *const u8, mem_len: usize) -> u32;
     fn wx_queue_new(state: *mut u64);
     fn wx_queue_capacity(len: usize) -> usize;
     fn wx_queue_put(state: *mut u64, mem: *mut u8, mem_len: usize, number: u8, payload: *const u8, payload_len: usize) -> u32;
@@ -100,7 +102,7 @@ fn refused(number: u32, out: &Out, taken: usize) -> Result<(), Refusal> {
         2 => Err(Refusal::BadTable { record: out[0] as u8 }),
         4 => Err(Refusal::NoRoom),
         5 => Err(Refusal::QueueFull { taken }),
-        // 3; no call answers a number over 5.
+        // 3; no call but a reset, which has its own, answers a number over 5.
         _ => Err(Refusal::BadState),
     }
 }
@@ -140,7 +142,7 @@ pub(crate) fn slot_signal(state: &mut State, answer: &Out, bytes: &[u8], mem: &m
     refused(number, answer, 0)
 }
 
-/// 1, what is held, its number and the length of its payload or digits; 0 of a free slot.
+/// 1, what is held, its number, the length of its payload or digits and the serial number that it bears; 0 of a free slot.
 pub(crate) fn slot_lookup(state: &State, mem: &[u8]) -> Result<Out, Refusal> {
     let mut out: Out = [0; OUT];
     // SAFETY: see the head of this file.
@@ -149,11 +151,16 @@ pub(crate) fn slot_lookup(state: &State, mem: &[u8]) -> Result<Out, Refusal> {
     Ok(out)
 }
 
-/// A free slot.
-pub(crate) fn slot_reset(state: &mut State, mem: &[u8]) -> Result<(), Refusal> {
+/// A free slot, under another serial number.
+pub(crate) fn slot_reset(state: &mut State, serial: u32, mem: &[u8]) -> Result<(), ResetRefusal> {
     // SAFETY: see the head of this file.
-    let number = unsafe { wx_slot_reset(state.as_mut_ptr(), mem.as_ptr(), mem.len()) };
-    refused(number, &[0; OUT], 0)
+    let number = unsafe { wx_slot_reset(state.as_mut_ptr(), serial, mem.as_ptr(), mem.len()) };
+    match number {
+        0 => Ok(()),
+        15 => Err(ResetRefusal::Repeated { serial }),
+        // 3; a reset answers no other number.
+        _ => Err(ResetRefusal::BadState),
+    }
 }
 
 /// An empty queue in the state.

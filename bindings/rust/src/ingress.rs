@@ -1,4 +1,4 @@
-use crate::ffi::{self, State, END, START};
+use crate::ffi::{self, State, END, QUEUE_LOST, START};
 use crate::{Digester, MemoryError, NoticeQueue, Refusal, ResponseSlot, LONGEST_INPUT};
 
 /// Bytes from a modem go in; answers come out at [`res_slot`](Ingress::res_slot), notices at
@@ -20,7 +20,7 @@ use crate::{Digester, MemoryError, NoticeQueue, Refusal, ResponseSlot, LONGEST_I
 ///
 /// assert_eq!(ingress.try_write(b",99\r\n\r\nOK\r\n"), Ok(11));
 /// assert_eq!(ingress.res_slot.try_get(), Ok(Some(Response::Ok(b"+CSQ: 17,99"))));
-/// ingress.res_slot.reset().unwrap();
+/// ingress.res_slot.reset_next().unwrap();
 /// ```
 ///
 /// # Text behind CONNECT
@@ -64,12 +64,12 @@ use crate::{Digester, MemoryError, NoticeQueue, Refusal, ResponseSlot, LONGEST_I
 /// let mut ingress = Ingress::new(Digester::numeric(), &mut buf, &mut answer, &mut waiting).unwrap();
 /// ingress.try_write(b"0\r\n0\r").unwrap();
 /// assert_eq!(ingress.res_slot.try_get(), Ok(Some(Response::Ok(b"0"))));
-/// ingress.res_slot.reset().unwrap();
+/// ingress.res_slot.reset_next().unwrap();
 ///
 /// // The same, cut behind the first CR: the line is heard as an Ok, and the code is lost, since no line starts behind a stray LF.
 /// ingress.try_write(b"0\r").unwrap();
 /// assert_eq!(ingress.res_slot.try_get(), Ok(Some(Response::Ok(b""))));
-/// ingress.res_slot.reset().unwrap();
+/// ingress.res_slot.reset_next().unwrap();
 /// ingress.try_write(b"\n0\r").unwrap();
 /// assert_eq!(ingress.res_slot.try_get(), Ok(None));
 /// assert_eq!(ingress.pending(), b"\n0\r");
@@ -90,12 +90,12 @@ use crate::{Digester, MemoryError, NoticeQueue, Refusal, ResponseSlot, LONGEST_I
 /// let mut ingress = Ingress::new(Digester::default(), &mut buf, &mut slot, &mut waiting).unwrap();
 /// ingress.try_write(answer).unwrap();
 /// assert_eq!(ingress.res_slot.try_get(), Ok(Some(Response::Ok(b"+CGDCONT: 1,\"IP\",\"me@apn\""))));
-/// ingress.res_slot.reset().unwrap();
+/// ingress.res_slot.reset_next().unwrap();
 ///
 /// // The same, cut behind the @: a prompt, and then an Ok that has lost its payload.
 /// ingress.try_write(&answer[..35]).unwrap();
 /// assert_eq!(ingress.res_slot.try_get(), Ok(Some(Response::Prompt(b'@'))));
-/// ingress.res_slot.reset().unwrap();
+/// ingress.res_slot.reset_next().unwrap();
 /// ingress.try_write(&answer[35..]).unwrap();
 /// assert_eq!(ingress.res_slot.try_get(), Ok(Some(Response::Ok(b""))));
 /// ```
@@ -132,7 +132,7 @@ pub struct Ingress<'a> {
     digester: Digester<'a>,
     buf: &'a mut [u8],
     end: u64,
-    /// Where answers are delivered.
+    /// Where answers are delivered; what to know of late ones stands [there](ResponseSlot#late-answers).
     pub res_slot: ResponseSlot<'a>,
     /// Where notices are delivered.
     pub notices: NoticeQueue<'a>,
@@ -155,9 +155,9 @@ impl<'a> Ingress<'a> {
         Ok(Self { digester, buf, end: 0, res_slot, notices })
     }
 
-    /// An ingress that goes on from nine numbers that [`state`](Ingress::state) gave, over memory that was kept, such as
-    /// over a restart. Any nine numbers may be given: where they don't fit the memory, the calls refuse with 3. Memory that
-    /// can never work is an error, as at [`new`](Ingress::new).
+    /// An ingress that goes on from ten numbers that [`state`](Ingress::state) gave, over memory that was kept, such as
+    /// over a restart. Any ten numbers may be given: where they don't fit the memory, the calls refuse with 3. Nine that were kept
+    /// before version 0.5.0 are ten with 0 behind them. Memory that can never work is an error, as at [`new`](Ingress::new).
     ///
     /// ```
     /// use walumbeex::{Digester, Ingress};
@@ -172,7 +172,7 @@ impl<'a> Ingress<'a> {
     /// ```
     pub fn with_state(
         digester: Digester<'a>,
-        state: [u64; 9],
+        state: [u64; 10],
         buf: &'a mut [u8],
         slot_mem: &'a mut [u8],
         queue_mem: &'a mut [u8],
@@ -182,17 +182,19 @@ impl<'a> Ingress<'a> {
         Ok(ingress)
     }
 
-    /// The nine numbers of the state: where the bytes in the buffer end; whether the slot is signalled, what it holds, the
-    /// answer's number, the length of its payload or digits, the answers lost; the queue's start, its count, the notices lost.
+    /// The ten numbers of the state: where the bytes in the buffer end; whether the slot is signalled, what it holds, the
+    /// answer's number, the length of its payload or digits, the answers lost; the queue's start, its count, the notices lost;
+    /// and the slot's serial number.
     #[must_use]
-    pub fn state(&self) -> [u64; 9] {
+    pub fn state(&self) -> [u64; 10] {
         let mut state: State = self.res_slot.state;
         state[END] = self.end;
-        state[START..].copy_from_slice(&self.notices.state[START..]);
+        // The queue's own and no more: the serial number behind them is the slot's.
+        state[START..=QUEUE_LOST].copy_from_slice(&self.notices.state[START..=QUEUE_LOST]);
         state
     }
 
-    // The slot and the queue keep nine numbers each, of which they use their own.
+    // The slot and the queue keep ten numbers each, of which they use their own.
     fn put_state(&mut self, state: State) {
         self.end = state[END];
         self.res_slot.state = state;

@@ -11,9 +11,9 @@
 //! | `AtDigester`, `with_custom_success`, .. | [`Digester`], [`TableBuilder`]; [`Digester::connect`] hears text behind `CONNECT` too, [`Digester::numeric`] a modem in V0 |
 //! | `DigestResult`, `InternalError` | [`DigestResult`], [`InternalError`], with an error's digits beside its code |
 //! | `Ingress`, `write_buf`, `try_advance`, `try_write`, `clear` | [`Ingress`], with the same calls |
-//! | `ResponseSlot`, `try_get`, `reset`, `Response` | [`ResponseSlot`] at [`Ingress::res_slot`], [`Response`] |
+//! | `ResponseSlot`, `try_get`, `reset`, `Response` | [`ResponseSlot`] at [`Ingress::res_slot`], `try_get`, [`ResponseSlot::reset_next`], [`Response`]; `reset` here takes a [serial number](ResponseSlot#late-answers) |
 //! | `UrcChannel` | [`NoticeQueue`] at [`Ingress::notices`], [`Urc`] |
-//! | `ingress::Error` | [`Refusal`] |
+//! | `ingress::Error` | [`Refusal`]; of a reset [`ResetRefusal`] |
 //!
 //! There is no allocation, no thread and no global state: all memory is lent by the caller. No call panics, but for one reason:
 //! the archive that was linked is of another version than this crate.
@@ -42,7 +42,7 @@ pub use digest::{ConnectionError, DigestResult, Digester, InternalError, Urc, LO
 pub use ingress::Ingress;
 pub use memory::MemoryError;
 pub use notice_queue::{NoticeQueue, LONGEST_NOTICE, MOST_NOTICES, NOTICE_RECORD};
-pub use refusal::Refusal;
+pub use refusal::{Refusal, ResetRefusal};
 pub use response_slot::{Response, ResponseSlot};
 pub use table::{Table, TableBuilder, TableError, LONGEST_TEXT, MOST_RECORDS};
 

@@ -1,5 +1,5 @@
 use crate::digest::part;
-use crate::ffi::{self, State, COUNT, QUEUE_LOST};
+use crate::ffi::{self, State, COUNT, NUMBERS, QUEUE_LOST};
 use crate::{MemoryError, Refusal, Urc};
 
 /// How many bytes of memory one notice takes in a queue.
@@ -38,7 +38,7 @@ impl<'m> NoticeQueue<'m> {
         if mem.len() < NOTICE_RECORD {
             return Err(MemoryError::Queue(mem.len()));
         }
-        let mut state = [0; 9];
+        let mut state = [0; NUMBERS];
         ffi::queue_new(&mut state);
         Ok(Self { state, mem })
     }

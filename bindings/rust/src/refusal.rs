@@ -3,7 +3,8 @@ use core::fmt;
 /// Why a call was refused. Each refusal has a number, and is given exactly when its condition holds; where several hold,
 /// the lowest is given.
 ///
-/// All but [`QueueFull`](Refusal::QueueFull) leave every byte and every number as it stood.
+/// All but [`QueueFull`](Refusal::QueueFull) leave every byte and every number as it stood. A reset of the slot has refusals of its
+/// own, [`ResetRefusal`].
 ///
 /// ```
 /// use walumbeex::Refusal;
@@ -68,3 +69,48 @@ impl fmt::Display for Refusal {
 }
 
 impl core::error::Error for Refusal {}
+
+/// Why a [reset](crate::ResponseSlot::reset) was refused. Either leaves every byte and every number as it stood; where both hold,
+/// [`BadState`](ResetRefusal::BadState) is given.
+///
+/// ```
+/// use walumbeex::{ResetRefusal, ResponseSlot};
+/// let mut slot = ResponseSlot::new(&mut []);
+/// slot.reset(7).unwrap();
+/// let refusal = slot.reset(7).unwrap_err();
+/// assert_eq!(refusal, ResetRefusal::Repeated { serial: 7 });
+/// assert_eq!(refusal.number(), 15);
+/// assert_eq!(refusal.to_string(), "refused 15: serial number 7 is already in force");
+/// ```
+#[derive(Debug, Clone, Copy, PartialEq, Eq)]
+pub enum ResetRefusal {
+    /// 3: the stored length is past the slot's memory, as at [`Refusal::BadState`].
+    BadState,
+    /// 15: the serial number is the one already in force.
+    Repeated {
+        /// That number.
+        serial: u32,
+    },
+}
+
+impl ResetRefusal {
+    /// The refusal's number, 3 or 15.
+    #[must_use]
+    pub const fn number(&self) -> u8 {
+        match self {
+            Self::BadState => Refusal::BadState.number(),
+            Self::Repeated { .. } => 15,
+        }
+    }
+}
+
+impl fmt::Display for ResetRefusal {
+    fn fmt(&self, f: &mut fmt::Formatter<'_>) -> fmt::Result {
+        match self {
+            Self::BadState => Refusal::BadState.fmt(f),
+            Self::Repeated { serial } => write!(f, "refused {}: serial number {serial} is already in force", self.number()),
+        }
+    }
+}
+
+impl core::error::Error for ResetRefusal {}

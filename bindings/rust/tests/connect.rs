@@ -94,7 +94,7 @@ fn a_longer_line_frees_a_client() {
             assert_eq!(ingress.pending(), left, "pieces of {size}");
 
             // The same by the buffer and a commit, from numbers that were kept.
-            ingress.res_slot.reset().unwrap();
+            ingress.res_slot.reset_next().unwrap();
             ingress.clear();
             let kept = ingress.state();
             let mut ingress = Ingress::with_state(digester, kept, &mut buf, &mut slot_mem, &mut queue_mem).unwrap();

@@ -68,8 +68,8 @@ fn converse() {
     let mut answers = Vec::new();
     let mut notices: Vec<(u8, Vec<u8>)> = Vec::new();
     let (mut pieces, mut full) = (0, 0);
-    for (command, _) in EXCHANGES {
-        ingress.res_slot.reset().unwrap();
+    for (serial, (command, _)) in (1..).zip(EXCHANGES) {
+        ingress.res_slot.reset(serial).unwrap();
         host.write_all(command).unwrap();
         while !ingress.res_slot.signalled() {
             let n = host.read(ingress.write_buf()).unwrap();
@@ -84,7 +84,9 @@ fn converse() {
                 done = ingress.try_advance(0);
             }
         }
-        answers.push(format!("{:?}", ingress.res_slot.try_get().unwrap().unwrap()));
+        let (response, bears) = ingress.res_slot.try_get_with_serial().unwrap().unwrap();
+        assert_eq!(bears, serial);
+        answers.push(format!("{response:?}"));
     }
     while let Some(urc) = ingress.notices.take().unwrap() {
         notices.push((urc.record, urc.payload.to_vec()));

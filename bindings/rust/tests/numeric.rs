@@ -174,7 +174,7 @@ fn converse<'a>(cut: impl Fn(&'a [u8]) -> Vec<&'a [u8]>, what: &str) {
         full += cut(bytes).into_iter().map(|piece| written(&mut ingress, piece)).sum::<usize>();
         assert_eq!(ingress.res_slot.try_get(), Ok(Some(answer)), "{what}, {}", bytes.escape_ascii());
         assert_eq!(ingress.pending(), b"", "{what}, {}", bytes.escape_ascii());
-        ingress.res_slot.reset().unwrap();
+        ingress.res_slot.reset_next().unwrap();
     }
     // Of four RINGs the first finds room.
     assert_eq!((full, ingress.notices.len()), (3, 1), "{what}");

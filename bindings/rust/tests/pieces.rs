@@ -2,7 +2,7 @@
 //! digesting by hand makes of them.
 
 use std::collections::VecDeque;
-use walumbeex::{DigestResult, Digester, Ingress, InternalError, Refusal, Response, Table, NOTICE_RECORD, RING};
+use walumbeex::{DigestResult, Digester, Ingress, InternalError, Refusal, ResetRefusal, Response, Table, NOTICE_RECORD, RING};
 
 /// A small generator (splitmix64).
 struct Random(u64);
@@ -99,8 +99,9 @@ struct Hand<'t> {
     slot_size: usize,
     queue_size: usize,
     buf: Vec<u8>,
-    slot: Option<String>,
+    slot: Option<(String, u32)>,
     slot_lost: u64,
+    serial: u32,
     queue: VecDeque<(u8, Vec<u8>)>,
     queue_lost: u64,
     texts: u64,
@@ -163,7 +164,7 @@ impl Hand<'_> {
                     }
                 }
                 _ if self.slot.is_some() => self.slot_lost += 1,
-                _ => self.slot = Some(reading(result, self.slot_size)),
+                _ => self.slot = Some((reading(result, self.slot_size), self.serial)),
             }
             self.buf.drain(..consumed);
             if consumed == 0 || self.buf.is_empty() {
@@ -182,6 +183,14 @@ impl Hand<'_> {
         }
         Ok(taken)
     }
+
+    fn reset(&mut self, serial: u32) -> Result<(), ResetRefusal> {
+        if serial == self.serial {
+            return Err(ResetRefusal::Repeated { serial });
+        }
+        (self.slot, self.serial) = (None, serial);
+        Ok(())
+    }
 }
 
 /// What was met on the way, so that the test can say that it tried something.
@@ -199,6 +208,8 @@ struct Met {
     full: u64,
     no_room: u64,
     cleared: u64,
+    resets: u64,
+    repeated: u64,
 }
 
 impl Met {
@@ -235,6 +246,7 @@ fn run(seed: u64, met: &mut Met) {
         buf: Vec::new(),
         slot: None,
         slot_lost: 0,
+        serial: 0,
         queue: VecDeque::new(),
         queue_lost: 0,
         texts: 0,
@@ -302,15 +314,21 @@ fn run(seed: u64, met: &mut Met) {
                 if let Some(response) = ingress.res_slot.try_get().unwrap() {
                     met.read(response);
                 }
-                ingress.res_slot.reset().unwrap();
-                hand.slot = None;
+                // Now and then a number out of four, which may be the one in force.
+                let serial = if r.below(3) == 0 { r.below(4) as u32 } else { hand.serial + 1 };
+                let said = ingress.res_slot.reset(serial);
+                met.resets += u64::from(said.is_ok());
+                met.repeated += u64::from(said.is_err());
+                assert_eq!(said, hand.reset(serial), "seed {seed}");
             }
         }
         assert_eq!(ingress.pending(), hand.buf, "seed {seed}");
         assert_eq!(ingress.write_buf().len(), size - hand.buf.len(), "seed {seed}");
-        let held = ingress.res_slot.try_get().unwrap().map(|response| format!("{response:?}"));
+        let held = ingress.res_slot.try_get_with_serial().unwrap().map(|(response, serial)| (format!("{response:?}"), serial));
         assert_eq!(held, hand.slot, "seed {seed}");
         assert_eq!(ingress.res_slot.lost(), hand.slot_lost, "seed {seed}");
+        assert_eq!(ingress.res_slot.serial(), hand.serial, "seed {seed}");
+        assert_eq!(ingress.state()[9], u64::from(hand.serial), "seed {seed}");
         assert_eq!(ingress.notices.len(), hand.queue.len(), "seed {seed}");
         assert_eq!(ingress.notices.lost(), hand.queue_lost, "seed {seed}");
     }
@@ -329,7 +347,7 @@ fn pieces_through_the_ingress_are_what_digesting_by_hand_makes_of_them() {
         run(fresh.wrapping_add(n), &mut met);
     }
     println!("fresh seeds from {fresh}: {met:?}");
-    let answers = [met.answers, met.digits, met.digits_left_out, met.answers_lost, met.texts];
+    let answers = [met.answers, met.digits, met.digits_left_out, met.answers_lost, met.texts, met.resets, met.repeated];
     let all = [&answers[..], &[met.notices, met.rings, met.notices_lost, met.full, met.no_room, met.cleared]].concat();
     assert!(all.iter().all(|&n| n > 100), "too few of something: {met:?}");
 }
@@ -402,7 +420,7 @@ fn in_pieces(digester: Digester<'_>, capture: &[u8], mut next: impl FnMut(usize)
         }
         if let Some(response) = ingress.res_slot.try_get().unwrap() {
             heard.push(format!("{response:?}"));
-            ingress.res_slot.reset().unwrap();
+            ingress.res_slot.reset_next().unwrap();
         }
     }
     assert_eq!((ingress.res_slot.lost(), ingress.pending()), (0, &b""[..]));

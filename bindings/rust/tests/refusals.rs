@@ -1,4 +1,4 @@
-//! Refusals 1 to 5: exactly when, what they carry, and what they leave.
+//! Refusals 1 to 5: exactly when, what they carry, and what they leave. A reset's 15 is in late.rs.
 
 use walumbeex::{
     DigestResult, Digester, Ingress, MemoryError, NoticeQueue, Refusal, Response, ResponseSlot, Table, TableBuilder, TableError,
@@ -27,7 +27,7 @@ fn memory_that_can_never_work_is_refused_where_it_is_lent() {
     assert_eq!(new(1, NOTICE_RECORD - 1), Err(MemoryError::Queue(131)));
     assert_eq!(new(0, 0), Err(MemoryError::Buffer(0)));
     assert_eq!(NoticeQueue::new(&mut [0; 131]).unwrap_err(), MemoryError::Queue(131));
-    let kept = Ingress::with_state(ring(), [0; 9], &mut [0; 8], &mut [], &mut []).map(|_| ());
+    let kept = Ingress::with_state(ring(), [0; 10], &mut [0; 8], &mut [], &mut []).map(|_| ());
     assert_eq!(kept, Err(MemoryError::Queue(0)));
 }
 
@@ -78,7 +78,7 @@ fn two_a_faulty_table_with_the_record() {
 
 #[test]
 fn three_numbers_that_dont_fit() {
-    let new = [0, 0, 1, 0, 0, 0, 0, 0, 0];
+    let new = [0, 0, 1, 0, 0, 0, 0, 0, 0, 0];
     // The end is past the buffer; a stored length past the slot's memory; the queue's start; its count.
     for (place, number) in [(0, 9), (4, 5), (6, 2), (7, 3)] {
         let mut state = new;
@@ -88,7 +88,8 @@ fn three_numbers_that_dont_fit() {
         assert_eq!(ingress.try_advance(0), Err(Refusal::BadState), "number {place}");
         assert_eq!(ingress.try_write(b"\r\nOK\r\n"), Err(Refusal::BadState), "number {place}");
         assert_eq!(ingress.res_slot.try_get().is_err(), place == 4);
-        assert_eq!(ingress.res_slot.reset().is_err(), place == 4);
+        assert_eq!(ingress.res_slot.reset(7).is_err(), place == 4);
+        assert_eq!(ingress.res_slot.reset_next().is_err(), place == 4);
         assert_eq!(ingress.res_slot.signal(&DigestResult::Prompt(b'>')).is_err(), place == 4);
         assert_eq!(ingress.notices.take().is_err(), place >= 6);
         assert_eq!(ingress.notices.put(0, b"x").is_err(), place >= 6);
@@ -110,7 +111,7 @@ fn three_numbers_that_dont_fit() {
         queue.put(0, b"RING").unwrap();
         queue_mem[damage] = byte;
         let (mut buf, mut slot_mem) = ([0; 8], [0; 4]);
-        let state = [0, 0, 1, 0, 0, 0, 0, 2, 0];
+        let state = [0, 0, 1, 0, 0, 0, 0, 2, 0, 0];
         let mut ingress = Ingress::with_state(ring(), state, &mut buf, &mut slot_mem, &mut queue_mem).unwrap();
         let taken = ingress.notices.take();
         assert_eq!(taken == Err(Refusal::BadState), refused, "byte {damage} made {byte}: {taken:?}");
@@ -188,7 +189,7 @@ fn a_slot_too_small_reads_capacity_error() {
     let mut slot = ResponseSlot::new(&mut slot_mem);
     slot.signal(&DigestResult::Response(Ok(b"12345"))).unwrap();
     assert_eq!(slot.try_get(), Ok(Some(Response::CapacityError)));
-    slot.reset().unwrap();
+    slot.reset_next().unwrap();
     slot.signal(&DigestResult::None).unwrap();
     slot.signal(&DigestResult::Urc(Urc { record: 0, payload: b"RING" })).unwrap();
     assert_eq!((slot.signalled(), slot.lost()), (false, 0));

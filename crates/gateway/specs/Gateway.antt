@@ -52,7 +52,7 @@ numbersBy f (refused n w) v = v
 abbrev pub resetSaid : Outcome Slot → List ℕ → Call
 resetSaid o v = call (numberOf o) (numbersBy withSlot o v)
 
--- a signal or a put: what it returns, and what it leaves of the nine numbers and of the memory
+-- a signal or a put: what it returns, and what it leaves of the state's numbers and of the memory
 pub record Turn : Type 0 where
   pub number : ℕ
   pub state : List ℕ
@@ -67,9 +67,9 @@ signalSaid w v = turn (numberOf (w .said)) (numbersBy withSlot (w .said) v) (w .
 abbrev pub putSaid : queues.After → List ℕ → Turn
 putSaid w v = turn (numberOf (w .said)) (numbersBy withQueue (w .said) v) (w .memory)
 
--- a look: 1, what is held, its number and its payload's length; of a free slot 0 and no more
+-- a look: 1, what is held, its number, its payload's length and the serial number that it bears (R-11); of a free slot 0 and no more
 abbrev pub readValues : Reading → List ℕ
-readValues r = if r .there then 1 ∷ heldNumber (r .slot .held) ∷ r .slot .number ∷ r .slot .len ∷ [] else 0 ∷ []
+readValues r = if r .there then 1 ∷ heldNumber (r .slot .held) ∷ r .slot .number ∷ r .slot .len ∷ r .slot .serial ∷ [] else 0 ∷ []
 
 -- a take: 1, the notice's table number, its payload's place and length; from an empty queue 0 and no more, and nothing changes
 abbrev pub gotValues : Got → List ℕ
@@ -103,7 +103,7 @@ pub record Whole : Type 0 where
 abbrev pub whole : ℕ → List ℕ → List ℕ → List ℕ → List ℕ → List ℕ → Whole
 whole n v o b m q = record { number = n; state = v; out = o; buf = b; slotMemory = m; queueMemory = q }
 
--- Refused 1 to 4 the nine numbers are as they stood; else they are those of the state that is left.
+-- Refused 1 to 4 the state's numbers are as they stood; else they are those of the state that is left.
 abbrev pub numbersLeft : {A : Type 0} → Outcome A → List ℕ → State → List ℕ
 numbersLeft (answered x) v s = withState v s
 numbersLeft (refused n w) v s = if eqb n 5 then withState v s else v

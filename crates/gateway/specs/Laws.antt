@@ -27,8 +27,8 @@ use Rattle.ingress.specs.Ingress.{Result, advanceSays, advanced, result, writeS
 use Rattle.turn.specs.declared.State.{State}
 use Rattle.ingress.specs.declared.Advanced.{Advanced}
 use Rattle.ingress.specs.declared.Written.{Written}
-use Rattle.numbers.specs.Numbers.{selectorOf, heldNumber, answerOf, slotOf, queueOf, stateOf, withSlot, withQueue, laid}
-use Rattle.numbers.specs.Laws.{slot-stays, freed-stays}
+use Rattle.numbers.specs.Numbers.{selectorOf, word, heldNumber, answerOf, slotOf, queueOf, stateOf, withSlot, withQueue, laid}
+use Rattle.numbers.specs.Laws.{ten, slot-stays, freed-stays}
 use Rattle.gateway.specs.Gateway.{numberOf, valuesOf, Call, call, said, partValues, numbersBy, resetSaid, Turn, turn, signalSaid, putSaid, readValues, gotValues, withGot, Take, took, takeSaid, Whole, whole, leftSaid, wholeSaid, countValues, noValues}
 
 -- an export returns its call's number, with the values at the front of the array
@@ -54,8 +54,8 @@ pub part-is : (s o : List ℕ) (place len : ℕ) (p : List ℕ) → p ≡ partOf
 part-is s o place len p e a g = λ i. laid (g i ∷ length (e i) ∷ []) o
 
 -- what a look at a signalled slot answers, and the payload that it holds
-pub look-is : (o : List ℕ) (x : Slot) (h : ℕ) → h ≡ heldNumber (x .held) → laid (1 ∷ h ∷ x .number ∷ x .len ∷ []) o ≡ laid (readValues (record { there = true; slot = x })) o
-look-is o x h e = ap (λ (n : ℕ). laid (1 ∷ n ∷ x .number ∷ x .len ∷ []) o) e
+pub look-is : (o : List ℕ) (x : Slot) (h : ℕ) → h ≡ heldNumber (x .held) → laid (1 ∷ h ∷ x .number ∷ x .len ∷ x .serial ∷ []) o ≡ laid (readValues (record { there = true; slot = x })) o
+look-is o x h e = ap (λ (n : ℕ). laid (1 ∷ n ∷ x .number ∷ x .len ∷ x .serial ∷ []) o) e
 
 pub slot-part : (v m o : List ℕ) (s : Slot) → s ≡ slotOf v → (p : List ℕ) → p ≡ partOf m 0 (slots.readable s) → laid (0 ∷ length p ∷ []) o ≡ laid (partValues m 0 (slots.readable (slotOf v))) o
 unfolding partAt
@@ -70,11 +70,11 @@ signal-is v w p m s es a ea r k e x q u f =
     ∙ ap (λ (y : Turned). signalSaid (slots.after (slots.outcome y) k) v) (sym q)
     ∙ ap (λ (z : slots.After). signalSaid z v) (e ∙ (λ i. slots.signalled (es i) (ea i) p m))
 
-pub reset-is : (v m : List ℕ) (s : Slot) → s ≡ slotOf v → (r : Reset) → slots.resetting r ≡ slots.wasReset s m → (x : Reset) → r ≡ x → (u : List ℕ) → u ≡ numbersBy withSlot (slots.resetting x) v → call (numberOf (slots.resetting x)) u ≡ resetSaid (slots.wasReset (slotOf v) m) v
-reset-is v m s es r e x q u f =
+pub reset-is : (v m : List ℕ) (n : ℕ) (s : Slot) → s ≡ slotOf v → (r : Reset) → slots.resetting r ≡ slots.wasReset s n m → (x : Reset) → r ≡ x → (u : List ℕ) → u ≡ numbersBy withSlot (slots.resetting x) v → call (numberOf (slots.resetting x)) u ≡ resetSaid (slots.wasReset (slotOf v) n m) v
+reset-is v m n s es r e x q u f =
     ap (call (numberOf (slots.resetting x))) f
     ∙ ap (λ (y : Reset). resetSaid (slots.resetting y) v) (sym q)
-    ∙ ap (λ (z : Outcome Slot). resetSaid z v) (e ∙ ap (λ (y : Slot). slots.wasReset y m) es)
+    ∙ ap (λ (z : Outcome Slot). resetSaid z v) (e ∙ ap (λ (y : Slot). slots.wasReset y n m) es)
 
 -- a put: likewise
 pub put-is : (v p m : List ℕ) (n : ℕ) (s : Queue) → s ≡ queueOf v → (r : Put) (k : List ℕ) → queues.after (queues.outcome r) k ≡ putInto ours s n p m → (x : Put) → r ≡ x → (u : List ℕ) → u ≡ numbersBy withQueue (queues.outcome x) v → turn (numberOf (queues.outcome x)) u k ≡ putSaid (putInto ours (queueOf v) n p m) v
@@ -102,18 +102,21 @@ module _ (v o : List ℕ) (s : State) (es : s ≡ stateOf v) (j : ℕ) (d : Sele
   write-is p r e g = ap (λ (y : Take). whole (y .number) (y .state) (y .out) b′ m′ n′) g ∙ ap (λ (z : Result ℕ). wholeSaid countValues z v o) (rw (es, ed) at e)
 
 -- Where document 01 has a call change nothing, or one thing alone, every other number of the state stays as it stood, in plain form or not.
-module _ (a b c d e f g h i : ℕ) (m : List ℕ) (k : e ≤ length m) where
-  -- a signal of None or of a notice
-  pub signal-still : (w p : List ℕ) → slots.isResponse (answerOf w .kind) ≡ false → signalSaid (slots.signalled (slotOf (a ∷ b ∷ c ∷ d ∷ e ∷ f ∷ g ∷ h ∷ i ∷ [])) (answerOf w) p m) (a ∷ b ∷ c ∷ d ∷ e ∷ f ∷ g ∷ h ∷ i ∷ []) ≡ turn 0 (a ∷ b ∷ c ∷ d ∷ e ∷ f ∷ g ∷ h ∷ i ∷ []) m
-  signal-still w p r =
-      ap (λ (z : slots.After). signalSaid z (a ∷ b ∷ c ∷ d ∷ e ∷ f ∷ g ∷ h ∷ i ∷ [])) (sym (slot-laws.signal-none (slotOf (a ∷ b ∷ c ∷ d ∷ e ∷ f ∷ g ∷ h ∷ i ∷ [])) (answerOf w) p m k r))
-      ∙ ap (λ (v : List ℕ). turn 0 v m) (slot-stays a b c d e f g h i)
+module _ (a b c d e f g h i k : ℕ) (m : List ℕ) (l : e ≤ length m) where
+  abbrev was : List ℕ
+  was = ten a b c d e f g h i k
 
-  -- a reset
-  pub reset-still : resetSaid (slots.wasReset (slotOf (a ∷ b ∷ c ∷ d ∷ e ∷ f ∷ g ∷ h ∷ i ∷ [])) m) (a ∷ b ∷ c ∷ d ∷ e ∷ f ∷ g ∷ h ∷ i ∷ []) ≡ call 0 (a ∷ 0 ∷ c ∷ d ∷ e ∷ f ∷ g ∷ h ∷ i ∷ [])
-  reset-still =
-      ap (λ (z : Outcome Slot). resetSaid z (a ∷ b ∷ c ∷ d ∷ e ∷ f ∷ g ∷ h ∷ i ∷ [])) (sym (slot-laws.reset-is (slotOf (a ∷ b ∷ c ∷ d ∷ e ∷ f ∷ g ∷ h ∷ i ∷ [])) m k))
-      ∙ ap (call 0) (freed-stays a b c d e f g h i)
+  -- a signal of None or of a notice
+  pub signal-still : (w p : List ℕ) → slots.isResponse (answerOf w .kind) ≡ false → signalSaid (slots.signalled (slotOf was) (answerOf w) p m) was ≡ turn 0 was m
+  signal-still w p r =
+      ap (λ (z : slots.After). signalSaid z was) (sym (slot-laws.signal-none (slotOf was) (answerOf w) p m l r))
+      ∙ ap (λ (v : List ℕ). turn 0 v m) (slot-stays a b c d e f g h i k)
+
+  -- a reset with another serial number (R-11)
+  pub reset-still : (n : ℕ) → (n ≡ word k → ⊥) → resetSaid (slots.wasReset (slotOf was) n m) was ≡ call 0 (ten a 0 c d e f g h i n)
+  reset-still n r =
+      ap (λ (z : Outcome Slot). resetSaid z was) (sym (slot-laws.reset-is (slotOf was) m l n r))
+      ∙ ap (call 0) (freed-stays a b c d e f g h i k n r)
 
 -- Each export's promise determines the number that it returns and all that it leaves.
 pub call-one : (w : Call) (r q : ℕ) (o p : List ℕ) → call r o ≡ w → call q p ≡ w → (r ≡ q) × (o ≡ p)

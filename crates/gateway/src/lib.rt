@@ -93,7 +93,7 @@ pub extern "C" fn wx_payload(input: &[u8], place: usize, len: usize, out: &mut [
     out[1] = n as u64;
 }
 
-// Makes the slot a new one: free, an empty Ok held, nothing lost.
+// Makes the slot a new one: free, an empty Ok held, nothing lost, its serial number 0 (R-11).
 #[no_mangle]
 pub extern "C" fn wx_slot_new(state: &mut [u64; NUMBERS])
     ensures { λ _. ⌜ now (state .exit) ≡ withSlot (now (state .entry)) newSlot ⌝ }
@@ -122,7 +122,7 @@ pub extern "C" fn wx_slot_signal(
     }
 }
 
-// Looks at the slot. Answers 1, what is held, its number and the length of its payload or digits; of a free slot 0 and no more.
+// Looks at the slot. Answers 1, what is held, its number, the length of its payload or digits and the serial number that it bears (R-11); of a free slot 0 and no more.
 #[no_mangle]
 pub extern "C" fn wx_slot_lookup(state: &[u64; NUMBERS], mem: &[u8], out: &mut [u64; OUT]) -> u32
     ensures { λ r. ⌜ call r (now (out .exit)) ≡ said readValues (wasRead (slotOf (now (state .entry))) (now (mem .entry))) (now (out .entry)) ⌝ }
@@ -134,6 +134,7 @@ pub extern "C" fn wx_slot_lookup(state: &[u64; NUMBERS], mem: &[u8], out: &mut [
             out[1] = numbers::held_number(held);
             out[2] = x.number as u64;
             out[3] = x.len as u64;
+            out[4] = x.serial as u64;
             0
         }
         Looked::Nothing(_) => {
@@ -144,18 +145,19 @@ pub extern "C" fn wx_slot_lookup(state: &[u64; NUMBERS], mem: &[u8], out: &mut [
     }
 }
 
-// Frees the slot and changes nothing else.
+// Frees the slot for the command of the next serial number (R-11) and changes nothing else.
 #[no_mangle]
-pub extern "C" fn wx_slot_reset(state: &mut [u64; NUMBERS], mem: &[u8]) -> u32
-    ensures { λ r. ⌜ call r (now (state .exit)) ≡ resetSaid (wasReset (slotOf (now (state .entry))) (now (mem .entry))) (now (state .entry)) ⌝ }
+pub extern "C" fn wx_slot_reset(state: &mut [u64; NUMBERS], serial: u32, mem: &[u8]) -> u32
+    ensures { λ r. ⌜ call r (now (state .exit)) ≡ resetSaid (wasReset (slotOf (now (state .entry))) serial (now (mem .entry))) (now (state .entry)) ⌝ }
 {
     let slot = numbers::slot_of(state);
-    match slot.reset(mem) {
+    match slot.reset(serial, mem) {
         Reset::Is(freed) => {
             numbers::put_slot(state, freed);
             0
         }
         Reset::BadLength => 3,
+        Reset::Repeated => 15,
     }
 }
 
@@ -229,7 +231,7 @@ pub extern "C" fn wx_queue_take(state: &mut [u64; NUMBERS], mem: &[u8], out: &mu
     }
 }
 
-// What an advance leaves of the nine numbers, and its number. It is a function of its own since the three memories would be carried along each way out.
+// What an advance leaves of the state's numbers, and its number. It is a function of its own since the three memories would be carried along each way out.
 fn lay_advanced(state: &mut [u64; NUMBERS], out: &mut [u64; OUT], what: Advanced) -> u32
     ensures { λ r. ⌜ took r (now (state .exit)) (now (out .exit)) ≡ leftSaid noValues (advanceSays (stateOf (now (state .entry))) what) (now (state .entry)) (now (out .entry)) ⌝ }
 {
@@ -344,7 +346,7 @@ pub extern "C" fn wx_ingress_clear(state: &mut [u64; NUMBERS])
 // meaning of a number in either changes.
 #[no_mangle]
 pub extern "C" fn wx_version() -> u32
-    ensures { λ r. ⌜ r ≡ 4 ⌝ }
+    ensures { λ r. ⌜ r ≡ 5 ⌝ }
 {
-    4
+    5
 }

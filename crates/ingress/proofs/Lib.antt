@@ -1,2 +1,3 @@
 mod Determined
 mod Codes
+mod Serials

@@ -1,12 +1,13 @@
--- A client's calls under one table, each starting from the state and memories that the last one left; and what can be told of them: the winter's fault, shut out.
+-- A client's calls under one table, each starting from the state and memories that the last one left; and what can be told of them: the winter's fault, shut out, and the serial number (R-11).
 use mathlib.Core.Path.{_≡_}
+use mathlib.Core.Bool.{true, false}
 use mathlib.Core.List.{List, [], _∷_, _++_, map}
 use Prim.Native.Nat.{ℕ, _+_}
 use lib.ListN.{take}
 use Rattle.text.specs.Text.{partOf}
 use Rattle.moves.specs.Moves.{put}
 use Rattle.outcome.specs.Outcome.{Outcome, answered, refused, if_then_else_}
-use Rattle.slot.specs.Slot.{wasReset}
+use Rattle.slot.specs.Slot.{wasReset, wasRead, Stands}
 use Rattle.slot.specs.declared.Slot.{Slot}
 use Rattle.queue.specs.Queue.{ours, taken, Got, got, empty, Arrival}
 use Rattle.queue.specs.declared.Queue.{Queue}
@@ -21,7 +22,7 @@ pub data Call : Type 0 where
   advance : ℕ → Call
   clear : Call
   takeOne : Call
-  reset : Call
+  reset : ℕ → Call
 
 -- A fill: the caller lays bytes into the room, n behind the end; bytes that don't fit there change nothing. They arrive when an advance commits them.
 abbrev pub afterFill : World → ℕ → List ℕ → World
@@ -44,7 +45,7 @@ leftBy c (fill n p) w = afterFill w n p
 leftBy c (advance n) w = advanced c n w .left
 leftBy c clear w = emptied w
 leftBy c takeOne w = afterTake w (taken ours (w .state .queue) (w .queueMemory))
-leftBy c reset w = afterReset w (wasReset (w .state .slot) (w .slotMemory))
+leftBy c (reset n) w = afterReset w (wasReset (w .state .slot) n (w .slotMemory))
 
 -- the bytes offered that it takes
 abbrev pub tookBy : Choice → Call → World → List ℕ
@@ -53,7 +54,7 @@ tookBy c (fill n p) w = []
 tookBy c (advance n) w = if takesBytes (advanced c n w .said) then committedBytes w n else []
 tookBy c clear w = []
 tookBy c takeOne w = []
-tookBy c reset w = []
+tookBy c (reset n) w = []
 
 abbrev pub handsOut : List ℕ → Outcome Got → List Arrival
 handsOut m (answered (got q n)) = record { number = n .number; payload = partOf m (n .place) (n .len) } ∷ []
@@ -67,7 +68,7 @@ handsBy c (fill n p) w = []
 handsBy c (advance n) w = []
 handsBy c clear w = []
 handsBy c takeOne w = handsOut (w .queueMemory) (taken ours (w .state .queue) (w .queueMemory))
-handsBy c reset w = []
+handsBy c (reset n) w = []
 
 -- what the calls leave, one after the other, and all that they take or hand out
 unfoldable pub leftAfter : Choice → List Call → World → World
@@ -96,3 +97,43 @@ pub record GoesOn (c : Choice) (w : World) (q : Queue) : Type 0 where
   pub rest : List Stretch
   pub story : Story c (withState w (withQueue (w .state) q)) (consumed first ∷ map consumed rest) (advanced c 0 (withState w (withQueue (w .state) q)) .left)
   pub notice : noticeOf first ≡ record { number = says c w .number; payload = payloadOf (held w) (says c w) } ∷ []
+
+-- R-11: the serial number that a call puts in force, where it is a reset and isn't refused
+abbrev pub forced : ℕ → Outcome Slot → List ℕ
+forced n (answered s) = n ∷ []
+forced n (refused k v) = []
+
+abbrev pub forcedBy : Call → World → List ℕ
+forcedBy (write p) w = []
+forcedBy (fill n p) w = []
+forcedBy (advance n) w = []
+forcedBy clear w = []
+forcedBy takeOne w = []
+forcedBy (reset n) w = forced n (wasReset (w .state .slot) n (w .slotMemory))
+
+abbrev pub lastOf : ℕ → List ℕ → ℕ
+lastOf n [] = n
+lastOf n (k ∷ l) = lastOf k l
+
+-- The number in force behind the calls: that of the last answered reset, or with none the slot's before them, 0 of a new one.
+abbrev pub inForce : Choice → List Call → World → ℕ
+inForce c l w = lastOf (w .state .slot .serial) (along c forcedBy l w)
+
+-- The call that stored what the slot holds behind the calls: the slot was free before it, what it stored stands since, and bears the number that was in force then.
+pub record Stored (c : Choice) (l : List Call) (w : World) : Type 0 where
+  pub before : List Call
+  pub call : Call
+  pub behind : List Call
+  pub is : l ≡ before ++ (call ∷ behind)
+  pub free : leftAfter c before w .state .slot .signalled ≡ false
+  pub stands : let u = leftBy c call (leftAfter c before w) in let v = leftAfter c l w in Stands (u .state .slot) (u .slotMemory) (v .state .slot) (v .slotMemory)
+  pub bears : leftAfter c l w .state .slot .serial ≡ inForce c before w
+
+-- The serial number over any calls.
+-- `serial`: the slot's is the one in force, so between two answered resets it stands still;
+-- `tells`: a lookup tells that one with the answer;
+-- `stored`: from a free slot on, an answer that is held bears the number that was in force when it was stored.
+pub record Serials (c : Choice) (l : List Call) (w : World) : Type 0 where
+  pub serial : leftAfter c l w .state .slot .serial ≡ inForce c l w
+  pub tells : (x : Slot) → answered (record { there = true; slot = x }) ≡ wasRead (leftAfter c l w .state .slot) (leftAfter c l w .slotMemory) → x .serial ≡ inForce c l w
+  pub stored : w .state .slot .signalled ≡ false → leftAfter c l w .state .slot .signalled ≡ true → Stored c l w

@@ -39,7 +39,7 @@ fed-append (arrived x ∷ l) k a b = fed-append l k a b
 fed-append (consumed x ∷ l) k a b = fed-append l k a b
 fed-append (dropped x ∷ l) k a b = absurd a
 fed-append (handed x ∷ l) k a b = absurd a
-fed-append (freed ∷ l) k a b = absurd a
+fed-append (freed n ∷ l) k a b = absurd a
 
 fed-turns : (l : List Stretch) → Fed (map consumed l)
 fed-turns [] = tt

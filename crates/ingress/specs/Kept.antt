@@ -78,7 +78,7 @@ story-bytes c (dropped b ∷ l) w v s =
     ∙ ap (λ (y : List ℕ). b ++ y) (ap (λ (y : World). held y ++ flat cameBy l) (sym (s .first .1)) ∙ story-bytes c l u v (s .rest))
     ∙ sym (append-assoc b (flat wentBy l) (held v))
 story-bytes c (handed a ∷ l) w v s = ap (λ (y : World). held y ++ flat cameBy l) (sym (s .first .left)) ∙ story-bytes c l (s .at) v (s .rest)
-story-bytes c (freed ∷ l) w v s = ap (λ (y : World). held y ++ flat cameBy l) (sym (s .first .left)) ∙ story-bytes c l (s .at) v (s .rest)
+story-bytes c (freed n ∷ l) w v s = ap (λ (y : World). held y ++ flat cameBy l) (sym (s .first .left)) ∙ story-bytes c l (s .at) v (s .rest)
 
 -- All that was handed out and waits is what waited and was delivered.
 pub story-notices : (c : Choice) (l : List Event) (w v : World) → Story c w l v → flat handedBy l ++ waitingIn v ≡ waitingIn w ++ flat deliveredBy l
@@ -96,7 +96,7 @@ story-notices c (handed a ∷ l) w v s =
     ap (λ (y : List Arrival). a ∷ y) (story-notices c l (s .at) v (s .rest) ∙ ap (λ (y : World). waitingIn y ++ flat deliveredBy l) (h .left))
     ∙ ap (λ (y : Arrival). y ∷ (waitingIn (withState w (withQueue (w .state) (h .queue))) ++ flat deliveredBy l)) (h .is)
     ∙ ap (λ (y : List Arrival). y ++ flat deliveredBy l) (sym q)
-story-notices c (freed ∷ l) w v s = story-notices c l (s .at) v (s .rest) ∙ ap (λ (y : World). waitingIn y ++ flat deliveredBy l) (s .first .left)
+story-notices c (freed n ∷ l) w v s = story-notices c l (s .at) v (s .rest) ∙ ap (λ (y : World). waitingIn y ++ flat deliveredBy l) (s .first .left)
 
 -- a run that ends with r: turns alone, to a good state, where nothing in the buffer is finished, or at a notice that waits
 pub record Ends (c : Choice) (w : World) (r : Result (Unit {0})) : Type 0 where

@@ -23,13 +23,13 @@ pub record Stretch : Type 0 where
   pub bytes : List ℕ
   pub answer : Answer
 
--- What happens: bytes arrive behind those held; a turn consumes a stretch; a clear drops what is held; a take hands a notice out; a reset frees the slot.
+-- What happens: bytes arrive behind those held; a turn consumes a stretch; a clear drops what is held; a take hands a notice out; a reset frees the slot, under its next serial number (R-11).
 pub data Event : Type 0 where
   arrived : List ℕ → Event
   consumed : Stretch → Event
   dropped : List ℕ → Event
   handed : Arrival → Event
-  freed : Event
+  freed : ℕ → Event
 
 -- The notice that a turn delivers, where it is one of 1 to 128 bytes: that of its own stretch.
 abbrev pub noticeOf : Stretch → List Arrival
@@ -41,28 +41,28 @@ cameBy (arrived b) = b
 cameBy (consumed x) = []
 cameBy (dropped b) = []
 cameBy (handed a) = []
-cameBy freed = []
+cameBy (freed n) = []
 
 abbrev pub wentBy : Event → List ℕ
 wentBy (arrived b) = []
 wentBy (consumed x) = x .bytes
 wentBy (dropped b) = b
 wentBy (handed a) = []
-wentBy freed = []
+wentBy (freed n) = []
 
 abbrev pub deliveredBy : Event → List Arrival
 deliveredBy (arrived b) = []
 deliveredBy (consumed x) = noticeOf x
 deliveredBy (dropped b) = []
 deliveredBy (handed a) = []
-deliveredBy freed = []
+deliveredBy (freed n) = []
 
 abbrev pub handedBy : Event → List Arrival
 handedBy (arrived b) = []
 handedBy (consumed x) = []
 handedBy (dropped b) = []
 handedBy (handed a) = a ∷ []
-handedBy freed = []
+handedBy (freed n) = []
 
 -- all that the events add, in their order
 unfoldable pub flat : {A : Type 0} → (Event → List A) → List Event → List A
@@ -101,9 +101,9 @@ pub record Hands (w : World) (a : Arrival) (v : World) : Type 0 where
   pub is : a ≡ record { number = notice .number; payload = partOf (w .queueMemory) (notice .place) (notice .len) }
   pub left : v ≡ withState w (withQueue (w .state) queue)
 
-pub record Frees (w v : World) : Type 0 where
+pub record Frees (w : World) (n : ℕ) (v : World) : Type 0 where
   pub slot : Slot
-  pub resets : answered slot ≡ wasReset (w .state .slot) (w .slotMemory)
+  pub resets : answered slot ≡ wasReset (w .state .slot) n (w .slotMemory)
   pub left : v ≡ withState w (withSlot (w .state) slot)
 
 abbrev pub Happens : Choice → World → Event → World → Type 0
@@ -111,7 +111,7 @@ Happens c w (arrived b) v = Arrives w b v
 Happens c w (consumed x) v = Consumes c w x v
 Happens c w (dropped b) v = (b ≡ held w) × (v ≡ emptied w)
 Happens c w (handed a) v = Hands w a v
-Happens c w freed v = Frees w v
+Happens c w (freed n) v = Frees w n v
 
 -- something in between
 pub record Via (P Q : World → Type 0) : Type 0 where
@@ -131,7 +131,7 @@ Fed (arrived b ∷ l) = Fed l
 Fed (consumed x ∷ l) = Fed l
 Fed (dropped b ∷ l) = ⊥
 Fed (handed a ∷ l) = ⊥
-Fed (freed ∷ l) = ⊥
+Fed (freed n ∷ l) = ⊥
 
 -- Conservation: b came in behind what was held, and what was held with b is what went, stretch by stretch in order, followed by what is held now: each byte once.
 pub record Over (c : Choice) (w : World) (b : List ℕ) (v : World) : Type 0 where

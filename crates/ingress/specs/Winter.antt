@@ -51,7 +51,7 @@ fed-hands (arrived b ∷ l) f = fed-hands l f
 fed-hands (consumed x ∷ l) f = fed-hands l f
 fed-hands (dropped b ∷ l) f = absurd f
 fed-hands (handed a ∷ l) f = absurd f
-fed-hands (freed ∷ l) f = absurd f
+fed-hands (freed n ∷ l) f = absurd f
 
 did-over : (c : Choice) (w : World) (b : List ℕ) (v : World) → Over c w b v → Did c w b [] v
 did-over c w b v o = record { events = o .events; story = o .story; came = o .came; out = fed-hands (o .events) (o .fed) }
@@ -93,11 +93,11 @@ did-take c w (answered (got q n)) e =
 did-take c w (answered (empty q)) e = did-nothing c w (withState w (withQueue (w .state) q)) (ap (λ (x : Queue). withState w (withQueue (w .state) x)) (take-empty (w .state .queue) q (w .queueMemory) e))
 did-take c w (refused n v) e = did-nothing c w w refl
 
-did-reset : (c : Choice) (w : World) (o : Outcome Slot) → o ≡ wasReset (w .state .slot) (w .slotMemory) → Did c w [] [] (afterReset w o)
+did-reset : (c : Choice) (w : World) (n : ℕ) (o : Outcome Slot) → o ≡ wasReset (w .state .slot) n (w .slotMemory) → Did c w [] [] (afterReset w o)
 unfolding flat
-did-reset c w (answered s) e =
-    record { events = freed ∷ []; story = record { at = withState w (withSlot (w .state) s); first = record { slot = s; resets = e; left = refl }; rest = refl }; came = refl; out = refl }
-did-reset c w (refused n v) e = did-nothing c w w refl
+did-reset c w n (answered s) e =
+    record { events = freed n ∷ []; story = record { at = withState w (withSlot (w .state) s); first = record { slot = s; resets = e; left = refl }; rest = refl }; came = refl; out = refl }
+did-reset c w n (refused k v) e = did-nothing c w w refl
 
 did : (c : Choice) (x : Call) (w : World) → Did c w (tookBy c x w) (handsBy c x w) (leftBy c x w)
 unfolding flat
@@ -107,7 +107,7 @@ did c (advance n) w = let r = advanced c n w in did-keeps c w (committedBytes w 
 did c clear w =
     record { events = dropped (held w) ∷ []; story = record { at = emptied w; first = (refl, refl); rest = refl }; came = refl; out = refl }
 did c takeOne w = did-take c w (taken ours (w .state .queue) (w .queueMemory)) refl
-did c reset w = did-reset c w (wasReset (w .state .slot) (w .slotMemory)) refl
+did c (reset n) w = did-reset c w n (wasReset (w .state .slot) n (w .slotMemory)) refl
 
 -- the calls one after the other
 did-all : (c : Choice) (l : List Call) (w : World) → Did c w (along c (tookBy c) l w) (along c (handsBy c) l w) (leftAfter c l w)

@@ -51,6 +51,7 @@ pub struct Start {
     pub start: usize,
     pub count: usize,
     pub queue_lost: u32,
+    pub serial: u32,
 }
 
 // The forms: a digest case, and an ingress case from nothing or from a written state.
@@ -66,9 +67,9 @@ fn state_number(s: &[u8], k: usize, most: u32) -> Amount {
     fields::number(fields::part_of(s, k, b','), most)
 }
 
-// END,SIGNALLED,LENGTH,SLOT-LOST,START,COUNT,QUEUE-LOST: the end and the slot's part.
+// END,SIGNALLED,LENGTH,SLOT-LOST,START,COUNT,QUEUE-LOST,SERIAL: the end and the slot's first numbers.
 fn started(s: &[u8]) -> Form {
-    if fields::parts(s, b',') != 7 {
+    if fields::parts(s, b',') != 8 {
         return Form::Bad;
     }
     let Amount::Is(end) = state_number(s, 0, fields::MOST) else {
@@ -97,6 +98,9 @@ fn queue_started(s: &[u8], end: usize, signalled: bool, len: usize, slot_lost: u
     let Amount::Is(lost) = state_number(s, 6, fields::MOST) else {
         return Form::Bad;
     };
+    let Amount::Is(serial) = state_number(s, 7, fields::MOST) else {
+        return Form::Bad;
+    };
     Form::From(Start {
         end: end,
         signalled: signalled,
@@ -105,6 +109,7 @@ fn queue_started(s: &[u8], end: usize, signalled: bool, len: usize, slot_lost: u
         start: start as usize,
         count: count as usize,
         queue_lost: lost,
+        serial: serial,
     })
 }
 

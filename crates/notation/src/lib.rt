@@ -6,13 +6,14 @@
 // it, a comma in the first tells the form, else their number does.
 // TABLE INPUT is a digest case; TABLE BUFFER SLOT-MEMORY QUEUE-MEMORY OPS an ingress case from end 0, a new slot and an empty queue;
 // STATE TABLE BUFFER SLOT-MEMORY QUEUE-MEMORY OPS one from any state, where STATE is
-// END,SIGNALLED,LENGTH,SLOT-LOST,START,COUNT,QUEUE-LOST (SIGNALLED 0 or 1; the slot holds an Ok).
+// END,SIGNALLED,LENGTH,SLOT-LOST,START,COUNT,QUEUE-LOST,SERIAL (SIGNALLED 0 or 1; the slot holds an Ok).
 //
 // Bytes are `-` for none, or parts joined by `+`, a part being hex in either case or COUNT*HH, one byte that many times.
 // Bytes of one field, or of one op, are at most 65,536; numbers are decimal, at most 4,294,967,295.
 // OPS is `-`, or ops joined by `;`: Wbytes write; Abytes put the bytes into the room and advance by as many (where they don't fit nothing is put, and
-// advance is called all the same); Mn advance by n; C clear; R reset; T take; L lookup; Obytes signal an Ok; Pn a prompt, n up to 255; En a CME code,
-// n up to 65,535, with its digits in decimal, no zeros in front; En,bytes with these digits; B BUSY.
+// advance is called all the same); Mn advance by n; C clear; R reset with the serial number after the one in force (4,294,967,295 is followed by 0); Rn with n
+// (R-11); T take; L lookup; Obytes signal an Ok; Pn a prompt, n up to 255; En a CME code, n up to 65,535, with its digits in decimal, no zeros in front;
+// En,bytes with these digits; B BUSY.
 //
 // A digest case answers KIND NUMBER PLACE LENGTH CONSUMED, `-` for no number, and behind it, where the answer has digits, ` digits PLACE LENGTH`,
 // and where it has a text, ` text PLACE LENGTH`. The others answer a part for each op, each ended by `;`, a space, and the last state. What doesn't read in this

@@ -9,7 +9,8 @@ pub enum Op {
     Write(usize),
     Advance(usize, usize),
     Clear,
-    Reset,
+    Reset(u32),
+    ResetNext,
     Take,
     Look,
     Signal(Kind, u32, usize),
@@ -26,11 +27,12 @@ fn op_of_bytes(letter: u8, n: usize) -> Op {
     }
 }
 
-// An op with a number: M or P.
+// An op with a number: M, P or R.
 fn op_of_number(letter: u8, n: u32) -> Op {
     match letter {
         b'M' => Op::Advance(n as usize, 0),
         b'P' => Op::Signal(Kind::Prompt, n, 0),
+        b'R' => Op::Reset(n),
         _ => Op::Bad,
     }
 }
@@ -47,7 +49,7 @@ fn most(letter: u8) -> u32 {
 fn op_alone(letter: u8) -> Op {
     match letter {
         b'C' => Op::Clear,
-        b'R' => Op::Reset,
+        b'R' => Op::ResetNext,
         b'T' => Op::Take,
         b'B' => Op::Signal(Kind::Busy, 0, 0),
         b'L' => Op::Look,
@@ -66,7 +68,7 @@ fn takes_bytes(letter: u8) -> bool {
 // Has the op a number?
 fn takes_number(letter: u8) -> bool {
     match letter {
-        b'M' | b'P' => true,
+        b'M' | b'P' | b'R' => true,
         _ => false,
     }
 }
@@ -89,6 +91,9 @@ fn op_of_code(s: &[u8], piece: &mut Memory) -> Op {
 // Reads an op, its bytes into the piece's memory.
 pub fn read_op(s: &[u8], piece: &mut Memory) -> Op {
     let letter = fields::byte_at(s, 0);
+    if s.len() == 1 {
+        return op_alone(letter);
+    }
     let rest = fields::between(s, 1, s.len());
     if takes_bytes(letter) {
         return match data::data(rest, piece) {
@@ -105,10 +110,7 @@ pub fn read_op(s: &[u8], piece: &mut Memory) -> Op {
             Amount::Bad => Op::Bad,
         };
     }
-    if s.len() != 1 {
-        return Op::Bad;
-    }
-    op_alone(letter)
+    Op::Bad
 }
 
 // Does the op read?
@@ -117,7 +119,8 @@ fn is_good(s: &[u8], piece: &mut Memory) -> bool {
         Op::Write(_) => true,
         Op::Advance(_, _) => true,
         Op::Clear => true,
-        Op::Reset => true,
+        Op::Reset(_) => true,
+        Op::ResetNext => true,
         Op::Take => true,
         Op::Look => true,
         Op::Signal(_, _, _) => true,

@@ -70,7 +70,7 @@ held-most n =
     (λ (h : n ≤ 13). let e : min n 14 ≡ n = omega arith in ap heldOf e)
     (order 13 n)
 
--- A state written over any nine numbers is read back as it was. Its numbers of 32 bits are at most 4,294,967,295.
+-- A state written over any ten numbers is read back as it was. Its numbers of 32 bits are at most 4,294,967,295.
 flag-round : (n : ℕ) (b : Bool) → ltb 0 (kept 1 n (if b then 1 else 0)) ≡ b
 flag-round n true = lt-ltb 0 (kept 1 n 1) (omega (arith, kept-reads 1 n 1))
 flag-round n false = le-ltb 0 (kept 1 n 0) (omega (arith, kept-reads 1 n 0))
@@ -98,13 +98,16 @@ held-round n h = sym (held-most (kept 14 n (heldNumber h))) ∙ ap heldOf (kept-
 word-round : (n x : ℕ) → x ≤ 4294967295 → word (kept 4294967295 n x) ≡ x
 word-round n x h = omega (arith, kept-reads 4294967295 n x)
 
-pub state-round : (a b c d e f g h i : ℕ) (s : State) → s .slot .number ≤ 4294967295 → s .slot .lost ≤ 4294967295 → s .queue .lost ≤ 4294967295 → stateOf (withState (a ∷ b ∷ c ∷ d ∷ e ∷ f ∷ g ∷ h ∷ i ∷ []) s) ≡ s
-state-round a b c d e f g h i s k l m =
+abbrev pub ten : (a b c d e f g h i k : ℕ) → List ℕ
+ten a b c d e f g h i k = a ∷ b ∷ c ∷ d ∷ e ∷ f ∷ g ∷ h ∷ i ∷ k ∷ []
+
+pub state-round : (a b c d e f g h i k : ℕ) (s : State) → s .slot .number ≤ 4294967295 → s .slot .lost ≤ 4294967295 → s .slot .serial ≤ 4294967295 → s .queue .lost ≤ 4294967295 → stateOf (withState (ten a b c d e f g h i k) s) ≡ s
+state-round a b c d e f g h i k s l m n o =
     let x = s .slot in
     λ j. record {
       end = s .end;
-      slot = record { signalled = flag-round b (x .signalled) j; held = held-round c (x .held) j; number = word-round d (x .number) k j; len = x .len; lost = word-round f (x .lost) l j };
-      queue = record { start = s .queue .start; count = s .queue .count; lost = word-round i (s .queue .lost) m j };
+      slot = record { signalled = flag-round b (x .signalled) j; held = held-round c (x .held) j; number = word-round d (x .number) l j; len = x .len; lost = word-round f (x .lost) m j; serial = word-round k (x .serial) n j };
+      queue = record { start = s .queue .start; count = s .queue .count; lost = word-round i (s .queue .lost) o j };
     }
 
 -- A state that is read and written again leaves every number as it stood, in plain form or not.
@@ -130,13 +133,13 @@ held-stays n =
 word-stays : (n : ℕ) → kept 4294967295 n (word n) ≡ n
 word-stays n = sym (kept-old 4294967295 n (word n) refl)
 
-module _ (a b c d e f g h i : ℕ) where
-  pub slot-stays : withSlot (a ∷ b ∷ c ∷ d ∷ e ∷ f ∷ g ∷ h ∷ i ∷ []) (slotOf (a ∷ b ∷ c ∷ d ∷ e ∷ f ∷ g ∷ h ∷ i ∷ [])) ≡ a ∷ b ∷ c ∷ d ∷ e ∷ f ∷ g ∷ h ∷ i ∷ []
-  slot-stays = λ j. a ∷ flag-stays b j ∷ held-stays c j ∷ word-stays d j ∷ e ∷ word-stays f j ∷ g ∷ h ∷ i ∷ []
+module _ (a b c d e f g h i k : ℕ) where
+  pub slot-stays : withSlot (ten a b c d e f g h i k) (slotOf (ten a b c d e f g h i k)) ≡ ten a b c d e f g h i k
+  slot-stays = λ j. ten a (flag-stays b j) (held-stays c j) (word-stays d j) e (word-stays f j) g h i (word-stays k j)
 
-  pub state-stays : withState (a ∷ b ∷ c ∷ d ∷ e ∷ f ∷ g ∷ h ∷ i ∷ []) (stateOf (a ∷ b ∷ c ∷ d ∷ e ∷ f ∷ g ∷ h ∷ i ∷ [])) ≡ a ∷ b ∷ c ∷ d ∷ e ∷ f ∷ g ∷ h ∷ i ∷ []
-  state-stays = λ j. a ∷ flag-stays b j ∷ held-stays c j ∷ word-stays d j ∷ e ∷ word-stays f j ∷ g ∷ h ∷ word-stays i j ∷ []
+  pub state-stays : withState (ten a b c d e f g h i k) (stateOf (ten a b c d e f g h i k)) ≡ ten a b c d e f g h i k
+  state-stays = λ j. ten a (flag-stays b j) (held-stays c j) (word-stays d j) e (word-stays f j) g h (word-stays i j) (word-stays k j)
 
-  -- and one that was freed changes the number of signalled alone
-  pub freed-stays : withSlot (a ∷ b ∷ c ∷ d ∷ e ∷ f ∷ g ∷ h ∷ i ∷ []) (freed (slotOf (a ∷ b ∷ c ∷ d ∷ e ∷ f ∷ g ∷ h ∷ i ∷ []))) ≡ a ∷ 0 ∷ c ∷ d ∷ e ∷ f ∷ g ∷ h ∷ i ∷ []
-  freed-stays = λ j. a ∷ sym (kept-new 1 b 0 (λ e. omega arith)) j ∷ held-stays c j ∷ word-stays d j ∷ e ∷ word-stays f j ∷ g ∷ h ∷ i ∷ []
+  -- and one that was freed under another serial number changes that number and the one of signalled alone
+  pub freed-stays : (n : ℕ) → (n ≡ word k → ⊥) → withSlot (ten a b c d e f g h i k) (freed (slotOf (ten a b c d e f g h i k)) n) ≡ ten a 0 c d e f g h i n
+  freed-stays n r = λ j. ten a (sym (kept-new 1 b 0 (λ q. omega arith)) j) (held-stays c j) (word-stays d j) e (word-stays f j) g h i (sym (kept-new 4294967295 k n (λ q. absurd (r (sym q)))) j)

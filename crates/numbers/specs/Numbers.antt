@@ -1,4 +1,4 @@
--- What each number of a lent array means: a state as nine numbers, what a call answers at the front of an array of nine, and a digester by its number.
+-- What each number of a lent array means: a state as ten numbers, what a call answers at the front of an array of nine, and a digester by its number.
 use mathlib.Core.List.{List, [], _∷_}
 use Prim.Native.Nat.{ℕ, min}
 use lib.ListN.{getD}
@@ -77,10 +77,10 @@ heldNumber Capacity = 14
 abbrev pub heldOf : ℕ → Held
 heldOf n = if ltb 13 n then Capacity else Heard (kindOf n)
 
--- The state is nine numbers: the end (0); of the slot signalled (1), held (2), number (3), stored length (4), lost answers (5); of the queue start (6), count (7), lost notices (8).
--- Signalled is 1, free 0, and any number but 0 reads as signalled. Any nine numbers are a state.
+-- The state is ten numbers: the end (0); of the slot signalled (1), held (2), number (3), stored length (4), lost answers (5); of the queue start (6), count (7), lost notices (8);
+-- and the slot's serial number (9, R-11). Signalled is 1, free 0, and any number but 0 reads as signalled. Any ten numbers are a state.
 abbrev pub slotOf : List ℕ → Slot
-slotOf v = record { signalled = ltb 0 (getD v 1 0); held = heldOf (getD v 2 0); number = word (getD v 3 0); len = getD v 4 0; lost = word (getD v 5 0) }
+slotOf v = record { signalled = ltb 0 (getD v 1 0); held = heldOf (getD v 2 0); number = word (getD v 3 0); len = getD v 4 0; lost = word (getD v 5 0); serial = word (getD v 9 0) }
 
 abbrev pub queueOf : List ℕ → Queue
 queueOf v = record { start = getD v 6 0; count = getD v 7 0; lost = word (getD v 8 0) }
@@ -92,16 +92,19 @@ stateOf v = record { end = getD v 0 0; slot = slotOf v; queue = queueOf v }
 unfoldable pub kept : ℕ → ℕ → ℕ → ℕ
 kept most old new = if eqb (min old most) new then old else new
 
--- A state's numbers v with another slot: signalled is at most 1, held at most 14, number and lost answers are of 32 bits; the length is taken whole.
+-- A state's numbers v with another slot: signalled is at most 1, held at most 14, number, lost answers and serial number are of 32 bits; the length is taken whole.
 abbrev pub withSlot : List ℕ → Slot → List ℕ
 withSlot v x =
-    sets v 1
+    sets
+    (sets v 1
     (kept 1 (getD v 1 0) (if x .signalled then 1 else 0)
     ∷ kept 14 (getD v 2 0) (heldNumber (x .held))
     ∷ kept 4294967295 (getD v 3 0) (x .number)
     ∷ x .len
     ∷ kept 4294967295 (getD v 5 0) (x .lost)
-    ∷ [])
+    ∷ []))
+    9
+    (kept 4294967295 (getD v 9 0) (x .serial) ∷ [])
 
 -- with another queue: start and count are taken whole
 abbrev pub withQueue : List ℕ → Queue → List ℕ

@@ -1,5 +1,5 @@
-// What each number of a lent array means: the state as nine numbers, the digester's answer as nine, and a digester by its number.
-// Any nine numbers are a state, and a state that is written reads back as it was. A number that reads already as it is to read stays
+// What each number of a lent array means: the state as ten numbers, the digester's answer as nine, and a digester by its number.
+// Any ten numbers are a state, and a state that is written reads back as it was. A number that reads already as it is to read stays
 // as it stood, in plain form or not: so a call changes no number but those that it gives another meaning.
 ghost use mathlib.Core.Path.{_≡_};
 ghost use Prim.Native.Nat.{_<_};
@@ -18,9 +18,9 @@ use turn::State;
 // How many numbers a call may answer, and how many a state has.
 pub const OUT: usize = 9;
 
-pub const NUMBERS: usize = 9;
+pub const NUMBERS: usize = 10;
 
-// The nine numbers of a state: where the bytes in the buffer end;
+// The ten numbers of a state: where the bytes in the buffer end;
 pub const END: usize = 0;
 
 // of the slot, whether it is signalled (0: free), what it holds (0 to 13 a kind, 14 CapacityError), the answer's number,
@@ -35,12 +35,15 @@ const LEN: usize = 4;
 
 const SLOT_LOST: usize = 5;
 
-// of the queue, the ring's start, how many records it holds and the lost notices.
+// of the queue, the ring's start, how many records it holds and the lost notices;
 const START: usize = 6;
 
 const COUNT: usize = 7;
 
 const QUEUE_LOST: usize = 8;
+
+// and of the slot again, the serial number in force (R-11), last so that no other number moved.
+const SERIAL: usize = 9;
 
 // The largest plain numbers: signalled, CapacityError, and a number of 32 bits.
 const MOST_SIGNALLED: u64 = 1;
@@ -162,7 +165,7 @@ pub fn answer_of(answer: &[u64; OUT]) -> Answer
     }
 }
 
-// The slot of a state's nine numbers.
+// The slot of a state's ten numbers.
 pub fn slot_of(state: &[u64; NUMBERS]) -> Slot
     ensures { λ r. ⌜ r ≡ slotOf (now (state .entry)) ⌝ }
 {
@@ -172,10 +175,11 @@ pub fn slot_of(state: &[u64; NUMBERS]) -> Slot
         number: word(state[NUMBER]),
         len: state[LEN] as usize,
         lost: word(state[SLOT_LOST]),
+        serial: word(state[SERIAL]),
     }
 }
 
-// The queue of a state's nine numbers.
+// The queue of a state's ten numbers.
 pub fn queue_of(state: &[u64; NUMBERS]) -> Queue
     ensures { λ r. ⌜ r ≡ queueOf (now (state .entry)) ⌝ }
 {
@@ -186,7 +190,7 @@ pub fn queue_of(state: &[u64; NUMBERS]) -> Queue
     }
 }
 
-// The state of nine numbers.
+// The state of ten numbers.
 pub fn state_of(state: &[u64; NUMBERS]) -> State
     ensures { λ r. ⌜ r ≡ stateOf (now (state .entry)) ⌝ }
 {
@@ -200,7 +204,7 @@ pub fn state_of(state: &[u64; NUMBERS]) -> State
 // What is to stand at a place of the state, so that it reads as `new`: what stands there where it reads so already, since a number over `most`
 // reads as that. It is looked at only where `new` is `most`: another that reads as `new` is `new`.
 fn kept(state: &[u64; NUMBERS], at: usize, most: u64, new: u64) -> u64
-    requires { ⌜ at < 9 ⌝ }
+    requires { ⌜ at < 10 ⌝ }
     ensures { λ r. ⌜ r ≡ kept most (getD (now (state .entry)) at 0) new ⌝ }
 {
     if new != most {
@@ -222,11 +226,13 @@ pub fn put_slot(state: &mut [u64; NUMBERS], x: Slot)
     let content = kept(state, HELD, MOST_HELD, held_number(held));
     let number = kept(state, NUMBER, MOST_WORD, x.number as u64);
     let lost = kept(state, SLOT_LOST, MOST_WORD, x.lost as u64);
+    let serial = kept(state, SERIAL, MOST_WORD, x.serial as u64);
     state[SIGNALLED] = signalled;
     state[HELD] = content;
     state[NUMBER] = number;
     state[LEN] = x.len as u64;
     state[SLOT_LOST] = lost;
+    state[SERIAL] = serial;
 }
 
 // Another queue, the other numbers as they stood.
@@ -239,7 +245,7 @@ pub fn put_queue(state: &mut [u64; NUMBERS], x: Queue)
     state[QUEUE_LOST] = lost;
 }
 
-// A state as its nine numbers.
+// A state as its ten numbers.
 pub fn put_state(state: &mut [u64; NUMBERS], s: State)
     ensures { λ _. ⌜ now (state .exit) ≡ withState (now (state .entry)) s ⌝ }
 {

@@ -82,28 +82,30 @@ fn do_clear(now: State) -> Left {
     leaving(now.with_end(ingress::clear(now.end)), Answered::Done)
 }
 
-// What a signal left.
-fn turned(now: State, t: Turned) -> Left {
-    match t {
-        Turned::Is(x) => leaving(now.with_slot(x), Answered::Done),
-        Turned::BadLength => leaving(now, Answered::Refused(3)),
+fn do_reset(now: State, serial: u32, slot_mem: &[u8]) -> Left {
+    let slot = now.slot;
+    match slot.reset(serial, slot_mem) {
+        Reset::Is(x) => leaving(now.with_slot(x), Answered::Done),
+        Reset::BadLength => leaving(now, Answered::Refused(3)),
+        Reset::Repeated => leaving(now, Answered::Refused(15)),
     }
 }
 
-fn do_reset(now: State, slot_mem: &[u8]) -> Left {
+// The serial number after the one in force; the largest is followed by 0.
+fn next_serial(now: State) -> u32 {
     let slot = now.slot;
-    match slot.reset(slot_mem) {
-        Reset::Is(x) => leaving(now.with_slot(x), Answered::Done),
-        Reset::BadLength => leaving(now, Answered::Refused(3)),
+    if slot.serial == fields::MOST {
+        return 0;
     }
+    slot.serial + 1
 }
 
 fn do_signal(now: State, kind: Kind, n: u32, p: &[u8], slot_mem: &mut [u8]) -> Left {
     let slot = now.slot;
-    turned(
-        now,
-        slot.signal(answers::with_number(kind, n, 0), p, slot_mem),
-    )
+    match slot.signal(answers::with_number(kind, n, 0), p, slot_mem) {
+        Turned::Is(x) => leaving(now.with_slot(x), Answered::Done),
+        Turned::BadLength => leaving(now, Answered::Refused(3)),
+    }
 }
 
 fn do_take(now: State, queue_mem: &[u8]) -> Left {
@@ -145,7 +147,8 @@ fn perform(
             do_advance(now, n, selector, table, buf, slot_mem, queue_mem)
         }
         Op::Clear => do_clear(now),
-        Op::Reset => do_reset(now, slot_mem),
+        Op::Reset(n) => do_reset(now, n, slot_mem),
+        Op::ResetNext => do_reset(now, next_serial(now), slot_mem),
         Op::Take => do_take(now, queue_mem),
         Op::Look => do_look(now, slot_mem),
         Op::Signal(kind, n, len) => {
@@ -173,12 +176,13 @@ pub fn say_content(x: Slot, out: &mut Memory, at: usize) -> usize {
     }
 }
 
-// What a signalled slot holds, with its payload or digits in hex.
+// What a signalled slot holds, with its payload or digits in hex and the serial number that it bears.
 fn say_held(x: Slot, slot_mem: &[u8], out: &mut Memory, at: usize) -> usize {
     let head = say::words(out, at, b"held ");
     let named = say_content(x, out, head);
     let apart = say::words(out, named, b" ");
-    say::hex(out, apart, x.payload(slot_mem))
+    let bytes = say::hex(out, apart, x.payload(slot_mem));
+    say::serial(out, bytes, x.serial)
 }
 
 // Refusal 5 of a write.

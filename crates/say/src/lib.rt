@@ -83,6 +83,12 @@ pub fn and_number(out: &mut Memory, at: usize, n: u64) -> usize {
     number(out, used, n)
 }
 
+// The serial number of a slot (R-11).
+pub fn serial(out: &mut Memory, at: usize, n: u32) -> usize {
+    let used = words(out, at, b" serial ");
+    number(out, used, n as u64)
+}
+
 // A kind and its number, `-` for none.
 pub fn kind_number(out: &mut Memory, at: usize, k: Kind, n: u32) -> usize {
     let used = kind(out, at, k);

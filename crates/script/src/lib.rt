@@ -56,7 +56,8 @@ fn say_slot(x: Slot, slot_mem: &[u8], out: &mut Memory, at: usize) -> usize {
     let named = ops::say_content(x, out, flag);
     let long = say::and_number(out, named, x.len as u64);
     let lost = say::and_number(out, long, x.lost as u64);
-    say::memory(out, lost, slot_mem)
+    let serial = say::serial(out, lost, x.serial);
+    say::memory(out, serial, slot_mem)
 }
 
 // Says whether the slot is free.
@@ -258,6 +259,7 @@ fn state_of(x: Start) -> State {
         number: 0,
         len: x.len,
         lost: x.slot_lost,
+        serial: x.serial,
     };
     let queue = Queue {
         start: x.start,

@@ -1,9 +1,10 @@
 -- The response slot in document 01's words: what each call leaves of the slot and of its memory, and when it refuses.
+use mathlib.Core.Path.{_≡_}
 use mathlib.Core.Bool.{Bool, true, false, not}
 use mathlib.Core.List.{List, []}
 use Prim.Native.Nat.{ℕ}
 use lib.ListN.{length}
-use lib.Dec.{ltb}
+use lib.Dec.{ltb, eqb}
 use Rattle.moves.specs.Moves.{put, oneMore}
 use Rattle.outcome.specs.Outcome.{Outcome, answered, refused, if_then_else_}
 use Rattle.answers.specs.Answer.{numbered, stored, isNumeric}
@@ -53,25 +54,28 @@ carries kind.NoDialtone = false
 carries kind.Custom = true
 carries kind.Notice = false
 
--- A new slot is free and holds an empty Ok, counts 0.
+-- A new slot is free and holds an empty Ok, counts 0, and its serial number is 0 (R-11).
 abbrev pub newSlot : Slot
-newSlot = record { signalled = false; held = Heard kind.Ok; number = 0; len = 0; lost = 0 }
+newSlot = record { signalled = false; held = Heard kind.Ok; number = 0; len = 0; lost = 0; serial = 0 }
 
 -- A signal on a free slot stores the answer.
 abbrev pub filled : Slot → Kind → ℕ → ℕ → Slot
-filled x k n len = record { signalled = true; held = Heard k; number = stored (numbered k n); len = len; lost = x .lost }
+filled x k n len = record { signalled = true; held = Heard k; number = stored (numbered k n); len = len; lost = x .lost; serial = x .serial }
 
 -- Bytes longer than the memory: digits are left out and their length is 0 (R-2); else the slot reads CapacityError.
 abbrev pub overflowing : Slot → Kind → ℕ → Slot
-overflowing x k n = if isNumeric k then filled x k n 0 else record { signalled = true; held = Capacity; number = 0; len = 0; lost = x .lost }
+overflowing x k n = if isNumeric k then filled x k n 0 else record { signalled = true; held = Capacity; number = 0; len = 0; lost = x .lost; serial = x .serial }
 
 -- Nothing changes but a count of lost answers.
-abbrev pub lostOne : Slot → Slot
-lostOne x = record { signalled = x .signalled; held = x .held; number = x .number; len = x .len; lost = oneMore (x .lost) }
+abbrev pub withLost : Slot → ℕ → Slot
+withLost x n = record { signalled = x .signalled; held = x .held; number = x .number; len = x .len; lost = n; serial = x .serial }
 
--- Reset frees, and changes nothing else.
-abbrev pub freed : Slot → Slot
-freed x = record { signalled = false; held = x .held; number = x .number; len = x .len; lost = x .lost }
+abbrev pub lostOne : Slot → Slot
+lostOne x = withLost x (oneMore (x .lost))
+
+-- Reset frees, takes the next serial number and stores it (R-11), and changes nothing else.
+abbrev pub freed : Slot → ℕ → Slot
+freed x n = record { signalled = false; held = x .held; number = x .number; len = x .len; lost = x .lost; serial = n }
 
 -- what a call says, and the memory that it leaves
 pub record After : Type 0 where
@@ -96,13 +100,18 @@ abbrev pub outcome : Turned → Outcome Slot
 outcome (turns.Is x) = answered x
 outcome turns.BadLength = refused 3 []
 
-unfoldable pub wasReset : Slot → List ℕ → Outcome Slot
-wasReset x m = if ltb (length m) (x .len) then refused 3 [] else answered (freed x)
+-- a reset with the serial number n; the number already in force is refused (R-11)
+unfoldable pub wasReset : Slot → ℕ → List ℕ → Outcome Slot
+wasReset x n m =
+    if ltb (length m) (x .len) then refused 3 []
+    else if eqb n (x .serial) then refused 15 []
+    else answered (freed x n)
 
 -- and of a reset's
 abbrev pub resetting : Reset → Outcome Slot
 resetting (resets.Is x) = answered x
 resetting resets.BadLength = refused 3 []
+resetting resets.Repeated = refused 15 []
 
 -- What a look says: whether there is an answer, and the slot as it stood.
 pub record Reading : Type 0 where
@@ -120,3 +129,7 @@ wasRead x m = if ltb (length m) (x .len) then refused 3 [] else answered (record
 -- Reading a free slot answers nothing: how many bytes of the memory's front are a payload, or digits, to be read.
 abbrev pub readable : Slot → ℕ
 readable x = if x .signalled then x .len else 0
+
+-- An answer that is stored stands (R-11): the slot y is x, its serial number with it, but for the count of lost answers, and its memory k is m, byte for byte.
+abbrev pub Stands : Slot → List ℕ → Slot → List ℕ → Type 0
+Stands x m y k = (y ≡ withLost x (y .lost)) × (k ≡ m)

@@ -1,6 +1,7 @@
-// The response slot of atat's response_slot.rs by document 01: one answer, held until the client resets it.
+// The response slot of atat's response_slot.rs by document 01: one answer, held until the client resets it, and the serial number of the command that it
+// is to answer (R-11).
 // The slot is a struct by value beside lent memory; each call takes the slot and hands the next slot back, or refuses with 3
-// where the stored length is past the memory, and then neither slot nor memory has changed.
+// where the stored length is past the memory, a reset with 15 where the serial number is the one in force; refused, neither slot nor memory has changed.
 ghost use mathlib.Core.Path.{_≡_};
 ghost use Rattle.text.specs.Text.{partOf, partAt, further};
 ghost use Rattle.slot.specs.Slot.{isResponse, carries, newSlot, lostOne, filled, overflowing, after, signalled, outcome, wasReset, resetting, wasRead, reading, readable};
@@ -13,12 +14,14 @@ pub enum Held {
     Capacity,
 }
 
+// `serial` is the number in force (R-11), and so the one that a stored answer bears: only a reset changes it, and a reset frees.
 pub struct Slot {
     pub signalled: bool,
     pub held: Held,
     pub number: u32,
     pub len: usize,
     pub lost: u32,
+    pub serial: u32,
 }
 
 // What a signal leaves: the next slot, or refusal 3.
@@ -27,10 +30,11 @@ pub enum Turned {
     BadLength,
 }
 
-// The slot freed, or refusal 3.
+// The slot freed, under its next serial number, or refusal 3, or 15 (R-11).
 pub enum Reset {
     Is(Slot),
     BadLength,
+    Repeated,
 }
 
 // A look at the slot: it is signalled, it is free and answers nothing, or refusal 3. Looking changes nothing.
@@ -85,7 +89,7 @@ fn carries(kind: Kind) -> bool
 }
 
 impl Slot {
-    // A new slot is free and holds an empty Ok, with nothing lost.
+    // A new slot is free and holds an empty Ok, with nothing lost; its serial number is 0 (R-11).
     pub fn new() -> Slot
         ensures { λ r. ⌜ r ≡ newSlot ⌝ }
     {
@@ -95,6 +99,7 @@ impl Slot {
             number: 0,
             len: 0,
             lost: 0,
+            serial: 0,
         }
     }
 
@@ -108,6 +113,7 @@ impl Slot {
             number: answers::number_of(kind, n),
             len: len,
             lost: self.lost,
+            serial: self.serial,
         }
     }
 
@@ -124,6 +130,7 @@ impl Slot {
             number: 0,
             len: 0,
             lost: self.lost,
+            serial: self.serial,
         }
     }
 
@@ -138,6 +145,7 @@ impl Slot {
             number: self.number,
             len: self.len,
             lost: moves::one_more(self.lost),
+            serial: self.serial,
         }
     }
 
@@ -167,12 +175,15 @@ impl Slot {
         Turned::Is(self.fill(kind, a.number, p.len()))
     }
 
-    // Frees the slot and changes nothing else.
-    pub fn reset(self, mem: &[u8]) -> Reset
-        ensures { λ r. ⌜ resetting r ≡ wasReset self (now (mem .entry)) ⌝ }
+    // Frees the slot for the command of the next serial number (R-11), and changes nothing else. The number in force is refused; any other is good, a lower one too.
+    pub fn reset(self, serial: u32, mem: &[u8]) -> Reset
+        ensures { λ r. ⌜ resetting r ≡ wasReset self serial (now (mem .entry)) ⌝ }
     {
         if mem.len() < self.len {
             return Reset::BadLength;
+        }
+        if serial == self.serial {
+            return Reset::Repeated;
         }
         let stored = self.held;
         Reset::Is(Slot {
@@ -181,10 +192,11 @@ impl Slot {
             number: self.number,
             len: self.len,
             lost: self.lost,
+            serial: serial,
         })
     }
 
-    // Looks at the slot. Looking doesn't free it; a free one answers nothing.
+    // Looks at the slot, which tells its answer and the serial number that this bears (R-11). Looking doesn't free it; a free one answers nothing.
     pub fn lookup(self, mem: &[u8]) -> Looked
         ensures { λ r. ⌜ reading r ≡ wasRead self (now (mem .entry)) ⌝ }
     {

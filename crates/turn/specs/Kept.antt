@@ -11,11 +11,11 @@ use Rattle.moves.specs.Laws.{moved-length, moved-held, moved-still}
 use Rattle.outcome.specs.Outcome.{Outcome, answered, refused, if_then_else_}
 use Rattle.answers.specs.Answer.{isFound, isNotice}
 use Rattle.answers.specs.Laws.{none-only, notice-plain}
-use Rattle.outcome.specs.Laws.{same-way}
+use Rattle.outcome.specs.Laws.{ways, same-way}
 use Rattle.answers.specs.declared.Answer.{Answer}
 use Rattle.slot.specs.Slot.{isResponse, signalled}
 use Rattle.slot.specs.Slot as slots
-use Rattle.slot.specs.Laws.{signal-none, signal-kept, signal-stuck}
+use Rattle.slot.specs.Laws.{Leaves, leaves-same, signal-none, signal-kept, signal-leaves, signal-stuck}
 use Rattle.slot.specs.declared.Slot.{Slot}
 use Rattle.queue.specs.Queue.{ours, putInto, capacityOf, inBounds, waiting, adds}
 use Rattle.queue.specs.Queue as queues
@@ -23,7 +23,7 @@ use Rattle.queue.specs.Waiting.{put-waits, put-kept, put-stuck, put-full-only}
 use Rattle.queue.specs.declared.Queue.{Queue}
 use Rattle.selector.specs.Selector.{Trusted, Choice}
 use Rattle.turn.specs.declared.State.{State}
-use Rattle.turn.specs.Turn.{withEnd, Delivery, isRefused, toQueue, toSlot, deliver, World, world, held, says, Quiet, payloadOf, carriedOf, delivering}
+use Rattle.turn.specs.Turn.{withEnd, Delivery, orSame, isRefused, toQueue, toSlot, deliver, World, world, held, says, Quiet, payloadOf, carriedOf, delivering}
 use Rattle.turn.specs.Says.{held-long, says-within, says-trusted}
 use Rattle.turn.specs.Laws.{next, waitsAt}
 
@@ -153,3 +153,16 @@ module _ (c : Choice) (w : World) (g : Good c w) where
 
     pub stays : waitsAt c w ≡ w
     stays = λ i. world (w .state) (w .buf) (waits-full .2 .0 i) (waits-full .2 .1 i)
+
+-- A turn changes no serial number, and no answer that is stored (R-11).
+module _ (s : State) (a : Answer) (p m n : List ℕ) where
+  slot-leaves : (o : Outcome Slot) (k : List ℕ) → slots.after o k ≡ signalled (s .slot) a p m → Leaves (s .slot) m (orSame (s .slot) o) k
+  slot-leaves (answered y) k e = signal-leaves (s .slot) a p m y k e
+  slot-leaves (refused j v) k e = rw (signal-stuck (s .slot) a p m j v k e .0) (leaves-same (s .slot) m)
+
+  deliver-leaves : Leaves (s .slot) m (deliver s a p m n .state .slot) (deliver s a p m n .slotMemory)
+  unfolding deliver
+  deliver-leaves = ways (λ (d : Delivery). Leaves (s .slot) m (d .state .slot) (d .slotMemory)) (isNotice (a .kind)) (λ e. leaves-same (s .slot) m) (λ e. slot-leaves (signalled (s .slot) a p m .said) (signalled (s .slot) a p m .memory) refl)
+
+pub next-leaves : (c : Choice) (w : World) → Leaves (w .state .slot) (w .slotMemory) (next c w .state .slot) (next c w .slotMemory)
+next-leaves c w = deliver-leaves (w .state) (says c w) (carriedOf (held w) (says c w)) (w .slotMemory) (w .queueMemory)

@@ -35,22 +35,28 @@ element-write-out-3 c = search needs
 element-write-out-4 : tie.Need-element-write-out-4
 element-write-out-4 c = search needs
 
-enum-told : tie.Need-enum-told
-enum-told c = search needs
+cast-out-2 : tie.Need-cast-out-2
+cast-out-2 c = search needs
 
 element-write-out-5 : tie.Need-element-write-out-5
 element-write-out-5 c = search needs
+
+enum-told : tie.Need-enum-told
+enum-told c = search needs
+
+element-write-out-6 : tie.Need-element-write-out-6
+element-write-out-6 c = search needs
 
 enum-told-2 : tie.Need-enum-told-2
 enum-told-2 c = search needs
 
 returns : tie.Need-returns
 returns c =
-    let args = c .before .before .before .before .before .before .before .before .args in
-    let slot-of = c .before .before .before .before .before .before .slot-of in
-    let lookup = c .before .before .before .before .before .lookup in
-    let x = c .before .before .before .x in
-    says readValues (args .out .now) _ _ (ap slots.reading (sym (x .given .1)) ∙ lookup .ensures ∙ ap (λ (y : Slot). slots.wasRead y (args .mem .now)) (slot-of .ensures)) _ (look-is (args .out .now) (x .given .0 .0) _ (c .before .held-number .ensures))
+    let args = c .before .before .before .before .before .before .before .before .before .args in
+    let slot-of = c .before .before .before .before .before .before .before .slot-of in
+    let lookup = c .before .before .before .before .before .before .lookup in
+    let x = c .before .before .before .before .x in
+    says readValues (args .out .now) _ _ (ap slots.reading (sym (x .given .1)) ∙ lookup .ensures ∙ ap (λ (y : Slot). slots.wasRead y (args .mem .now)) (slot-of .ensures)) _ (look-is (args .out .now) (x .given .0 .0) _ (c .before .before .held-number .ensures))
 
 returns-2 : tie.Need-returns-2
 returns-2 c =
@@ -79,8 +85,10 @@ wx-slot-lookup-spec =
     cast-out
     element-write-out-3
     element-write-out-4
-    enum-told
+    cast-out-2
     element-write-out-5
+    enum-told
+    element-write-out-6
     enum-told-2
     returns
     returns-2

@@ -20,20 +20,30 @@ put-slot-requires c κs = search needs
 enum-told : tie.Need-enum-told
 enum-told c = search needs
 
+enum-told-2 : tie.Need-enum-told-2
+enum-told-2 c = search needs
+
 returns : tie.Need-returns
 returns c =
     let args = c .before .before .before .before .before .before .before .before .before .args in
     let slot-of = c .before .before .before .before .before .before .slot-of in
     let reset = c .before .before .before .before .before .reset in
     let x = c .before .before .before .freed in
-    reset-is (args .state .now) (args .mem .now) _ (slot-of .ensures) _ (reset .ensures) _ (x .given .1) _ (c .put-slot .ensures)
+    reset-is (args .state .now) (args .mem .now) (args .serial) _ (slot-of .ensures) _ (reset .ensures) _ (x .given .1) _ (c .put-slot .ensures)
 
 returns-2 : tie.Need-returns-2
 returns-2 c =
     let args = c .before .before .before .before .before .before .args in
     let slot-of = c .before .before .before .slot-of in
     let reset = c .before .before .reset in
-    reset-is (args .state .now) (args .mem .now) _ (slot-of .ensures) _ (reset .ensures) _ (c .enum-told .given .1) (args .state .now) refl
+    reset-is (args .state .now) (args .mem .now) (args .serial) _ (slot-of .ensures) _ (reset .ensures) _ (c .enum-told .given .1) (args .state .now) refl
+
+returns-3 : tie.Need-returns-3
+returns-3 c =
+    let args = c .before .before .before .before .before .before .args in
+    let slot-of = c .before .before .before .slot-of in
+    let reset = c .before .before .reset in
+    reset-is (args .state .now) (args .mem .now) (args .serial) _ (slot-of .ensures) _ (reset .ensures) _ (c .enum-told2 .given .1) (args .state .now) refl
 
 pub wx-slot-reset-spec : {M : Type 1} → statement M
 wx-slot-reset-spec =
@@ -44,5 +54,7 @@ wx-slot-reset-spec =
     enum-known-freed
     put-slot-requires
     enum-told
+    enum-told-2
     returns
-    returns-2)
+    returns-2
+    returns-3)

@@ -27,6 +27,12 @@ cast-kept-2 c = search needs
 kept-requires-4 : tie.Need-kept-requires-4
 kept-requires-4 c κs = search needs
 
+cast-kept-3 : tie.Need-cast-kept-3
+cast-kept-3 c = search needs
+
+kept-requires-5 : tie.Need-kept-requires-5
+kept-requires-5 c κs = search needs
+
 element-write-state : tie.Need-element-write-state
 element-write-state c = search needs
 
@@ -42,14 +48,18 @@ element-write-state-4 c = search needs
 element-write-state-5 : tie.Need-element-write-state-5
 element-write-state-5 c = search needs
 
+element-write-state-6 : tie.Need-element-write-state-6
+element-write-state-6 c = search needs
+
 returns : tie.Need-returns
 returns c =
-    let flag-number = c .before .before .before .before .before .before .before .before .before .before .flag-number in
-    let kept = c .before .before .before .before .before .before .before .before .before .kept in
-    let held-number = c .before .before .before .before .before .before .before .held-number in
-    let kept2 = c .before .before .before .before .before .before .kept2 in
-    let kept3 = c .before .before .before .kept3 in
-    rw (kept .ensures, kept2 .ensures, kept3 .ensures, c .kept4 .ensures, flag-number .ensures, held-number .ensures)
+    let flag-number = c .before .before .before .before .before .before .before .before .before .before .before .before .before .flag-number in
+    let kept = c .before .before .before .before .before .before .before .before .before .before .before .before .kept in
+    let held-number = c .before .before .before .before .before .before .before .before .before .before .held-number in
+    let kept2 = c .before .before .before .before .before .before .before .before .before .kept2 in
+    let kept3 = c .before .before .before .before .before .before .kept3 in
+    let kept4 = c .before .before .before .kept4 in
+    rw (kept .ensures, kept2 .ensures, kept3 .ensures, kept4 .ensures, c .kept5 .ensures, flag-number .ensures, held-number .ensures)
 
 pub put-slot-spec : {M : Type 1} → statement M
 put-slot-spec =
@@ -63,9 +73,12 @@ put-slot-spec =
     kept-requires-3
     cast-kept-2
     kept-requires-4
+    cast-kept-3
+    kept-requires-5
     element-write-state
     element-write-state-2
     element-write-state-3
     element-write-state-4
     element-write-state-5
+    element-write-state-6
     returns)

@@ -27,11 +27,18 @@ element-copy-out-word-2 c = search needs
 word-requires-2 : tie.Need-word-requires-2
 word-requires-2 c κs = search needs
 
+element-copy-out-word-3 : tie.Need-element-copy-out-word-3
+element-copy-out-word-3 c = search needs
+
+word-requires-3 : tie.Need-word-requires-3
+word-requires-3 c κs = search needs
+
 returns : tie.Need-returns
 returns c =
-    let held-of = c .before .before .before .before .before .held-of in
-    let word = c .before .before .before .word in
-    rw (held-of .ensures, word .ensures, c .word2 .ensures)
+    let held-of = c .before .before .before .before .before .before .before .held-of in
+    let word = c .before .before .before .before .before .word in
+    let word2 = c .before .before .word2 in
+    rw (held-of .ensures, word .ensures, word2 .ensures, c .word3 .ensures)
 
 pub slot-of-spec : {M : Type 1} → statement M
 slot-of-spec =
@@ -45,4 +52,6 @@ slot-of-spec =
     element-copy-out-t16
     element-copy-out-word-2
     word-requires-2
+    element-copy-out-word-3
+    word-requires-3
     returns)
