@@ -16,7 +16,10 @@
 // En,bytes with these digits; B BUSY.
 //
 // A digest case answers KIND NUMBER PLACE LENGTH CONSUMED, `-` for no number, and behind it, where the answer has digits, ` digits PLACE LENGTH`,
-// and where it has a text, ` text PLACE LENGTH`. The others answer a part for each op, each ended by `;`, a space, and the last state. What doesn't read in this
-// notation, or is over a limit, is answered `bad line`, and nothing of the line is done.
+// and where it has a text, ` text PLACE LENGTH`; a refusal is `refused N`, at 2 with the record's number. The others answer a part for each op, each ended by `;`, a
+// space, and the last state. A write answers `took N`, an advance `advanced`, a take `notice NUMBER HEX` or `nothing`, a lookup `held KIND NUMBER HEX serial N` (R-11)
+// or `nothing`, the others `done`; a refusal as above, a write's 5 `refused 5 took N`. The last state is
+// end N buffer HEX slot free|signalled KIND NUMBER LENGTH LOST serial N memory HEX queue START COUNT LOST memory HEX, KIND `capacity` for CapacityError.
+// What doesn't read in this notation, or is over a limit, is answered `bad line`, and nothing of the line is done.
 pub mod form;
 pub mod op;

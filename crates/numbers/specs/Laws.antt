@@ -98,6 +98,7 @@ held-round n h = sym (held-most (kept 14 n (heldNumber h))) ∙ ap heldOf (kept-
 word-round : (n x : ℕ) → x ≤ 4294967295 → word (kept 4294967295 n x) ≡ x
 word-round n x h = omega (arith, kept-reads 4294967295 n x)
 
+-- any ten numbers
 abbrev pub ten : (a b c d e f g h i k : ℕ) → List ℕ
 ten a b c d e f g h i k = a ∷ b ∷ c ∷ d ∷ e ∷ f ∷ g ∷ h ∷ i ∷ k ∷ []
 

@@ -1,4 +1,5 @@
--- What a turn keeps: it stays within the bounds, loses no byte and adds its notice once. From laws that the layers below export.
+-- What a turn keeps: it stays within the bounds, loses no byte, adds its notice once, and changes neither the serial number nor what is stored (R-11).
+-- From laws that the layers below export.
 use mathlib.Core.Path.{_≡_, refl, sym, ap, _∙_}
 use mathlib.Core.Bool.{Bool, true, false}
 use mathlib.Core.List.{List, [], _++_, append-nil}
