@@ -13,6 +13,9 @@ new-one κs a r q s t h g = h ∙ sym g
 pub is-bounded-one : One calls.Queue.is_bounded.Reads.Post
 is-bounded-one κs a r q s t h g = h ∙ sym g
 
+pub write-record-one : Alike calls.write_record.Reads.Post (λ κs r q s t. s .0 .now ≡ t .0 .now)
+write-record-one κs a r q s t h g = h ∙ sym g
+
 pub put-one : Alike calls.Queue.put.Reads.Post (λ κs r q s t. (r ≡ q) × (s .1 .0 .now ≡ t .1 .0 .now))
 put-one κs a r q s t h g = after-one _ r q _ _ h g
 

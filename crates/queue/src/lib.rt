@@ -1,16 +1,17 @@
-// The bounded notice queue of document 01, in memory that the caller lends: a ring of records of 132 bytes, at most 16.
-// A record is the mark UR, the table number, the payload's length and 128 bytes for the payload, of which those not used stay as they were.
+// The bounded notice queue of document 01, in memory that the caller lends: a ring of records of 1,029 bytes (R-9), at most 16.
+// A record is the mark UX, the table number, the payload's length in two bytes, high byte first, and 1,024 bytes for the payload, of which those not used stay
+// as they were.
 // The queue is a struct by value beside the memory; a refusal changes neither.
 ghost use mathlib.Core.Path.{_≡_};
-ghost use Prim.Native.Nat.{_≤_, _<_};
-ghost use Rattle.queue.specs.Queue.{ours, capacityOf, startIn, inBounds, ringPlace, newQueue, lostOne, after, putInto, outcome, taken, taking};
+ghost use Prim.Native.Nat.{_+_, _≤_, _<_};
+ghost use Rattle.queue.specs.Queue.{ours, capacityOf, startIn, inBounds, ringPlace, newQueue, lostOne, after, recorded, putInto, outcome, lengthAt, taken, taking};
 
 // How long a record is, how much of that its head, how long the longest payload, and how many records there are at most.
-const RECORD: usize = 132;
+pub const RECORD: usize = 1029;
 
-const HEAD: usize = 4;
+const HEAD: usize = 5;
 
-const LONGEST: usize = 128;
+const LONGEST: usize = 1024;
 
 const MOST: usize = 16;
 
@@ -43,7 +44,8 @@ pub enum Taken {
 }
 
 fn wide(b: u8) -> usize
-    ensures { λ r. ⌜ r ≡ b ⌝ }
+    ensures value { λ r. ⌜ r ≡ b ⌝ }
+    ensures below { λ r. ⌜ r < 256 ⌝ }
 {
     b as usize
 }
@@ -81,6 +83,29 @@ fn ring(start: usize, i: usize, cap: usize) -> usize
     n - cap
 }
 
+// Writes a notice as the record at `base`: its head, and the payload behind it; the other bytes stay. A part that doesn't fit changes nothing.
+pub fn write_record(mem: &mut [u8], base: usize, number: u8, p: &[u8])
+    ensures { λ _. ⌜ now (mem .exit) ≡ recorded ours number (now (p .entry)) base (now (mem .entry)) ⌝ }
+{
+    if mem.len() < base {
+        return;
+    }
+    let n = p.len();
+    let head = [b'U', b'X', number, (n / 256 % 256) as u8, (n % 256) as u8];
+    moves::put(mem, base, &head);
+    moves::put(mem, base + HEAD, p);
+}
+
+// The payload's length in the head at `base`.
+fn length_at(mem: &[u8], base: usize) -> usize
+    requires { do ⌜ base + 5 ≤ (← ⟦mem.len()⟧) ⌝ }
+    ensures { λ r. ⌜ r ≡ lengthAt ours (now (mem .entry)) base ⌝ }
+{
+    let high = wide(mem[base + 3]);
+    let low = wide(mem[base + 4]);
+    256 * high + low
+}
+
 impl Queue {
     // An empty queue with nothing lost.
     pub fn new() -> Queue
@@ -115,7 +140,7 @@ impl Queue {
     }
 
     // Puts a notice as the record next after those held, as the ingress delivers it. Refusal 3 where start or count is outside its bounds;
-    // a payload of 0 or over 128 bytes is a lost notice, counted, even when the queue is full; refusal 5 where it is full.
+    // a payload of 0 or over 1,024 bytes is a lost notice, counted, even when the queue is full; refusal 5 where it is full.
     pub fn put(self, mem: &mut [u8], number: u8, p: &[u8]) -> Put
         ensures { λ r. ⌜ after (outcome r) (now (mem .exit)) ≡ putInto ours self number (now (p .entry)) (now (mem .entry)) ⌝ }
     {
@@ -134,9 +159,7 @@ impl Queue {
             return Put::Full;
         }
         let base = RECORD * ring(self.start, self.count, cap);
-        let head = [b'U', b'R', number, n as u8];
-        moves::put(mem, base, &head);
-        moves::put(mem, base + HEAD, p);
+        write_record(mem, base, number, p);
         Put::Is(Queue {
             start: self.start,
             count: self.count + 1,
@@ -157,11 +180,11 @@ impl Queue {
             return Taken::Nothing(self);
         }
         let base = RECORD * self.start;
-        if !text::matches_at(mem, base, b"UR") {
+        if !text::matches_at(mem, base, b"UX") {
             return Taken::Bad;
         }
         let number = mem[base + 2];
-        let len = wide(mem[base + 3]);
+        let len = length_at(mem, base);
         if len == 0 {
             return Taken::Bad;
         }

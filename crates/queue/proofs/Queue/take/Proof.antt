@@ -2,9 +2,10 @@
 use mathlib.Core.Path.{refl, sym, _∙_}
 use lib.ListN.{length}
 use borrow.Author.Tests.{not-true, not-false}
-use Rattle.queue.specs.Laws.{take-bad, take-none, take-unmarked, take-short, take-long, take-is, record-room, bounds-room, bounds-count}
-use borrow.Author.Needs.{needs}
+use Rattle.queue.specs.Queue.{ours}
+use Rattle.queue.specs.Laws.{take-bad, take-none, take-wrong, take-is, good-unmarked, good-short, good-long, good-all, record-room, bounds-room, bounds-count}
 use native.Mathlib.Omega.{arith}
+use borrow.Author.Needs.{needs}
 use Rattle.queue.proofs.Queue.take.Statement.{statement}
 use Rattle.queue.proofs.Queue.take.Tie as tie
 
@@ -18,7 +19,7 @@ returns : tie.Need-returns
 returns c =
     let args = c .before .before .before .before .args in
     let capacity = c .before .before .capacity in
-    take-bad (args .self) (args .mem .now) _ (capacity .ensures) (sym (c .before .is-bounded .ensures) ∙ not-true _ (c .if1 .taken))
+    take-bad ours (args .self) (args .mem .now) _ (capacity .ensures) (sym (c .before .is-bounded .ensures) ∙ not-true _ (c .if1 .taken))
 
 returns-2 : tie.Need-returns-2
 returns-2 c =
@@ -26,7 +27,7 @@ returns-2 c =
     let capacity = c .before .before .before .before .capacity in
     let is-bounded = c .before .before .before .is-bounded in
     let if1 = c .before .before .if1 in
-    take-none (args .self) (args .mem .now) _ (capacity .ensures) (sym (is-bounded .ensures) ∙ not-false _ (if1 .left)) (c .if2 .taken)
+    take-none ours (args .self) (args .mem .now) _ (capacity .ensures) (sym (is-bounded .ensures) ∙ not-false _ (if1 .left)) (c .if2 .taken)
 
 mul-base : tie.Need-mul-base
 mul-base c =
@@ -34,7 +35,7 @@ mul-base c =
     let capacity = c .before .before .before .before .before .capacity in
     let is-bounded = c .before .before .before .before .is-bounded in
     let if1 = c .before .before .before .if1 in
-    record { fits = omega (arith, record-room (args .self) (length (args .mem .now)) _ (capacity .ensures) (sym (is-bounded .ensures) ∙ not-false _ (if1 .left)) (c .before .if2 .left)) }
+    record { fits = omega (arith, record-room ours (args .self) (length (args .mem .now)) _ (capacity .ensures) (sym (is-bounded .ensures) ∙ not-false _ (if1 .left)) (c .before .if2 .left)) }
 
 slice-aggregate-matches-at : tie.Need-slice-aggregate-matches-at
 slice-aggregate-matches-at c = search needs
@@ -49,7 +50,7 @@ returns-3 c =
     let is-bounded = c .before .before .before .before .before .before .before .is-bounded in
     let if1 = c .before .before .before .before .before .before .if1 in
     let if2 = c .before .before .before .before .if2 in
-    take-unmarked (args .self) (args .mem .now) _ (capacity .ensures) (sym (is-bounded .ensures) ∙ not-false _ (if1 .left)) (if2 .left) (sym (c .before .matches-at .ensures) ∙ not-true _ (c .if3 .taken))
+    take-wrong ours (args .self) (args .mem .now) _ (capacity .ensures) (sym (is-bounded .ensures) ∙ not-false _ (if1 .left)) (if2 .left) (good-unmarked ours (args .mem .now) _ (sym (c .before .matches-at .ensures) ∙ not-true _ (c .if3 .taken)))
 
 add-number : tie.Need-add-number
 add-number c =
@@ -58,7 +59,7 @@ add-number c =
     let is-bounded = c .before .before .before .before .before .before .before .is-bounded in
     let if1 = c .before .before .before .before .before .before .if1 in
     let if2 = c .before .before .before .before .if2 in
-    record { fits = omega (arith, record-room (args .self) (length (args .mem .now)) _ (capacity .ensures) (sym (is-bounded .ensures) ∙ not-false _ (if1 .left)) (if2 .left)) }
+    record { fits = omega (arith, record-room ours (args .self) (length (args .mem .now)) _ (capacity .ensures) (sym (is-bounded .ensures) ∙ not-false _ (if1 .left)) (if2 .left)) }
 
 shared-slice-read-number : tie.Need-shared-slice-read-number
 shared-slice-read-number c =
@@ -67,31 +68,30 @@ shared-slice-read-number c =
     let is-bounded = c .before .before .before .before .before .before .before .before .is-bounded in
     let if1 = c .before .before .before .before .before .before .before .if1 in
     let if2 = c .before .before .before .before .before .if2 in
-    omega (arith, record-room (args .self) (length (args .mem .now)) _ (capacity .ensures) (sym (is-bounded .ensures) ∙ not-false _ (if1 .left)) (if2 .left))
+    omega (arith, record-room ours (args .self) (length (args .mem .now)) _ (capacity .ensures) (sym (is-bounded .ensures) ∙ not-false _ (if1 .left)) (if2 .left))
 
-add-wide : tie.Need-add-wide
-add-wide c =
+length-at-requires : tie.Need-length-at-requires
+length-at-requires c κs =
     let args = c .before .before .before .before .before .before .before .before .before .before .before .args in
     let capacity = c .before .before .before .before .before .before .before .before .before .capacity in
     let is-bounded = c .before .before .before .before .before .before .before .before .is-bounded in
     let if1 = c .before .before .before .before .before .before .before .if1 in
     let if2 = c .before .before .before .before .before .if2 in
-    record { fits = omega (arith, record-room (args .self) (length (args .mem .now)) _ (capacity .ensures) (sym (is-bounded .ensures) ∙ not-false _ (if1 .left)) (if2 .left)) }
-
-shared-slice-read-wide : tie.Need-shared-slice-read-wide
-shared-slice-read-wide c =
-    let args = c .before .before .before .before .before .before .before .before .before .before .before .before .args in
-    let capacity = c .before .before .before .before .before .before .before .before .before .before .capacity in
-    let is-bounded = c .before .before .before .before .before .before .before .before .before .is-bounded in
-    let if1 = c .before .before .before .before .before .before .before .before .if1 in
-    let if2 = c .before .before .before .before .before .before .if2 in
-    omega (arith, record-room (args .self) (length (args .mem .now)) _ (capacity .ensures) (sym (is-bounded .ensures) ∙ not-false _ (if1 .left)) (if2 .left))
-
-wide-requires : tie.Need-wide-requires
-wide-requires c κs = search needs
+    omega (arith, record-room ours (args .self) (length (args .mem .now)) _ (capacity .ensures) (sym (is-bounded .ensures) ∙ not-false _ (if1 .left)) (if2 .left))
 
 returns-4 : tie.Need-returns-4
 returns-4 c =
+    let args = c .before .before .before .before .before .before .before .before .before .before .before .before .before .args in
+    let capacity = c .before .before .before .before .before .before .before .before .before .before .before .capacity in
+    let is-bounded = c .before .before .before .before .before .before .before .before .before .before .is-bounded in
+    let if1 = c .before .before .before .before .before .before .before .before .before .if1 in
+    let if2 = c .before .before .before .before .before .before .before .if2 in
+    let matches-at = c .before .before .before .before .matches-at in
+    let if3 = c .before .before .before .if3 in
+    take-wrong ours (args .self) (args .mem .now) _ (capacity .ensures) (sym (is-bounded .ensures) ∙ not-false _ (if1 .left)) (if2 .left) (good-short ours (args .mem .now) _ (sym (matches-at .ensures) ∙ not-false _ (if3 .left)) _ (c .before .length-at .ensures) (c .if4 .taken))
+
+returns-5 : tie.Need-returns-5
+returns-5 c =
     let args = c .before .before .before .before .before .before .before .before .before .before .before .before .before .before .args in
     let capacity = c .before .before .before .before .before .before .before .before .before .before .before .before .capacity in
     let is-bounded = c .before .before .before .before .before .before .before .before .before .before .before .is-bounded in
@@ -99,54 +99,42 @@ returns-4 c =
     let if2 = c .before .before .before .before .before .before .before .before .if2 in
     let matches-at = c .before .before .before .before .before .matches-at in
     let if3 = c .before .before .before .before .if3 in
-    take-short (args .self) (args .mem .now) _ (capacity .ensures) (sym (is-bounded .ensures) ∙ not-false _ (if1 .left)) (if2 .left) (sym (matches-at .ensures) ∙ not-false _ (if3 .left)) _ (c .before .wide .ensures) (c .if4 .taken)
-
-returns-5 : tie.Need-returns-5
-returns-5 c =
-    let args = c .before .before .before .before .before .before .before .before .before .before .before .before .before .before .before .args in
-    let capacity = c .before .before .before .before .before .before .before .before .before .before .before .before .before .capacity in
-    let is-bounded = c .before .before .before .before .before .before .before .before .before .before .before .before .is-bounded in
-    let if1 = c .before .before .before .before .before .before .before .before .before .before .before .if1 in
-    let if2 = c .before .before .before .before .before .before .before .before .before .if2 in
-    let matches-at = c .before .before .before .before .before .before .matches-at in
-    let if3 = c .before .before .before .before .before .if3 in
-    let wide = c .before .before .wide in
-    take-long (args .self) (args .mem .now) _ (capacity .ensures) (sym (is-bounded .ensures) ∙ not-false _ (if1 .left)) (if2 .left) (sym (matches-at .ensures) ∙ not-false _ (if3 .left)) _ (wide .ensures) (c .if5 .taken)
+    let length-at = c .before .before .length-at in
+    take-wrong ours (args .self) (args .mem .now) _ (capacity .ensures) (sym (is-bounded .ensures) ∙ not-false _ (if1 .left)) (if2 .left) (good-long ours (args .mem .now) _ (sym (matches-at .ensures) ∙ not-false _ (if3 .left)) _ (length-at .ensures) (c .before .if4 .left) (c .if5 .taken))
 
 ring-requires : tie.Need-ring-requires
 ring-requires c κs =
-    let args = c .before .before .before .before .before .before .before .before .before .before .before .before .before .before .before .args in
-    let capacity = c .before .before .before .before .before .before .before .before .before .before .before .before .before .capacity in
-    let is-bounded = c .before .before .before .before .before .before .before .before .before .before .before .before .is-bounded in
-    let if1 = c .before .before .before .before .before .before .before .before .before .before .before .if1 in
-    (let k = bounds-count _ (args .self) (sym (is-bounded .ensures) ∙ not-false _ (if1 .left)) in
-    let w = bounds-room _ (args .self) (sym (is-bounded .ensures) ∙ not-false _ (if1 .left)) (omega arith) in (w .0, (omega arith, omega (arith, capacity .ensures))))
+    let args = c .before .before .before .before .before .before .before .before .before .before .before .before .before .before .args in
+    let capacity = c .before .before .before .before .before .before .before .before .before .before .before .before .capacity in
+    let is-bounded = c .before .before .before .before .before .before .before .before .before .before .before .is-bounded in
+    let if1 = c .before .before .before .before .before .before .before .before .before .before .if1 in
+    (let k = bounds-count _ (args .self) (sym (is-bounded .ensures) ∙ not-false _ (if1 .left)) in let w = bounds-room _ (args .self) (sym (is-bounded .ensures) ∙ not-false _ (if1 .left)) (omega arith) in (w .0, (omega arith, omega (arith, capacity .ensures))))
 
-sub-t18 : tie.Need-sub-t18
-sub-t18 c = search needs
+sub-t17 : tie.Need-sub-t17
+sub-t17 c = search needs
 
 add-t10 : tie.Need-add-t10
 add-t10 c =
-    let args = c .before .before .before .before .before .before .before .before .before .before .before .before .before .before .before .before .before .args in
-    let capacity = c .before .before .before .before .before .before .before .before .before .before .before .before .before .before .before .capacity in
-    let is-bounded = c .before .before .before .before .before .before .before .before .before .before .before .before .before .before .is-bounded in
-    let if1 = c .before .before .before .before .before .before .before .before .before .before .before .before .before .if1 in
-    let if2 = c .before .before .before .before .before .before .before .before .before .before .before .if2 in
-    record { fits = omega (arith, record-room (args .self) (length (args .mem .now)) _ (capacity .ensures) (sym (is-bounded .ensures) ∙ not-false _ (if1 .left)) (if2 .left)) }
+    let args = c .before .before .before .before .before .before .before .before .before .before .before .before .before .before .before .before .args in
+    let capacity = c .before .before .before .before .before .before .before .before .before .before .before .before .before .before .capacity in
+    let is-bounded = c .before .before .before .before .before .before .before .before .before .before .before .before .before .is-bounded in
+    let if1 = c .before .before .before .before .before .before .before .before .before .before .before .before .if1 in
+    let if2 = c .before .before .before .before .before .before .before .before .before .before .if2 in
+    record { fits = omega (arith, record-room ours (args .self) (length (args .mem .now)) _ (capacity .ensures) (sym (is-bounded .ensures) ∙ not-false _ (if1 .left)) (if2 .left)) }
 
 returns-6 : tie.Need-returns-6
 returns-6 c =
-    let args = c .before .before .before .before .before .before .before .before .before .before .before .before .before .before .before .before .before .args in
-    let capacity = c .before .before .before .before .before .before .before .before .before .before .before .before .before .before .before .capacity in
-    let is-bounded = c .before .before .before .before .before .before .before .before .before .before .before .before .before .before .is-bounded in
-    let if1 = c .before .before .before .before .before .before .before .before .before .before .before .before .before .if1 in
-    let if2 = c .before .before .before .before .before .before .before .before .before .before .before .if2 in
-    let matches-at = c .before .before .before .before .before .before .before .before .matches-at in
-    let if3 = c .before .before .before .before .before .before .before .if3 in
-    let wide = c .before .before .before .before .wide in
+    let args = c .before .before .before .before .before .before .before .before .before .before .before .before .before .before .before .before .args in
+    let capacity = c .before .before .before .before .before .before .before .before .before .before .before .before .before .before .capacity in
+    let is-bounded = c .before .before .before .before .before .before .before .before .before .before .before .before .before .is-bounded in
+    let if1 = c .before .before .before .before .before .before .before .before .before .before .before .before .if1 in
+    let if2 = c .before .before .before .before .before .before .before .before .before .before .if2 in
+    let matches-at = c .before .before .before .before .before .before .before .matches-at in
+    let if3 = c .before .before .before .before .before .before .if3 in
+    let length-at = c .before .before .before .before .length-at in
     let if4 = c .before .before .before .if4 in
     let if5 = c .before .before .if5 in
-    take-is (args .self) (args .mem .now) _ (capacity .ensures) (sym (is-bounded .ensures) ∙ not-false _ (if1 .left)) (if2 .left) (sym (matches-at .ensures) ∙ not-false _ (if3 .left)) _ (wide .ensures) (if4 .left) (if5 .left) _ (c .before .ring .ensures) _ refl
+    take-is ours (args .self) (args .mem .now) _ (capacity .ensures) (sym (is-bounded .ensures) ∙ not-false _ (if1 .left)) (if2 .left) (good-all ours (args .mem .now) _ (sym (matches-at .ensures) ∙ not-false _ (if3 .left)) _ (length-at .ensures) (if4 .left) (if5 .left)) _ (c .before .ring .ensures) _ refl _ (length-at .ensures)
 
 pub take-spec : {M : Type 1} → statement M
 take-spec =
@@ -162,12 +150,10 @@ take-spec =
     returns-3
     add-number
     shared-slice-read-number
-    add-wide
-    shared-slice-read-wide
-    wide-requires
+    length-at-requires
     returns-4
     returns-5
     ring-requires
-    sub-t18
+    sub-t17
     add-t10
     returns-6)
