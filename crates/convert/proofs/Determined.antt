@@ -1,0 +1,8 @@
+-- Any two results that a contract of this crate allows are equal, every byte of the new memory too.
+use mathlib.Core.Path.{_≡_}
+use Rattle.outcome.specs.One.{Alike}
+use Rattle.convert.specs.Laws.{after-one}
+use Rattle.convert.proofs as calls
+
+pub convert-one : Alike calls.convert.Reads.Post (λ κs r q s t. (r ≡ q) × (s .1 .1 .0 .now ≡ t .1 .1 .0 .now))
+convert-one κs a r q s t h g = after-one _ r q _ _ h g

@@ -1,0 +1,158 @@
+-- What a conversion keeps, over any two sound geometries: what waits in the new queue is what waited in the old one, same notices, same order; and each byte of the
+-- new memory outside a written head or payload is as it was.
+use mathlib.Core.Path.{_≡_, refl, sym, ap, _∙_}
+use mathlib.Core.Logic.{⊎-elim, inl, inr}
+use mathlib.Core.Bool.{true, false, _&&_, not}
+use mathlib.Core.List.{List, [], _∷_}
+use Prim.Native.Nat.{ℕ, zero, suc, _+_, _*_, _≤_, _<_}
+use native.Mathlib.Nat.{mul-suc, mul-zero, zero-add, le-refl}
+use native.Mathlib.Omega.{arith}
+use lib.ListN.{length, getD, take, drop, length-take}
+use lib.Seq.{getD-take, getD-drop}
+use lib.Dec.{leb, ltb}
+use borrow.Author.Tests.{le-leb, lt-ltb, ltb-false, not-false}
+use Rattle.text.specs.Logic.{and-both}
+use Rattle.outcome.specs.Outcome.{answered, refused}
+use Rattle.outcome.specs.Laws.{ways}
+use Rattle.queue.specs.Queue.{Geometry, Sound, capacityOf, startIn, inBounds, ringPlace, recorded, lengthAt, recordGood, After, after, Arrival, recordBytes, arrivalOf, heldFrom, waiting}
+use Rattle.queue.specs.Laws.{start-some, bounds-room, bounds-count, ring-near, ring-below, record-in}
+use Rattle.queue.specs.Waiting.{good-length, arrival-is, recorded-length, recorded-elsewhere, recorded-new}
+use Rattle.queue.specs.declared.Queue.{Queue}
+use Rattle.convert.specs.Convert.{heldGood, laid, converted, Outside}
+
+-- 0 is a start of any ring
+first-in : (cap : ℕ) → startIn cap 0 ≡ true
+unfolding startIn
+first-in zero = refl
+first-in (suc c) = lt-ltb 0 (suc c) (omega arith)
+
+-- each payload has at most n bytes
+abbrev Short : ℕ → List Arrival → Type 0
+Short n [] = Unit {0}
+Short n (a ∷ l) = (length (a .payload) ≤ n) × Short n l
+
+short-up : (n k : ℕ) → n ≤ k → (l : List Arrival) → Short n l → Short k l
+short-up n k h [] s = tt
+short-up n k h (a ∷ l) s = (omega (arith, s .0), short-up n k h l (s .1))
+
+-- Records laid one behind the other.
+module _ (g : Geometry) (sound : Sound g) where
+  laid-length : (l : List Arrival) (base : ℕ) (m : List ℕ) → length (laid g base l m) ≡ length m
+  unfolding laid
+  laid-length [] base m = refl
+  laid-length (a ∷ l) base m = laid-length l (base + g .size) (recorded g (a .number) (a .payload) base m) ∙ recorded-length g sound (a .number) (a .payload) base m
+
+  laid-before : (l : List Arrival) (base : ℕ) (m : List ℕ) (i n : ℕ) → i + n ≤ base → take n (drop i (laid g base l m)) ≡ take n (drop i m)
+  unfolding laid
+  laid-before [] base m i n h = refl
+  laid-before (a ∷ l) base m i n h = laid-before l (base + g .size) (recorded g (a .number) (a .payload) base m) i n (omega arith) ∙ recorded-elsewhere g sound (a .number) (a .payload) base m i n (inl h)
+
+  laid-outside : (l : List Arrival) (base : ℕ) (m : List ℕ) (i : ℕ) → Outside g base l i → getD (laid g base l m) i 0 ≡ getD m i 0
+  unfolding laid
+  laid-outside [] base m i o = refl
+  laid-outside (a ∷ l) base m i o =
+      let d : List ℕ = recorded g (a .number) (a .payload) base m in
+      let byte : (s : List ℕ) → getD (take 1 (drop i s)) 0 0 ≡ getD s i 0 = λ s. getD-take 1 (drop i s) 0 0 (omega arith) ∙ getD-drop i s 0 0 ∙ ap (λ (n : ℕ). getD s n 0) (omega arith) in
+      laid-outside l (base + g .size) d i (o .1)
+      ∙ sym (byte d)
+      ∙ ap (λ (s : List ℕ). getD s 0 0) (recorded-elsewhere g sound (a .number) (a .payload) base m i 1 (⊎-elim (λ (q : i < base). inl (omega arith)) (λ (q : base + (g .head + length (a .payload)) ≤ i). inr q) (o .0)))
+      ∙ byte m
+
+  -- are read back
+  laid-held : (l : List Arrival) (j cap : ℕ) (m : List ℕ) → cap ≡ capacityOf g (length m) → j + length l ≤ cap → Short (g .longest) l → heldFrom g (laid g (g .size * j) l m) cap 0 j (length l) ≡ l
+  unfolding laid heldFrom
+  laid-held [] j cap m c h s = refl
+  laid-held (a ∷ l) j cap m c h s =
+      let d : List ℕ = recorded g (a .number) (a .payload) (g .size * j) m in
+      let e : g .size * suc j ≡ g .size * j + g .size = mul-suc (g .size) j in
+      let near : ringPlace 0 j cap ≡ j = sym (ring-near 0 j cap (omega arith)) ∙ zero-add j in
+      let room = record-in g (length m) j (rw (sym c) (omega arith)) in
+      let here : arrivalOf g (recordBytes g (laid g (g .size * j + g .size) l d) j) ≡ a = ap (arrivalOf g) (laid-before l (g .size * j + g .size) d (g .size * j) (g .size) (le-refl (g .size * j + g .size))) ∙ recorded-new g sound (a .number) (a .payload) j m room (s .0) in
+      let rest : heldFrom g (laid g (g .size * suc j) l d) cap 0 (suc j) (length l) ≡ l = laid-held l (suc j) cap d (c ∙ ap (capacityOf g) (sym (recorded-length g sound (a .number) (a .payload) (g .size * j) m))) (omega arith) (s .1) in
+      (λ i. arrivalOf g (recordBytes g (laid g (g .size * j + g .size) l d) (near i)) ∷ heldFrom g (laid g (sym e i) l d) cap 0 (suc j) (length l))
+      ∙ (λ i. here i ∷ rest i)
+
+-- What a ring holds: so many notices, and where each record is good, none too long.
+module _ (g : Geometry) (m : List ℕ) (start : ℕ) where
+  held-length : (cap i n : ℕ) → length (heldFrom g m cap start i n) ≡ n
+  unfolding heldFrom
+  held-length cap i zero = refl
+  held-length cap i (suc n) = ap suc (held-length cap (suc i) n)
+
+  held-short : Sound g → (cap i n : ℕ) → cap ≡ capacityOf g (length m) → (0 < n → start < cap) → i + n ≤ cap → heldGood g m cap start i n ≡ true → Short (g .longest) (heldFrom g m cap start i n)
+  unfolding heldFrom heldGood
+  held-short sound cap i zero c s h e = tt
+  held-short sound cap i (suc n) c s h e =
+      let place = ringPlace start i cap in
+      let w = and-both (recordGood g m (g .size * place)) (heldGood g m cap start (suc i) n) e in
+      let l = good-length g m (g .size * place) (w .0) in
+      let a = arrival-is g sound m place (record-in g (length m) place (rw (sym c) (ring-below start i cap (s (omega arith)) (omega arith)))) l in
+      let u = ap (λ (y : Arrival). length (y .payload)) a in
+      (omega (arith, u, l, length-take (lengthAt g m (g .size * place)) (drop (g .size * place + g .head) m)), held-short sound cap (suc i) n c (λ q. s (omega arith)) (omega arith) (w .1))
+
+module _ (old new : Geometry) (from : Sound old) (to : Sound new) (longer : old .longest ≤ new .longest) (x : Queue) (m k : List ℕ) where
+  -- a refused conversion leaves every byte
+  pub convert-stuck : (n : ℕ) (v d : List ℕ) → after (refused n v) d ≡ converted old new x m k → d ≡ k
+  unfolding converted
+  convert-stuck n v d =
+      let cap = capacityOf old (length m) in
+      let P : After → Type 0 = λ w. after (refused n v) d ≡ w → d ≡ k in
+      ways P (not (inBounds cap x && heldGood old m cap (x .start) 0 (x .count)))
+      (λ f e. ap (λ (w : After). w .memory) e)
+      (λ f.
+      ways P (ltb (capacityOf new (length k)) (x .count))
+      (λ h e. ap (λ (w : After). w .memory) e)
+      (λ h e. let o = ap (λ (w : After). w .said) e in let z : _≡_ {A = ℕ} 0 1 = cc in absurd (omega arith)))
+
+  module _ (y : Queue) (d : List ℕ) (e : after (answered y) d ≡ converted old new x m k) where
+    -- an answered one met no refusal, and laid the notices that waited
+    record Laid : Type 0 where
+      pub bounds : inBounds (capacityOf old (length m)) x ≡ true
+      pub good : heldGood old m (capacityOf old (length m)) (x .start) 0 (x .count) ≡ true
+      pub room : x .count ≤ capacityOf new (length k)
+      pub queue : y ≡ record { start = 0; count = x .count; lost = x .lost }
+      pub memory : d ≡ laid new 0 (waiting old x m) k
+
+    convert-answers : Laid
+    unfolding converted
+    convert-answers =
+        let cap = capacityOf old (length m) in
+        let P : After → Type 0 = λ w. after (answered y) d ≡ w → Laid in
+        ways P (not (inBounds cap x && heldGood old m cap (x .start) 0 (x .count)))
+        (λ f o. let q = ap (λ (w : After). w .said) o in let z : _≡_ {A = ℕ} 0 1 = cc in absurd (omega arith))
+        (λ f.
+        ways P (ltb (capacityOf new (length k)) (x .count))
+        (λ h o. let q = ap (λ (w : After). w .said) o in let z : _≡_ {A = ℕ} 0 1 = cc in absurd (omega arith))
+        (λ h o.
+        let q = ap (λ (w : After). w .said) o in
+        let b = and-both (inBounds cap x) (heldGood old m cap (x .start) 0 (x .count)) (not-false _ f) in
+        record { bounds = b .0; good = b .1; room = ltb-false (capacityOf new (length k)) (x .count) h; queue = cc; memory = ap (λ (w : After). w .memory) o }))
+        e
+
+    -- the new memory is as long as it was, and the new queue within its bounds
+    pub convert-kept : (length d ≡ length k) × (inBounds (capacityOf new (length d)) y ≡ true)
+    unfolding inBounds
+    convert-kept =
+        let w = convert-answers in
+        let l : length d ≡ length k = ap length (w .memory) ∙ laid-length new to (waiting old x m) 0 k in
+        let cap = capacityOf new (length k) in
+        (l, (λ i. inBounds (capacityOf new (l i)) (w .queue i)) ∙ rw (first-in cap, le-leb (x .count) cap (w .room)))
+
+    -- what waits in the new queue is what waited in the old one
+    pub convert-waits : waiting new y d ≡ waiting old x m
+    unfolding waiting
+    convert-waits =
+        let w = convert-answers in
+        let cap = capacityOf old (length m) in
+        let l : List Arrival = heldFrom old m cap (x .start) 0 (x .count) in
+        let n : length l ≡ x .count = held-length old m (x .start) cap 0 (x .count) in
+        let c = bounds-count cap x (w .bounds) in
+        let s = held-short old m (x .start) from cap 0 (x .count) refl (λ q. bounds-room cap x (w .bounds) (omega arith) .0) (omega arith) (w .good) in
+        ap (λ (q : Queue). heldFrom new d (capacityOf new (length d)) (q .start) 0 (q .count)) (w .queue)
+        ∙ (λ i. heldFrom new (w .memory i) (capacityOf new (convert-kept .0 i)) 0 0 (sym n i))
+        ∙ ap (λ (b : ℕ). heldFrom new (laid new b l k) (capacityOf new (length k)) 0 0 (length l)) (sym (mul-zero (new .size)))
+        ∙ laid-held new to l 0 (capacityOf new (length k)) k refl (omega (arith, n, w .room)) (short-up (old .longest) (new .longest) longer l s)
+
+    -- each byte of the new memory outside a written head or payload is as it was
+    pub convert-frame : (i : ℕ) → Outside new 0 (waiting old x m) i → getD d i 0 ≡ getD k i 0
+    convert-frame i o = ap (λ (s : List ℕ). getD s i 0) (convert-answers .memory) ∙ laid-outside new to (waiting old x m) 0 k i o
