@@ -14,6 +14,7 @@ use Rattle.outcome.specs.Laws.{ways, same-way}
 use Rattle.answers.specs.Answer.{isNotice}
 use Rattle.answers.specs.declared.Answer.{Answer}
 use Rattle.queue.specs.Queue.{ours, Arrival, adds}
+use Rattle.queue.specs.Laws.{ours-sound}
 use Rattle.queue.specs.Waiting.{take-waits}
 use Rattle.selector.specs.Selector.{Choice}
 use Rattle.turn.specs.Turn.{withQueue, isRefused, World, withState, held, says, Quiet, payloadOf, delivering, Step, went, stuck, once}
@@ -92,7 +93,7 @@ story-notices c (consumed x ∷ l) w v s =
 story-notices c (dropped b ∷ l) w v s = story-notices c l (s .at) v (s .rest) ∙ ap (λ (y : World). waitingIn y ++ flat deliveredBy l) (s .first .1)
 story-notices c (handed a ∷ l) w v s =
     let h = s .first in
-    let q = take-waits (w .state .queue) (h .queue) (h .notice) (w .queueMemory) (h .takes) in
+    let q = take-waits ours ours-sound (w .state .queue) (h .queue) (h .notice) (w .queueMemory) (h .takes) in
     ap (λ (y : List Arrival). a ∷ y) (story-notices c l (s .at) v (s .rest) ∙ ap (λ (y : World). waitingIn y ++ flat deliveredBy l) (h .left))
     ∙ ap (λ (y : Arrival). y ∷ (waitingIn (withState w (withQueue (w .state) (h .queue))) ++ flat deliveredBy l)) (h .is)
     ∙ ap (λ (y : List Arrival). y ++ flat deliveredBy l) (sym q)

@@ -31,7 +31,7 @@ pub data Event : Type 0 where
   handed : Arrival → Event
   freed : ℕ → Event
 
--- The notice that a turn delivers, where it is one of 1 to 128 bytes: that of its own stretch.
+-- The notice that a turn delivers, where it is one of 1 to 1,024 bytes (R-9): that of its own stretch.
 abbrev pub noticeOf : Stretch → List Arrival
 noticeOf x = if isNotice (x .answer .kind) then adds ours (x .answer .number) (payloadOf (x .bytes) (x .answer)) else []
 
@@ -141,12 +141,12 @@ pub record Over (c : Choice) (w : World) (b : List ℕ) (v : World) : Type 0 whe
   pub came : flat cameBy events ≡ b
   pub bytes : held w ++ b ≡ flat wentBy events ++ held v
 
--- Refusal 5: no lower refusal meets the state, what the digester finds in the buffer is a notice of 1 to 128 bytes, and the queue is full.
+-- Refusal 5: no lower refusal meets the state, what the digester finds in the buffer is a notice of 1 to 1,024 bytes (R-9), and the queue is full.
 pub record Waits (c : Choice) (w : World) : Type 0 where
   pub passed : Passed c w
   pub notice : isNotice (says c w .kind) ≡ true
   pub some : 1 ≤ length (payloadOf (held w) (says c w))
-  pub most : length (payloadOf (held w) (says c w)) ≤ 128
+  pub most : length (payloadOf (held w) (says c w)) ≤ ours .longest
   pub full : capacityOf ours (length (w .queueMemory)) ≤ w .state .queue .count
 
 -- Are bytes taken? Where the call isn't refused, and at refusal 5.

@@ -16,6 +16,7 @@ use Rattle.slot.specs.Slot.{wasReset}
 use Rattle.slot.specs.declared.Slot.{Slot}
 use Rattle.queue.specs.Queue.{ours, longer, taken, Got, got, empty, Arrival, adds}
 use Rattle.queue.specs.Queue as queues
+use Rattle.queue.specs.Laws.{ours-sound}
 use Rattle.queue.specs.Waiting.{put-room, take-kept, take-empty, adds-one}
 use Rattle.queue.specs.declared.Put.the-variants as puts
 use Rattle.queue.specs.declared.Queue.{Queue}
@@ -90,7 +91,7 @@ did-take c w (answered (got q n)) e =
       came = refl;
       out = refl;
     }
-did-take c w (answered (empty q)) e = did-nothing c w (withState w (withQueue (w .state) q)) (ap (λ (x : Queue). withState w (withQueue (w .state) x)) (take-empty (w .state .queue) q (w .queueMemory) e))
+did-take c w (answered (empty q)) e = did-nothing c w (withState w (withQueue (w .state) q)) (ap (λ (x : Queue). withState w (withQueue (w .state) x)) (take-empty ours ours-sound (w .state .queue) q (w .queueMemory) e))
 did-take c w (refused n v) e = did-nothing c w w refl
 
 did-reset : (c : Choice) (w : World) (n : ℕ) (o : Outcome Slot) → o ≡ wasReset (w .state .slot) n (w .slotMemory) → Did c w [] [] (afterReset w o)
@@ -144,25 +145,25 @@ module _ (c : Choice) (w : World) (z : Waits c w) (q : Queue) (n : Notice) (e : 
   room-good : Good c with-room
   room-good =
       let g = passed c w (z .passed) in
-      let k = take-kept (w .state .queue) q n (w .queueMemory) e in
+      let k = take-kept ours ours-sound (w .state .queue) q n (w .queueMemory) e in
       record { long = g .long; records = g .records; ruled = g .ruled; inside = g .inside; slotFits = g .slotFits; queueFits = k .0 }
 
   -- the queue doesn't matter to what is said
   room-says : says c with-room ≡ says c w
   room-says = says-same c with-room w refl
 
-  room-waits : Waits c w → (isNotice (says c with-room .kind) ≡ true) × ((1 ≤ length (payloadOf (held w) (says c with-room))) × (length (payloadOf (held w) (says c with-room)) ≤ 128))
+  room-waits : Waits c w → (isNotice (says c with-room .kind) ≡ true) × ((1 ≤ length (payloadOf (held w) (says c with-room))) × (length (payloadOf (held w) (says c with-room)) ≤ ours .longest))
   room-waits y = rw room-says (y .notice, (y .some, y .most))
 
   room-goes : delivering c with-room .waits ≡ false
   room-goes =
-      let k = take-kept (w .state .queue) q n (w .queueMemory) e in
+      let k = take-kept ours ours-sound (w .state .queue) q n (w .queueMemory) e in
       let a = says c with-room in
       let p = payloadOf (held w) a in
       let y = room-waits z in
       sym
       (ap (λ (d : Delivery). d .waits)
-      (to-queue (with-room .state) a p (w .slotMemory) (w .queueMemory) (y .0) (puts.Is (longer q)) (queues.written ours q (a .number) p (w .queueMemory)) (put-room q (a .number) p (w .queueMemory) (k .0) (k .1) (y .1 .0) (y .1 .1)) (puts.Is (longer q)) refl
+      (to-queue (with-room .state) a p (w .slotMemory) (w .queueMemory) (y .0) (puts.Is (longer q)) (queues.written ours q (a .number) p (w .queueMemory)) (put-room ours ours-sound q (a .number) p (w .queueMemory) (k .0) (k .1) (y .1 .0) (y .1 .1)) (puts.Is (longer q)) refl
       ∙ ap (λ (x : List ℕ). deliver (with-room .state) a x (w .slotMemory) (w .queueMemory)) (sym (notice-carries (held w) a (y .0)))))
 
   room-found : 1 ≤ says c with-room .consumed
@@ -191,6 +192,6 @@ module _ (c : Choice) (w : World) (z : Waits c w) (q : Queue) (n : Notice) (e : 
         notice =
             ap (λ (b : Bool). if b then adds ours (a .number) (payloadOf (stretchOf c with-room .bytes) a) else []) (y .0)
             ∙ ap (λ (x : List ℕ). adds ours (a .number) x) (sym p)
-            ∙ adds-one (a .number) (payloadOf (held w) a) (y .1 .0) (y .1 .1)
+            ∙ adds-one ours (a .number) (payloadOf (held w) a) (y .1 .0) (y .1 .1)
             ∙ ap (λ (x : Answer). record { number = x .number; payload = payloadOf (held w) x } ∷ []) room-says;
       }

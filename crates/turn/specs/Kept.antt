@@ -20,6 +20,7 @@ use Rattle.slot.specs.Laws.{Leaves, leaves-same, signal-none, signal-kept, sign
 use Rattle.slot.specs.declared.Slot.{Slot}
 use Rattle.queue.specs.Queue.{ours, putInto, capacityOf, inBounds, waiting, adds}
 use Rattle.queue.specs.Queue as queues
+use Rattle.queue.specs.Laws.{ours-sound}
 use Rattle.queue.specs.Waiting.{put-waits, put-kept, put-stuck, put-full-only}
 use Rattle.queue.specs.declared.Queue.{Queue}
 use Rattle.selector.specs.Selector.{Trusted, Choice}
@@ -39,8 +40,8 @@ pub record Delivers (s : State) (m n : List ℕ) (adding : List queues.Arrival) 
 module _ (s : State) (a : Answer) (p m n : List ℕ) (f : s .slot .len ≤ length m) (g : inBounds (capacityOf ours (length n)) (s .queue) ≡ true) where
   queue-delivers : (o : Outcome Queue) (k : List ℕ) → queues.after o k ≡ putInto ours (s .queue) (a .number) p n → isRefused o ≡ false → Delivers s m n (adds ours (a .number) p) (toQueue s m (queues.after o k))
   queue-delivers (answered y) k e r =
-      let w = put-kept (s .queue) (a .number) p n y k e in
-      record { slotLong = refl; slotFits = f; queueLong = w .0; queueFits = w .1; notices = put-waits (s .queue) (a .number) p n y k e }
+      let w = put-kept ours ours-sound (s .queue) (a .number) p n y k e in
+      record { slotLong = refl; slotFits = f; queueLong = w .0; queueFits = w .1; notices = put-waits ours ours-sound (s .queue) (a .number) p n y k e }
   queue-delivers (refused j v) k e r = absurd (false-true refl r)
 
   slot-delivers : (o : Outcome Slot) (k : List ℕ) → slots.after o k ≡ signalled (s .slot) a p m → isRefused o ≡ false → Delivers s m n [] (toSlot s n (slots.after o k))
@@ -57,14 +58,14 @@ module _ (s : State) (a : Answer) (p m n : List ℕ) (f : s .slot .len ≤ lengt
       go true = queue-delivers (putInto ours (s .queue) (a .number) p n .said) (putInto ours (s .queue) (a .number) p n .memory) refl
       go false = slot-delivers (signalled (s .slot) a p m .said) (signalled (s .slot) a p m .memory) refl
 
-  -- One that waits is a notice of 1 to 128 bytes at a full queue, and leaves every byte.
+  -- One that waits is a notice of 1 to 1,024 bytes (R-9) at a full queue, and leaves every byte.
   abbrev Waited : Bool → Delivery → Type 0
-  Waited b d = (b ≡ true) × ((capacityOf ours (length n) ≤ s .queue .count) × ((1 ≤ length p) × (length p ≤ 128))) × ((d .slotMemory ≡ m) × (d .queueMemory ≡ n))
+  Waited b d = (b ≡ true) × ((capacityOf ours (length n) ≤ s .queue .count) × ((1 ≤ length p) × (length p ≤ ours .longest))) × ((d .slotMemory ≡ m) × (d .queueMemory ≡ n))
 
   queue-waited : (o : Outcome Queue) (k : List ℕ) → queues.after o k ≡ putInto ours (s .queue) (a .number) p n → isRefused o ≡ true → Waited true (toQueue s m (queues.after o k))
   queue-waited (answered y) k e r = absurd (false-true r refl)
   queue-waited (refused j v) k e r =
-      (refl, put-full-only (s .queue) (a .number) p n j v k g e, (refl, put-stuck (s .queue) (a .number) p n j v k e))
+      (refl, put-full-only ours ours-sound (s .queue) (a .number) p n j v k g e, (refl, put-stuck ours ours-sound (s .queue) (a .number) p n j v k e))
 
   slot-waited : (o : Outcome Slot) (k : List ℕ) → slots.after o k ≡ signalled (s .slot) a p m → isRefused o ≡ true → Waited false (toSlot s n (slots.after o k))
   slot-waited (answered y) k e r = absurd (false-true r refl)
@@ -145,9 +146,9 @@ module _ (c : Choice) (w : World) (g : Good c w) where
         sym (take-append-drop (says c w .consumed) (held w))
         ∙ ap (λ (x : List ℕ). take (says c w .consumed) (held w) ++ x) (sym (moved-held (w .buf) (says c w .consumed) (length (held w)) (says-within c w) (omega (arith, ends-there, g .inside)) ∙ ap (λ (x : List ℕ). drop (says c w .consumed) x) m))
 
-  -- one that waits leaves everything, and its notice has 1 to 128 bytes and meets a full queue
+  -- one that waits leaves everything, and its notice has 1 to 1,024 bytes and meets a full queue
   module _ (r : delivering c w .waits ≡ true) where
-    pub waits-full : (isNotice (says c w .kind) ≡ true) × ((capacityOf ours (length (w .queueMemory)) ≤ w .state .queue .count) × ((1 ≤ length (payloadOf (held w) (says c w))) × (length (payloadOf (held w) (says c w)) ≤ 128))) × ((delivering c w .slotMemory ≡ w .slotMemory) × (delivering c w .queueMemory ≡ w .queueMemory))
+    pub waits-full : (isNotice (says c w .kind) ≡ true) × ((capacityOf ours (length (w .queueMemory)) ≤ w .state .queue .count) × ((1 ≤ length (payloadOf (held w) (says c w))) × (length (payloadOf (held w) (says c w)) ≤ ours .longest))) × ((delivering c w .slotMemory ≡ w .slotMemory) × (delivering c w .queueMemory ≡ w .queueMemory))
     waits-full =
         let v = waited (w .state) (says c w) (carriedOf (held w) (says c w)) (w .slotMemory) (w .queueMemory) (g .slotFits) (g .queueFits) r in
         (v .0, rw (notice-carries (held w) (says c w) (v .0)) at (v .1), v .2)
