@@ -1,3 +1,4 @@
 mod Determined
 mod Codes
 mod Serials
+mod Restart

@@ -1,4 +1,4 @@
--- A client's calls under one table, each starting from the state and memories that the last one left; and what can be told of them: the winter's fault, shut out, and the serial number (R-11).
+-- A client's calls under one table, each starting from the state and memories that the last one left; and what can be told of them: the winter's fault, shut out, over a restart too (R-9), and the serial number (R-11).
 use mathlib.Core.Path.{_≡_}
 use mathlib.Core.Bool.{true, false}
 use mathlib.Core.List.{List, [], _∷_, _++_, map}
@@ -9,7 +9,7 @@ use Rattle.moves.specs.Moves.{put}
 use Rattle.outcome.specs.Outcome.{Outcome, answered, refused, if_then_else_}
 use Rattle.slot.specs.Slot.{wasReset, wasRead, Stands}
 use Rattle.slot.specs.declared.Slot.{Slot}
-use Rattle.queue.specs.Queue.{ours, taken, Got, got, empty, Arrival}
+use Rattle.queue.specs.Queue.{ours, older, taken, Got, got, empty, Arrival, waiting}
 use Rattle.queue.specs.declared.Queue.{Queue}
 use Rattle.selector.specs.Selector.{Choice}
 use Rattle.turn.specs.Turn.{withSlot, withQueue, World, world, withState, held, says, payloadOf}
@@ -97,6 +97,18 @@ pub record GoesOn (c : Choice) (w : World) (q : Queue) : Type 0 where
   pub rest : List Stretch
   pub story : Story c (withState w (withQueue (w .state) q)) (consumed first ∷ map consumed rest) (advanced c 0 (withState w (withQueue (w .state) q)) .left)
   pub notice : noticeOf first ≡ record { number = says c w .number; payload = payloadOf (held w) (says c w) } ∷ []
+
+-- R-9: a gateway restarts with the numbers and memories that it kept, but for the queue: that is the converted one, in its own memory.
+abbrev pub restarted : World → Queue → List ℕ → World
+restarted w q m = world (withQueue (w .state) q) (w .buf) (w .slotMemory) m
+
+-- A gateway kept w, with its queue in the old form, converted that and goes on from v.
+-- `told`: from there on every byte is in one of the three places, and no arrival is delivered twice, as ever;
+-- `notices`: what was handed out since, followed by what waits, is what waited in the old queue followed by the notices of the stretches consumed since:
+-- so each notice that waited over the restart was handed out once, in its order and before any new one, or waits still.
+pub record Restart (c : Choice) (l : List Call) (w v : World) : Type 0 where
+  pub told : Told c l v
+  pub notices : along c (handsBy c) l v ++ waitingIn (leftAfter c l v) ≡ waiting older (w .state .queue) (w .queueMemory) ++ flat deliveredBy (told .events)
 
 -- R-11: the serial number that a call puts in force, where it is a reset and isn't refused
 abbrev pub forced : ℕ → Outcome Slot → List ℕ
