@@ -9,7 +9,7 @@
  *
  * What the proofs take from the caller, as for any C function:
  *   - a pointer p with its count n points to n bytes, and is not NULL, also where n is 0;
- *   - `state` points to WX_NUMBERS numbers, `out` and `answer` to WX_OUT numbers;
+ *   - `state` and `old` point to WX_NUMBERS numbers, `out` and `answer` to WX_OUT numbers;
  *   - what a call may write (no `const`) does not overlap anything else that is handed to the same call;
  *   - no other thread uses any of it during the call;
  *   - the archive is of this header's version: once, before all else, stop where wx_version() is not WX_VERSION;
@@ -51,6 +51,21 @@
  * With a buffer of 0 bytes, or a queue below WX_RECORD bytes under a table with notices or with WX_NUMERIC, this goes round for ever; a buffer over WX_LONGEST
  * bytes is refused by every call.
  *
+ * Restarting with a queue of the old form (version 5 and before). Its records have WX_OLD_RECORD bytes and the mark UR, those of this version WX_RECORD bytes and
+ * the mark UX. wx_queue_convert writes the notices that were kept, in their order, into other memory. Convert before any other call that takes the queue: a put
+ * doesn't look at what lies in its memory, and would write over them.
+ *     uint64_t kept[WX_NUMBERS] = {0}, state[WX_NUMBERS];
+ *     uint8_t queue_mem[WX_RECORDS * WX_RECORD];      // for as many notices as any queue holds
+ *     read_back(kept, buf, slot_mem, old_mem);        // what was kept, into memory of the lengths that it had; behind nine numbers 0 stays
+ *     memcpy(state, kept, sizeof state);              // END, the slot's numbers and SERIAL come along
+ *     refusal = wx_queue_convert(kept, old_mem, sizeof old_mem, state, queue_mem, sizeof queue_mem);
+ * At WX_DONE go on with `state`, buf, slot_mem and queue_mem as if the program hadn't ended; the old memory isn't needed any more. A refusal has changed nothing:
+ *   - WX_TOO_FEW: the old queue is good, and the new memory too short for it. Nothing is lost: lend kept[WX_COUNT] * WX_RECORD bytes or more, and convert then;
+ *   - WX_BAD_STATE: what was kept is no queue of the old form. See whether it was read back as it was kept, and whether it is converted already; where its notices
+ *     can't be had, wx_queue_new on `state` goes on without them.
+ * Keep beside the numbers which form the queue is of. The marks alone don't tell: where START isn't 0, a call that is handed the other form looks for a record
+ * in the midst of one.
+ *
  * The token table: records one after the other, at most WX_TABLE_RECORDS of them, with nothing before, between or behind them. Each is
  *     byte 0, 1   a mark, two letters: UR a notice, CS a custom success, CE a custom error, CP a custom prompt
  *     byte 2      only where the mark is CP: the byte that the prompt is told by, any byte
@@ -89,29 +104,34 @@ extern "C" {
  * wx_digest; WX_OUT, 7 before, is 9.
  * Version 4: a third digester, WX_NUMERIC; its number, 2, read as WX_VERBOSE before. A notice's number may be WX_RING.
  * Version 5: the slot has a serial number, WX_SERIAL; WX_NUMBERS, 9 before, is 10. wx_slot_reset takes the next one and may be refused with WX_REPEATED;
- * wx_slot_lookup has it at out[4]. A state of nine numbers that was kept is one of ten with 0 behind it. */
-#define WX_VERSION 5u
+ * wx_slot_lookup has it at out[4]. A state of nine numbers that was kept is one of ten with 0 behind it.
+ * Version 6: a notice has up to 1,024 bytes, 128 before; WX_RECORD, 132 before, is 1029, and a record has the mark UX and a length of two bytes. wx_queue_convert,
+ * which may be refused with WX_TOO_FEW, makes such a queue of one that was kept. */
+#define WX_VERSION 6u
 
 /* What a function that returns uint32_t returns (but wx_version): 0, or the number of the refusal. Of those that a call can give, the lowest is given.
- * A refusal of 1 to 4, or of 15, leaves every number and byte as it stood, but for out[0] at WX_BAD_TABLE. */
+ * A refusal of 1 to 4, of 13 or of 15 leaves every number and byte as it stood, but for out[0] at WX_BAD_TABLE. */
 #define WX_DONE 0u      /* not refused */
 #define WX_TOO_LONG 1u  /* the input or the ingress buffer is over WX_LONGEST bytes */
 #define WX_BAD_TABLE 2u /* the table breaks a rule; out[0] is the first faulty record's number (64 for a 65th record);
                            with WX_NUMERIC: the table isn't empty, whatever its bytes; out[0] is 0 */
 #define WX_BAD_STATE 3u /* END is past the buffer, LEN past the slot's memory, START or COUNT outside its bounds,
-                           or the record to be taken has a wrong mark or length */
+                           or the record to be taken, or one to be converted, has a wrong mark or length */
 #define WX_NO_ROOM 4u   /* the commit is more than the room behind END */
-#define WX_FULL 5u      /* a notice of 1 to 128 bytes meets a full queue: the earlier steps are done, the notice and what lay
+#define WX_FULL 5u      /* a notice of 1 to 1,024 bytes meets a full queue: the earlier steps are done, the notice and what lay
                            with it are still in the buffer */
+#define WX_TOO_FEW 13u  /* the new memory holds fewer records than the old queue holds */
 #define WX_REPEATED 15u /* the serial number of a reset is the one already in force */
 
 /* The limits. A code of +CME ERROR or +CMS ERROR is at most 65,535: a line with a larger one is no error. */
-#define WX_LONGEST 4096       /* the longest input of a digest, and the longest ingress buffer; a piece given to wx_ingress_write may be longer */
-#define WX_TABLE_RECORDS 64   /* the most records of a table */
-#define WX_LONGEST_TEXT 32    /* the longest text of a record */
-#define WX_RECORD 132         /* a record of the queue's memory: the mark UR, the table number, the payload's length, 128 bytes of payload */
-#define WX_RECORDS 16         /* the most notices that a queue holds, however long its memory is */
-#define WX_LONGEST_NOTICE 128 /* a longer payload is counted as a lost notice; so is an empty one */
+#define WX_LONGEST 4096        /* the longest input of a digest, and the longest ingress buffer; a piece given to wx_ingress_write may be longer */
+#define WX_TABLE_RECORDS 64    /* the most records of a table */
+#define WX_LONGEST_TEXT 32     /* the longest text of a record */
+#define WX_RECORD 1029         /* a record of the queue's memory: the mark UX, the table number, the payload's length in two bytes, the high one first,
+                                  1,024 bytes of payload */
+#define WX_RECORDS 16          /* the most notices that a queue holds, however long its memory is */
+#define WX_LONGEST_NOTICE 1024 /* a longer payload is counted as a lost notice; so is an empty one */
+#define WX_OLD_RECORD 132      /* a record of the old form: the mark UR, the table number, the payload's length, 1 to 128, in one byte, 128 bytes of payload */
 
 /* The digester that a call uses, by its number; any other number reads as WX_VERBOSE.
  *
@@ -161,7 +181,7 @@ enum {
     WX_SLOT_LOST = 5,  /* answers lost because the slot was signalled; it stays at 4,294,967,295 */
     WX_START = 6,      /* the queue: the place of its oldest record in the ring */
     WX_COUNT = 7,      /* how many records it holds */
-    WX_QUEUE_LOST = 8, /* notices lost for a payload of 0 or over 128 bytes; it stays at 4,294,967,295 */
+    WX_QUEUE_LOST = 8, /* notices lost for a payload of 0 or over 1,024 bytes; it stays at 4,294,967,295 */
     WX_SERIAL = 9      /* the slot's serial number in force, 0 in a new slot; wx_slot_reset gives it the next one */
 };
 
@@ -255,7 +275,7 @@ size_t wx_queue_capacity(size_t len);
 
 /* Puts a notice into the queue, as the ingress does.
  * mem, mem_len: the queue's memory; number: the notice's table number, or WX_RING; payload, payload_len: its payload.
- * A payload of 0 or over 128 bytes is lost and counted, even when the queue is full.
+ * A payload of 0 or over 1,024 bytes is lost and counted, even when the queue is full.
  * Refusals: WX_BAD_STATE, WX_FULL (both leave everything). */
 uint32_t wx_queue_put(uint64_t state[WX_NUMBERS], uint8_t *mem, size_t mem_len, uint8_t number, const uint8_t *payload,
                       size_t payload_len);
@@ -267,11 +287,22 @@ uint32_t wx_queue_put(uint64_t state[WX_NUMBERS], uint8_t *mem, size_t mem_len, 
  * Refusals: WX_BAD_STATE. */
 uint32_t wx_queue_take(uint64_t state[WX_NUMBERS], const uint8_t *mem, size_t mem_len, uint64_t out[WX_OUT]);
 
+/* Makes a queue of this version of one of the old form, for a program that restarts (above).
+ * old: the state that was kept, of which START, COUNT and QUEUE_LOST alone are read; old_mem, old_mem_len: the memory of that queue,
+ * old_mem_len / WX_OLD_RECORD records, at most WX_RECORDS.
+ * mem, mem_len: the new queue's memory, not the old one. The records that the old queue holds are written from its front on, oldest first,
+ * with their table numbers and payloads. No other byte of it changes, those behind a payload in its record included.
+ * state: START becomes 0, COUNT and QUEUE_LOST those of the old queue. The other numbers stay.
+ * A queue that holds nothing is converted into any memory, also into one of 0 bytes.
+ * Refusals: WX_BAD_STATE, for START and COUNT by the old memory, and for every record that is held; WX_TOO_FEW (both leave everything). */
+uint32_t wx_queue_convert(const uint64_t old[WX_NUMBERS], const uint8_t *old_mem, size_t old_mem_len, uint64_t state[WX_NUMBERS],
+                          uint8_t *mem, size_t mem_len);
+
 /* Adds `commit` bytes, which the caller has put into buf from END on, and digests, delivers and moves until nothing more is consumed.
  * digester: WX_VERBOSE, WX_CONNECT or WX_NUMERIC; table: the token table, for WX_NUMERIC the empty one; buf: the ingress buffer;
  * slot_mem, queue_mem: the memories of slot and queue.
  * out[0]: at WX_BAD_TABLE the first faulty record's number; else out stays.
- * Refusals: all but WX_REPEATED. After WX_FULL take a notice, then advance by 0. */
+ * Refusals: all but WX_TOO_FEW and WX_REPEATED. After WX_FULL take a notice, then advance by 0. */
 uint32_t wx_ingress_advance(uint64_t state[WX_NUMBERS], size_t commit, uint32_t digester, const uint8_t *table, size_t table_len,
                             uint8_t *buf, size_t buf_len, uint8_t *slot_mem, size_t slot_mem_len, uint8_t *queue_mem,
                             size_t queue_mem_len, uint64_t out[WX_OUT]);

@@ -12,7 +12,7 @@
 #define TABLE "UR\7+UUSORD"
 
 /* A caller's arrays are of this length: where one of these changes, so does the version. */
-#if WX_VERSION != 5u || WX_NUMBERS != 10 || WX_OUT != 9
+#if WX_VERSION != 6u || WX_NUMBERS != 10 || WX_OUT != 9
 #error "an array has changed: raise WX_VERSION and wx_version, and write the new lengths here"
 #endif
 
@@ -485,8 +485,12 @@ static void queue(void)
 {
     uint64_t state[WX_NUMBERS], out[WX_OUT];
     uint8_t mem[WX_RECORD] = {0}, longer[WX_LONGEST_NOTICE + 1] = {0};
-    same("capacity of 131", wx_queue_capacity(131), 0);
-    same("capacity of 264", wx_queue_capacity(264), 2);
+    same("capacity of 1,028", wx_queue_capacity(1028), 0);
+    same("capacity of 1,029", wx_queue_capacity(1029), 1);
+    same("capacity of 2,057", wx_queue_capacity(2057), 1);
+    same("capacity of 2,058", wx_queue_capacity(2058), 2);
+    same("capacity of 16,463", wx_queue_capacity(16463), 15);
+    same("capacity of 17,493", wx_queue_capacity(17493), WX_RECORDS);
     same("capacity of all memory", wx_queue_capacity(SIZE_MAX), WX_RECORDS);
     reset_to_was(state, WX_NUMBERS);
     reset_to_was(out, WX_OUT);
@@ -494,12 +498,13 @@ static void queue(void)
     STATE("a new queue", WAS, WAS, WAS, WAS, WAS, WAS, 0, 0, 0, WAS);
     same("a put", wx_queue_put(state, mem, sizeof mem, 5, (const uint8_t *)"RING", 4), WX_DONE);
     STATE("a put", WAS, WAS, WAS, WAS, WAS, WAS, 0, 1, 0, WAS);
-    same_bytes("a put, memory", mem, "UR\5\4RING", 9);
+    same_bytes("a put, memory", mem, "UX\5\0\4RING", 10);
     same("a full queue", wx_queue_put(state, mem, sizeof mem, 6, (const uint8_t *)"BUSY", 4), WX_FULL);
     same("a long notice", wx_queue_put(state, mem, sizeof mem, 6, longer, sizeof longer), WX_DONE);
     STATE("a long notice", WAS, WAS, WAS, WAS, WAS, WAS, 0, 1, 1, WAS);
+    same_bytes("a long notice, memory", mem, "UX\5\0\4RING", 10);
     same("a take", wx_queue_take(state, mem, sizeof mem, out), WX_DONE);
-    OUT("a take", 1, 5, 4, 4, WAS, WAS, WAS, WAS, WAS);
+    OUT("a take", 1, 5, 5, 4, WAS, WAS, WAS, WAS, WAS);
     reset_to_was(out, WX_OUT);
     same("an empty queue", wx_queue_take(state, mem, sizeof mem, out), WX_DONE);
     OUT("an empty queue", 0, WAS, WAS, WAS, WAS, WAS, WAS, WAS, WAS);
@@ -510,6 +515,311 @@ static void queue(void)
     STATE("a start past the ring", WAS, WAS, WAS, WAS, WAS, WAS, 1, 0, 1, WAS);
 }
 
+/* The length in two bytes, and what the lengths beside its bounds do, in the second record of a ring of two: an empty notice and one over 1,024 bytes are lost. */
+static void queue_lengths(void)
+{
+    static const struct {
+        size_t len;
+        const char *head;
+    } cases[] = {
+        {0, NULL},
+        {1, "UX\7\0\1"},
+        {128, "UX\7\0\200"},
+        {129, "UX\7\0\201"},
+        {255, "UX\7\0\377"},
+        {256, "UX\7\1\0"},
+        {900, "UX\7\3\204"},
+        {1023, "UX\7\3\377"},
+        {1024, "UX\7\4\0"},
+        {1025, NULL},
+    };
+    for (size_t i = 0; i < sizeof cases / sizeof cases[0]; i++) {
+        const size_t len = cases[i].len;
+        uint64_t state[WX_NUMBERS], out[WX_OUT];
+        uint8_t payload[WX_LONGEST_NOTICE + 1], mem[2 * WX_RECORD + 1], expected[sizeof mem];
+        memset(payload, 'p', sizeof payload);
+        memset(mem, 'm', sizeof mem);
+        memset(expected, 'm', sizeof expected);
+        reset_to_was(state, WX_NUMBERS);
+        reset_to_was(out, WX_OUT);
+        wx_queue_new(state);
+        state[WX_START] = 1;
+        same("a length, put", wx_queue_put(state, mem, sizeof mem, 7, payload, len), WX_DONE);
+        if (cases[i].head == NULL) {
+            STATE("a length, lost", WAS, WAS, WAS, WAS, WAS, WAS, 1, 0, 1, WAS);
+        } else {
+            STATE("a length, put", WAS, WAS, WAS, WAS, WAS, WAS, 1, 1, 0, WAS);
+            memcpy(expected + WX_RECORD, cases[i].head, 5);
+            memcpy(expected + WX_RECORD + 5, payload, len);
+        }
+        same_bytes("a length, memory", mem, (const char *)expected, sizeof mem);
+        same("a length, take", wx_queue_take(state, mem, sizeof mem, out), WX_DONE);
+        if (cases[i].head == NULL)
+            OUT("a length, lost", 0, WAS, WAS, WAS, WAS, WAS, WAS, WAS, WAS);
+        else
+            OUT("a length, take", 1, 7, 1034, len, WAS, WAS, WAS, WAS, WAS);
+        same_bytes("a length, memory behind the take", mem, (const char *)expected, sizeof mem);
+    }
+}
+
+/* The record to be taken: one of the old form, and lengths outside 1 to 1,024, are refused. */
+static void queue_damaged(void)
+{
+    static const struct {
+        const char *head;
+        uint32_t refusal;
+        uint64_t len;
+    } cases[] = {
+        {"UX\7\0\4", WX_DONE, 4},
+        {"UX\7\2\0", WX_DONE, 512},
+        {"UX\7\4\0", WX_DONE, 1024},
+        {"UX\7\0\0", WX_BAD_STATE, 0},
+        {"UX\7\4\1", WX_BAD_STATE, 0},
+        {"UX\7\5\0", WX_BAD_STATE, 0},
+        {"UX\7\377\377", WX_BAD_STATE, 0},
+        {"UR\7\4R", WX_BAD_STATE, 0},
+        {"UR\7\0\4", WX_BAD_STATE, 0},
+        {"XX\7\0\4", WX_BAD_STATE, 0},
+        {"Ux\7\0\4", WX_BAD_STATE, 0},
+    };
+    for (size_t i = 0; i < sizeof cases / sizeof cases[0]; i++) {
+        uint64_t state[WX_NUMBERS], out[WX_OUT];
+        uint8_t mem[WX_RECORD] = {0};
+        memcpy(mem, cases[i].head, 5);
+        reset_to_was(state, WX_NUMBERS);
+        reset_to_was(out, WX_OUT);
+        wx_queue_new(state);
+        state[WX_COUNT] = 1;
+        same("a record, take", wx_queue_take(state, mem, sizeof mem, out), cases[i].refusal);
+        if (cases[i].refusal == WX_DONE)
+            OUT("a record, take", 1, 7, 5, cases[i].len, WAS, WAS, WAS, WAS, WAS);
+        else
+            OUT("a record, refused", WAS, WAS, WAS, WAS, WAS, WAS, WAS, WAS, WAS);
+        STATE("a record, take", WAS, WAS, WAS, WAS, WAS, WAS, 0, cases[i].refusal == WX_DONE ? 0 : 1, 0, WAS);
+    }
+}
+
+/* A record of the old form, laid into the ring's place. */
+static void lay_old(uint8_t *old_mem, size_t place, uint8_t number, const char *payload)
+{
+    uint8_t *record = old_mem + place * WX_OLD_RECORD;
+    const size_t len = strlen(payload);
+    memcpy(record, (const uint8_t[]){'U', 'R', number, (uint8_t)len}, 4);
+    memcpy(record + 4, payload, len);
+}
+
+/* An old ring of three, whose oldest record lies in its last place: a notice, a RING, a notice of the table's last record; other bytes are o. */
+static void lay_old_ring(uint8_t *old_mem, size_t len)
+{
+    memset(old_mem, 'o', len);
+    lay_old(old_mem, 2, 0, "+UUSORD: 1");
+    lay_old(old_mem, 0, WX_RING, "2");
+    lay_old(old_mem, 1, 63, "+UUSORD: 3");
+}
+
+#define MEMORIES buf, sizeof buf, slot_mem, sizeof slot_mem, queue_mem, sizeof queue_mem, out
+#define WITH_TABLE WX_VERBOSE, table, sizeof table - 1
+
+/* A restart, as the header has it, with half a line in the buffer: the kept notices come out in order, and the program goes on. */
+static void restart(void)
+{
+    static const uint8_t table[] = TABLE, rest[] = "RD: 4\r\n\r\nOK\r\n";
+    static const uint64_t as_kept[WX_NUMBERS] = {7, 0, WX_CME, 10, 4, 9, 2, 3, 5, 8};
+    static const struct {
+        uint64_t number, place, len;
+        const char *payload;
+    } waiting[] = {{WX_RING, 1034, 1, "2"}, {63, 2063, 10, "+UUSORD: 3"}, {0, 3092, 10, "+UUSORD: 4"}};
+    uint64_t kept[WX_NUMBERS], state[WX_NUMBERS], out[WX_OUT];
+    uint8_t buf[64] = "\r\n+UUSO", slot_mem[16] = "0010", old_mem[3 * WX_OLD_RECORD + 7], as_read[sizeof old_mem];
+    uint8_t queue_mem[4 * WX_RECORD + 9], expected[sizeof queue_mem];
+    lay_old_ring(old_mem, sizeof old_mem);
+    lay_old_ring(as_read, sizeof as_read);
+    memset(queue_mem, 'n', sizeof queue_mem);
+    memcpy(kept, as_kept, sizeof kept);
+
+    memcpy(state, kept, sizeof state);
+    same("a restart", wx_queue_convert(kept, old_mem, sizeof old_mem, state, queue_mem, sizeof queue_mem), WX_DONE);
+    STATE("a restart", 7, 0, WX_CME, 10, 4, 9, 0, 3, 5, 8);
+    memset(expected, 'n', sizeof expected);
+    memcpy(expected, "UX\0\0\12+UUSORD: 1", 15);
+    memcpy(expected + 1029, "UX\377\0\1" "2", 6);
+    memcpy(expected + 2058, "UX\77\0\12+UUSORD: 3", 15);
+    same_bytes("a restart, the new memory", queue_mem, (const char *)expected, sizeof queue_mem);
+    same_bytes("a restart, the old memory", old_mem, (const char *)as_read, sizeof old_mem);
+    same_all("a restart, the old numbers", kept, WX_NUMBERS, as_kept, WX_NUMBERS);
+
+    reset_to_was(out, WX_OUT);
+    same("a restart, a take", wx_queue_take(state, queue_mem, sizeof queue_mem, out), WX_DONE);
+    OUT("a restart, a take", 1, 0, 5, 10, WAS, WAS, WAS, WAS, WAS);
+    same_bytes("a restart, a take", queue_mem + out[2], "+UUSORD: 1", 10);
+    same("a restart, a write", wx_ingress_write(state, rest, sizeof rest - 1, WITH_TABLE, MEMORIES), WX_DONE);
+    same("a restart, a write, taken", out[0], sizeof rest - 1);
+    STATE("a restart, a write", 0, 1, WX_OK, 0, 0, 9, 1, 3, 5, 8);
+    for (size_t i = 0; i < sizeof waiting / sizeof waiting[0]; i++) {
+        reset_to_was(out, WX_OUT);
+        same("a restart, takes", wx_queue_take(state, queue_mem, sizeof queue_mem, out), WX_DONE);
+        OUT("a restart, takes", 1, waiting[i].number, waiting[i].place, waiting[i].len, WAS, WAS, WAS, WAS, WAS);
+        same_bytes("a restart, takes", queue_mem + out[2], waiting[i].payload, waiting[i].len);
+    }
+    STATE("a restart, all taken", 0, 1, WX_OK, 0, 0, 9, 0, 0, 5, 8);
+}
+
+/* Sixteen notices of 8 to 128 bytes from the ring's last place on, in an old memory that has room for one more, into a memory that has room for just so many. */
+static void convert_sixteen(void)
+{
+    static uint8_t old_mem[17 * WX_OLD_RECORD], mem[WX_RECORDS * WX_RECORD], expected[sizeof mem];
+    const uint64_t old[WX_NUMBERS] = {WAS, WAS, WAS, WAS, WAS, WAS, 15, 16, 0, WAS};
+    uint64_t state[WX_NUMBERS];
+    char payload[128 + 1];
+    memset(old_mem, 'o', sizeof old_mem);
+    memset(mem, 'n', sizeof mem);
+    memset(expected, 'n', sizeof expected);
+    for (size_t i = 0; i < WX_RECORDS; i++) {
+        const uint8_t number = i == 15 ? WX_RING : (uint8_t)i, len = (uint8_t)(8 * (i + 1));
+        memset(payload, 'a' + (int)i, len);
+        payload[len] = 0;
+        lay_old(old_mem, (15 + i) % 16, number, payload);
+        memcpy(expected + i * WX_RECORD, (const uint8_t[]){'U', 'X', number, 0, len}, 5);
+        memcpy(expected + i * WX_RECORD + 5, payload, len);
+    }
+    reset_to_was(state, WX_NUMBERS);
+    same("sixteen, too little memory", wx_queue_convert(old, old_mem, sizeof old_mem, state, mem, sizeof mem - 1), WX_TOO_FEW);
+    STATE("sixteen, too little memory", WAS, WAS, WAS, WAS, WAS, WAS, WAS, WAS, WAS, WAS);
+    same("sixteen", wx_queue_convert(old, old_mem, sizeof old_mem, state, mem, sizeof mem), WX_DONE);
+    STATE("sixteen", WAS, WAS, WAS, WAS, WAS, WAS, 0, 16, 0, WAS);
+    same_bytes("sixteen, memory", mem, (const char *)expected, sizeof mem);
+}
+
+/* The lost count goes along, by what it reads; one that reads already as it is to read stays as it stood. */
+static void convert_lost(void)
+{
+    static const uint64_t over = UINT64_C(4294967296);
+    /* the old count, the one in the state, and what that becomes */
+    const uint64_t cases[][3] = {
+        {5, 0, 5},
+        {0, 5, 0},
+        {MOST, 5, MOST},
+        {over, 5, MOST},
+        {UINT64_MAX, MOST, MOST},
+        {over, over, over},
+        {MOST, over, over},
+        {UINT64_MAX, over, over},
+        {MOST - 1, over, MOST - 1},
+    };
+    for (size_t i = 0; i < sizeof cases / sizeof cases[0]; i++) {
+        const uint64_t old[WX_NUMBERS] = {0, 0, 0, 0, 0, 0, 1, 1, cases[i][0], 0};
+        uint64_t state[WX_NUMBERS];
+        uint8_t old_mem[3 * WX_OLD_RECORD], mem[WX_RECORD];
+        lay_old_ring(old_mem, sizeof old_mem);
+        memset(mem, 'n', sizeof mem);
+        reset_to_was(state, WX_NUMBERS);
+        state[WX_QUEUE_LOST] = cases[i][1];
+        /* what isn't the queue's stays, out of plain form too */
+        state[WX_SERIAL] = over;
+        same("the lost count", wx_queue_convert(old, old_mem, sizeof old_mem, state, mem, sizeof mem), WX_DONE);
+        STATE("the lost count", WAS, WAS, WAS, WAS, WAS, WAS, 0, 1, cases[i][2], over);
+        same_bytes("the lost count, memory", mem, "UX\77\0\12+UUSORD: 3nnn", 18);
+    }
+}
+
+/* Which refusal a conversion gives, and that it changes nothing then; the old queue never changes. The old memory begins with the ring of three, of which one byte is
+ * made another; 9 at byte 2, a table number, is no damage. */
+static void convert_refusals(void)
+{
+    enum { THREE = 3 * WX_OLD_RECORD, SEVENTEEN = 17 * WX_OLD_RECORD };
+    static const uint64_t over = UINT64_C(4294967296);
+    const struct {
+        uint64_t start, count;
+        size_t old_len, len, place;
+        uint8_t byte;
+        uint32_t refusal;
+    } cases[] = {
+        /* none held: any memory is good, and no record is looked at */
+        {0, 0, 0, 0, 0, 'u', WX_DONE},
+        {0, 0, 131, 0, 0, 'u', WX_DONE},
+        {2, 0, THREE, 0, 264, 'u', WX_DONE},
+        {2, 0, THREE, 1028, 264, 'u', WX_DONE},
+        /* the new memory, at its bounds */
+        {2, 1, THREE, 0, 2, 9, WX_TOO_FEW},
+        {2, 1, THREE, 132, 2, 9, WX_TOO_FEW},
+        {2, 1, THREE, 1028, 2, 9, WX_TOO_FEW},
+        {2, 1, THREE, 1029, 2, 9, WX_DONE},
+        {2, 2, THREE, 2057, 2, 9, WX_TOO_FEW},
+        {2, 2, THREE, 2058, 2, 9, WX_DONE},
+        {2, 3, THREE, 3086, 2, 9, WX_TOO_FEW},
+        {2, 3, THREE, 3087, 2, 9, WX_DONE},
+        /* the last record that is held, also where the new memory is too short, and one that isn't held */
+        {2, 2, THREE, 2058, 0, 'u', WX_BAD_STATE},
+        {2, 2, THREE, 1029, 0, 'u', WX_BAD_STATE},
+        {2, 2, THREE, 0, 0, 'u', WX_BAD_STATE},
+        {2, 2, THREE, 2058, 1, 'X', WX_BAD_STATE},
+        {2, 2, THREE, 2058, 3, 0, WX_BAD_STATE},
+        {2, 2, THREE, 0, 3, 0, WX_BAD_STATE},
+        {2, 2, THREE, 2058, 3, 129, WX_BAD_STATE},
+        {2, 2, THREE, 2058, 3, 255, WX_BAD_STATE},
+        {2, 2, THREE, 2058, 3, 128, WX_DONE},
+        {2, 2, THREE, 2058, 132, 'u', WX_DONE},
+        {2, 2, THREE, 2058, 135, 0, WX_DONE},
+        {2, 2, THREE, 2057, 132, 'u', WX_TOO_FEW},
+        {2, 3, THREE, 3087, 132, 'u', WX_BAD_STATE},
+        {0, 2, THREE, 2058, 264, 'u', WX_DONE},
+        {0, 2, THREE, 2058, 133, 'r', WX_BAD_STATE},
+        /* start and count, by the old memory, and before 13 */
+        {3, 0, THREE, 3087, 2, 9, WX_BAD_STATE},
+        {3, 1, THREE, 0, 2, 9, WX_BAD_STATE},
+        {over, 1, THREE, 3087, 2, 9, WX_BAD_STATE},
+        {UINT64_MAX, 1, THREE, 3087, 2, 9, WX_BAD_STATE},
+        {0, 4, THREE, 4116, 2, 9, WX_BAD_STATE},
+        {0, 4, THREE, 3087, 2, 9, WX_BAD_STATE},
+        {0, over, THREE, 3087, 2, 9, WX_BAD_STATE},
+        {0, UINT64_MAX, THREE, 0, 2, 9, WX_BAD_STATE},
+        {2, 1, THREE - 1, 3087, 2, 9, WX_BAD_STATE},
+        {1, 3, THREE - 1, 3087, 2, 9, WX_BAD_STATE},
+        {1, 2, THREE - 1, 2058, 2, 9, WX_DONE},
+        {1, 0, 131, 1029, 2, 9, WX_BAD_STATE},
+        {1, 0, 0, 1029, 2, 9, WX_BAD_STATE},
+        {0, 1, 131, 1029, 2, 9, WX_BAD_STATE},
+        {16, 0, SEVENTEEN, 0, 2, 9, WX_BAD_STATE},
+        {15, 0, SEVENTEEN, 0, 2, 9, WX_DONE},
+        {0, 17, SEVENTEEN, 17493, 2, 9, WX_BAD_STATE},
+    };
+    static uint8_t old_mem[SEVENTEEN], as_read[SEVENTEEN], mem[17 * WX_RECORD], untouched[sizeof mem];
+    memset(untouched, 'n', sizeof untouched);
+    for (size_t i = 0; i < sizeof cases / sizeof cases[0]; i++) {
+        const uint64_t old[WX_NUMBERS] = {0, 1, 2, 3, 4, 5, cases[i].start, cases[i].count, 8, 9};
+        uint64_t kept[WX_NUMBERS], state[WX_NUMBERS];
+        char what[40];
+        snprintf(what, sizeof what, "a conversion, case %zu", i);
+        lay_old_ring(old_mem, sizeof old_mem);
+        old_mem[cases[i].place] = cases[i].byte;
+        memcpy(as_read, old_mem, sizeof old_mem);
+        memset(mem, 'n', sizeof mem);
+        memcpy(kept, old, sizeof kept);
+        reset_to_was(state, WX_NUMBERS);
+        same(what, wx_queue_convert(kept, old_mem, cases[i].old_len, state, mem, cases[i].len), cases[i].refusal);
+        same_all(what, kept, WX_NUMBERS, old, WX_NUMBERS);
+        same_bytes(what, old_mem, (const char *)as_read, sizeof old_mem);
+        if (cases[i].refusal == WX_DONE) {
+            STATE(what, WAS, WAS, WAS, WAS, WAS, WAS, 0, cases[i].count, 8, WAS);
+            for (size_t k = 0; k < cases[i].count; k++)
+                same_bytes(what, mem + k * WX_RECORD, "UX", 2);
+            same_bytes(what, mem + cases[i].count * WX_RECORD, (const char *)untouched, sizeof mem - cases[i].count * WX_RECORD);
+        } else {
+            STATE(what, WAS, WAS, WAS, WAS, WAS, WAS, WAS, WAS, WAS, WAS);
+            same_bytes(what, mem, (const char *)untouched, sizeof mem);
+        }
+    }
+}
+
+/* The conversion of a queue of the old form. */
+static void convert(void)
+{
+    restart();
+    convert_sixteen();
+    convert_lost();
+    convert_refusals();
+}
+
 static void ingress(void)
 {
     static const uint8_t table[] = TABLE, answer[] = "AT+CSQ\r\r\n+CSQ: 17,99\r\n\r\nOK\r\n";
@@ -517,8 +827,6 @@ static void ingress(void)
     static uint8_t too_long[WX_LONGEST + 1];
     uint64_t state[WX_NUMBERS], out[WX_OUT];
     uint8_t buf[64] = {0}, slot_mem[32] = {0}, queue_mem[WX_RECORD] = {0};
-#define MEMORIES buf, sizeof buf, slot_mem, sizeof slot_mem, queue_mem, sizeof queue_mem, out
-#define WITH_TABLE WX_VERBOSE, table, sizeof table - 1
     reset_to_was(state, WX_NUMBERS);
     wx_slot_new(state);
     wx_queue_new(state);
@@ -537,11 +845,11 @@ static void ingress(void)
     same_bytes("a full queue, the buffer", buf, "\r\n+UUSORD: 2\r\n", 14);
     same("still full", wx_ingress_advance(state, 0, WITH_TABLE, MEMORIES), WX_FULL);
     same("the first notice", wx_queue_take(state, queue_mem, sizeof queue_mem, out), WX_DONE);
-    OUT("the first notice", 1, 0, 4, 10, WAS, WAS, WAS, WAS, WAS);
-    same_bytes("the first notice", queue_mem + 4, "+UUSORD: 1", 10);
+    OUT("the first notice", 1, 0, 5, 10, WAS, WAS, WAS, WAS, WAS);
+    same_bytes("the first notice", queue_mem + 5, "+UUSORD: 1", 10);
     same("going on", wx_ingress_advance(state, 0, WITH_TABLE, MEMORIES), WX_DONE);
     STATE("going on", 0, 1, WX_OK, 0, 11, 0, 0, 1, 0, 7);
-    same_bytes("the second notice", queue_mem + 4, "+UUSORD: 2", 10);
+    same_bytes("the second notice", queue_mem + 5, "+UUSORD: 2", 10);
 
     memcpy(buf, "\r\nNO", 4);
     same("an advance", wx_ingress_advance(state, 4, WITH_TABLE, MEMORIES), WX_DONE);
@@ -667,7 +975,7 @@ static void ingress_numeric_full(uint64_t state[WX_NUMBERS], uint8_t *buf, uint8
     same("V0, still full", wx_ingress_advance(state, 0, EMPTY_TABLE, LENT(buf, 64)), WX_FULL);
     reset_to_was(out, WX_OUT);
     same("V0, the first RING", wx_queue_take(state, queue_mem, WX_RECORD, out), WX_DONE);
-    OUT("V0, the first RING", 1, WX_RING, 4, 1, WAS, WAS, WAS, WAS, WAS);
+    OUT("V0, the first RING", 1, WX_RING, 5, 1, WAS, WAS, WAS, WAS, WAS);
     same("V0, going on", wx_ingress_advance(state, 0, EMPTY_TABLE, LENT(buf, 64)), WX_DONE);
     STATE("V0, going on", 1, 1, WX_ERROR, 0, 0, 0, 0, 1, 0, 1);
     same_bytes("V0, going on, the buffer", buf, "0", 1);
@@ -696,7 +1004,7 @@ static void ingress_numeric(void)
     STATE("V0, refused", 2, 1, WX_ERROR, 0, 0, 0, 0, 1, 0, 1);
     same_bytes("V0, the buffer", buf, "0x", 2);
     same_bytes("V0, the slot's memory", slot_mem, "+CSQ: 17,99", 11);
-    same_bytes("V0, the queue's memory", queue_mem, "UR\377\0012", 5);
+    same_bytes("V0, the queue's memory", queue_mem, "UX\377\0\1" "2", 6);
 }
 
 /* What the header says of a cut between a CR and its LF. */
@@ -842,6 +1150,9 @@ int main(void)
     slot_digits();
     slot_bytes();
     queue();
+    queue_lengths();
+    queue_damaged();
+    convert();
     ingress();
     ingress_digits();
     ingress_connect();

@@ -22,7 +22,7 @@ use std::io::{ErrorKind, Read, Write};
 use std::sync::mpsc::{self, Receiver};
 use std::time::Duration;
 use std::{env, fs, io, process, thread};
-use walumbeex::{Digester, Ingress, Refusal, Response, Table, TableBuilder, RING};
+use walumbeex::{Digester, Ingress, Refusal, Response, Table, TableBuilder, NOTICE_RECORD, RING};
 
 const USAGE: &str = "usage: [QUIET=MS] [DIGESTER=NAME] listen DEVICE [NOTICE ..]   \
                      (DEVICE - is standard input; a NOTICE is a text such as RING or +CREG; MS is 1 to 60000; \
@@ -171,7 +171,7 @@ fn piece_of(bytes: &[u8], in_v0: bool) -> usize {
 }
 
 fn listen(source: Box<dyn Read + Send>, digester: Digester<'_>, quiet: Duration) -> Result<(), Box<dyn Error>> {
-    let (mut buf, mut slot_mem, mut queue_mem) = ([0; 4096], [0; 4096], [0; 4 * 132]);
+    let (mut buf, mut slot_mem, mut queue_mem) = ([0; 4096], [0; 4096], [0; 4 * NOTICE_RECORD]);
     let mut ingress = Ingress::new(digester, &mut buf, &mut slot_mem, &mut queue_mem)?;
     let in_v0 = digester == Digester::numeric();
 

@@ -8,10 +8,10 @@
 //!
 //! The calling convention is System V's: `build.rs` links for x86-64 Linux with pointers of 64 bits only, where it is `"C"`.
 
-use crate::{Refusal, ResetRefusal};
+use crate::{ConvertRefusal, Refusal, ResetRefusal};
 
 /// The version of the calls and arrays below: `WX_VERSION` of `include/walumbeex.h`.
-const VERSION: u32 = 5;
+const VERSION: u32 = 6;
 
 /// The places of a state's ten numbers, of those that are used here. The slot's are 1 to 5 and the last, the queue's 6 to 8.
 pub(crate) const END: usize = 0;
@@ -48,6 +48,14 @@ extern "C" {
     fn wx_queue_capacity(len: usize) -> usize;
     fn wx_queue_put(state: *mut u64, mem: *mut u8, mem_len: usize, number: u8, payload: *const u8, payload_len: usize) -> u32;
     fn wx_queue_take(state: *mut u64, mem: *const u8, mem_len: usize, out: *mut u64) -> u32;
+    fn wx_queue_convert(
+        old: *const u64,
+        old_mem: *const u8,
+        old_mem_len: usize,
+        state: *mut u64,
+        mem: *mut u8,
+        mem_len: usize,
+    ) -> u32;
     fn wx_ingress_advance(
         state: *mut u64,
         commit: usize,
@@ -83,7 +91,8 @@ extern "C" {
 
 /// Stops where the archive is of another version: what it takes for an array may be longer than what it is handed.
 ///
-/// Asked where numbers first reach the archive: a table, an input, a new slot, a new queue. Every state comes from the last two.
+/// Asked where numbers first reach the archive: a table, an input, a new slot, a new queue, a queue to be converted. Every other
+/// state goes through a new slot and a new queue.
 fn same_version() {
     // SAFETY: it takes nothing.
     let version = unsafe { wx_version() };
@@ -102,7 +111,7 @@ fn refused(number: u32, out: &Out, taken: usize) -> Result<(), Refusal> {
         2 => Err(Refusal::BadTable { record: out[0] as u8 }),
         4 => Err(Refusal::NoRoom),
         5 => Err(Refusal::QueueFull { taken }),
-        // 3; no call but a reset, which has its own, answers a number over 5.
+        // 3; no call but a reset and a conversion, which have their own, answers a number over 5.
         _ => Err(Refusal::BadState),
     }
 }
@@ -191,6 +200,22 @@ pub(crate) fn queue_take(state: &mut State, mem: &[u8]) -> Result<Out, Refusal> 
     let number = unsafe { wx_queue_take(state.as_mut_ptr(), mem.as_ptr(), mem.len(), out.as_mut_ptr()) };
     refused(number, &out, 0)?;
     Ok(out)
+}
+
+/// A queue of the old form, written into `mem` and the state's numbers.
+pub(crate) fn queue_convert(old: &State, old_mem: &[u8], state: &mut State, mem: &mut [u8]) -> Result<(), ConvertRefusal> {
+    same_version();
+    // SAFETY: see the head of this file.
+    let number = unsafe {
+        wx_queue_convert(old.as_ptr(), old_mem.as_ptr(), old_mem.len(), state.as_mut_ptr(), mem.as_mut_ptr(), mem.len())
+    };
+    match number {
+        0 => Ok(()),
+        // Behind 3, so that the count is at most 16.
+        13 => Err(ConvertRefusal::TooFew { held: old[COUNT] as usize }),
+        // 3; a conversion answers no other number.
+        _ => Err(ConvertRefusal::BadState),
+    }
 }
 
 /// The commit, digested and delivered.

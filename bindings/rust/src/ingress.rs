@@ -5,12 +5,12 @@ use crate::{Digester, MemoryError, NoticeQueue, Refusal, ResponseSlot, LONGEST_I
 /// [`notices`](Ingress::notices).
 ///
 /// It is the blocking half of atat's `Ingress`. All memory is lent at [`new`](Ingress::new): a buffer of 1 to 4,096
-/// bytes, the slot's memory (the longest answer) and the queue's (132 bytes a notice, at least one; at most 16 are used).
+/// bytes, the slot's memory (the longest answer) and the queue's (1,029 bytes a notice, at least one; at most 16 are used).
 ///
 /// ```
-/// use walumbeex::{Digester, Ingress, Response, Table, Urc};
+/// use walumbeex::{Digester, Ingress, Response, Table, Urc, NOTICE_RECORD};
 ///
-/// let (mut buf, mut answer, mut waiting) = ([0; 256], [0; 128], [0; 4 * 132]);
+/// let (mut buf, mut answer, mut waiting) = ([0; 256], [0; 128], [0; 4 * NOTICE_RECORD]);
 /// let digester = Digester::new(Table::new(b"UR\x07+UUSORD").unwrap());
 /// let mut ingress = Ingress::new(digester, &mut buf, &mut answer, &mut waiting).unwrap();
 ///
@@ -30,9 +30,9 @@ use crate::{Digester, MemoryError, NoticeQueue, Refusal, ResponseSlot, LONGEST_I
 /// moves to the front; the slot doesn't hold it.
 ///
 /// ```
-/// use walumbeex::{Digester, Ingress, Response, Table};
+/// use walumbeex::{Digester, Ingress, Response, Table, NOTICE_RECORD};
 ///
-/// let (mut buf, mut answer, mut waiting) = ([0; 256], [0; 128], [0; 132]);
+/// let (mut buf, mut answer, mut waiting) = ([0; 256], [0; 128], [0; NOTICE_RECORD]);
 /// let digester = Digester::connect(Table::empty());
 /// let mut ingress = Ingress::new(digester, &mut buf, &mut answer, &mut waiting).unwrap();
 /// ingress.try_write(b"ATD1\r\r\nCONNECT 9600\r\n").unwrap();
@@ -45,9 +45,9 @@ use crate::{Digester, MemoryError, NoticeQueue, Refusal, ResponseSlot, LONGEST_I
 /// [`RING`](crate::RING), though there is no table:
 ///
 /// ```
-/// use walumbeex::{Digester, Ingress, Response, Urc, RING};
+/// use walumbeex::{Digester, Ingress, Response, Urc, NOTICE_RECORD, RING};
 ///
-/// let (mut buf, mut answer, mut waiting) = ([0; 256], [0; 128], [0; 132]);
+/// let (mut buf, mut answer, mut waiting) = ([0; 256], [0; 128], [0; NOTICE_RECORD]);
 /// let mut ingress = Ingress::new(Digester::numeric(), &mut buf, &mut answer, &mut waiting).unwrap();
 /// ingress.try_write(b"2\rAT+CSQ\r+CSQ: 17,99\r\n0\r").unwrap();
 /// assert_eq!(ingress.notices.take(), Ok(Some(Urc { record: RING, payload: b"2" })));
@@ -58,9 +58,9 @@ use crate::{Digester, MemoryError, NoticeQueue, Refusal, ResponseSlot, LONGEST_I
 /// LF changes what is heard, and only in an information line that is exactly one digit of the list:
 ///
 /// ```
-/// use walumbeex::{Digester, Ingress, Response};
+/// use walumbeex::{Digester, Ingress, Response, NOTICE_RECORD};
 ///
-/// let (mut buf, mut answer, mut waiting) = ([0; 256], [0; 128], [0; 132]);
+/// let (mut buf, mut answer, mut waiting) = ([0; 256], [0; 128], [0; NOTICE_RECORD]);
 /// let mut ingress = Ingress::new(Digester::numeric(), &mut buf, &mut answer, &mut waiting).unwrap();
 /// ingress.try_write(b"0\r\n0\r").unwrap();
 /// assert_eq!(ingress.res_slot.try_get(), Ok(Some(Response::Ok(b"0"))));
@@ -83,10 +83,10 @@ use crate::{Digester, MemoryError, NoticeQueue, Refusal, ResponseSlot, LONGEST_I
 /// sends such a byte inside a line too, and a piece that ends there is heard as a prompt:
 ///
 /// ```
-/// use walumbeex::{Digester, Ingress, Response};
+/// use walumbeex::{Digester, Ingress, Response, NOTICE_RECORD};
 ///
 /// let answer = b"AT+CGDCONT?\r\r\n+CGDCONT: 1,\"IP\",\"me@apn\"\r\n\r\nOK\r\n";
-/// let (mut buf, mut slot, mut waiting) = ([0; 256], [0; 128], [0; 132]);
+/// let (mut buf, mut slot, mut waiting) = ([0; 256], [0; 128], [0; NOTICE_RECORD]);
 /// let mut ingress = Ingress::new(Digester::default(), &mut buf, &mut slot, &mut waiting).unwrap();
 /// ingress.try_write(answer).unwrap();
 /// assert_eq!(ingress.res_slot.try_get(), Ok(Some(Response::Ok(b"+CGDCONT: 1,\"IP\",\"me@apn\""))));
@@ -114,9 +114,9 @@ use crate::{Digester, MemoryError, NoticeQueue, Refusal, ResponseSlot, LONGEST_I
 ///    is still no room, [`clear`](Ingress::clear): nothing in the buffer can be finished by a further byte.
 ///
 /// ```
-/// use walumbeex::{Digester, Ingress, Refusal, Table, Urc};
+/// use walumbeex::{Digester, Ingress, Refusal, Table, Urc, NOTICE_RECORD};
 ///
-/// let (mut buf, mut answer, mut waiting) = ([0; 64], [0; 64], [0; 132]);
+/// let (mut buf, mut answer, mut waiting) = ([0; 64], [0; 64], [0; NOTICE_RECORD]);
 /// let digester = Digester::new(Table::new(b"UR\x04RING").unwrap());
 /// let mut ingress = Ingress::new(digester, &mut buf, &mut answer, &mut waiting).unwrap();
 ///
@@ -157,11 +157,12 @@ impl<'a> Ingress<'a> {
 
     /// An ingress that goes on from ten numbers that [`state`](Ingress::state) gave, over memory that was kept, such as
     /// over a restart. Any ten numbers may be given: where they don't fit the memory, the calls refuse with 3. Nine that were kept
-    /// before version 0.5.0 are ten with 0 behind them. Memory that can never work is an error, as at [`new`](Ingress::new).
+    /// before version 0.5.0 are ten with 0 behind them. A queue that was kept before version 0.6.0 has another form:
+    /// [`convert_queue`](crate::convert_queue) comes first. Memory that can never work is an error, as at [`new`](Ingress::new).
     ///
     /// ```
-    /// use walumbeex::{Digester, Ingress};
-    /// let (mut buf, mut answer, mut waiting) = ([0; 64], [0; 64], [0; 132]);
+    /// use walumbeex::{Digester, Ingress, NOTICE_RECORD};
+    /// let (mut buf, mut answer, mut waiting) = ([0; 64], [0; 64], [0; NOTICE_RECORD]);
     /// let mut ingress = Ingress::new(Digester::default(), &mut buf, &mut answer, &mut waiting).unwrap();
     /// ingress.try_write(b"\r\nO").unwrap();
     /// let kept = ingress.state();
@@ -205,8 +206,8 @@ impl<'a> Ingress<'a> {
     /// [`try_advance`](Ingress::try_advance).
     ///
     /// ```
-    /// # use walumbeex::{Digester, Ingress};
-    /// # let (mut buf, mut answer, mut waiting) = ([0; 64], [0; 64], [0; 132]);
+    /// # use walumbeex::{Digester, Ingress, NOTICE_RECORD};
+    /// # let (mut buf, mut answer, mut waiting) = ([0; 64], [0; 64], [0; NOTICE_RECORD]);
     /// # let mut ingress = Ingress::new(Digester::default(), &mut buf, &mut answer, &mut waiting).unwrap();
     /// ingress.write_buf()[..6].copy_from_slice(b"\r\nOK\r\n");
     /// ingress.try_advance(6).unwrap();

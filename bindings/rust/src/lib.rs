@@ -15,6 +15,8 @@
 //! | `UrcChannel` | [`NoticeQueue`] at [`Ingress::notices`], [`Urc`] |
 //! | `ingress::Error` | [`Refusal`]; of a reset [`ResetRefusal`] |
 //!
+//! A queue that was kept before version 0.6.0 has records of another form: [`convert_queue`] reads it.
+//!
 //! There is no allocation, no thread and no global state: all memory is lent by the caller. No call panics, but for one reason:
 //! the archive that was linked is of another version than this crate.
 //!
@@ -41,8 +43,8 @@ mod table;
 pub use digest::{ConnectionError, DigestResult, Digester, InternalError, Urc, LONGEST_INPUT, RING};
 pub use ingress::Ingress;
 pub use memory::MemoryError;
-pub use notice_queue::{NoticeQueue, LONGEST_NOTICE, MOST_NOTICES, NOTICE_RECORD};
-pub use refusal::{Refusal, ResetRefusal};
+pub use notice_queue::{convert_queue, NoticeQueue, LONGEST_NOTICE, MOST_NOTICES, NOTICE_RECORD, OLD_NOTICE_RECORD};
+pub use refusal::{ConvertRefusal, Refusal, ResetRefusal};
 pub use response_slot::{Response, ResponseSlot};
 pub use table::{Table, TableBuilder, TableError, LONGEST_TEXT, MOST_RECORDS};
 

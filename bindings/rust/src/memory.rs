@@ -10,14 +10,14 @@ use core::fmt;
 /// assert_eq!(refused, MemoryError::Buffer(4097));
 ///
 /// let refused = Ingress::new(Digester::default(), &mut buf[..64], &mut answer, &mut waiting[1..]).unwrap_err();
-/// assert_eq!(refused.to_string(), "a notice queue needs 132 bytes or more, and this has 131");
+/// assert_eq!(refused.to_string(), "a notice queue needs 1,029 bytes or more, and this has 1028");
 /// ```
 #[derive(Debug, Clone, Copy, PartialEq, Eq)]
 pub enum MemoryError {
     /// An ingress' buffer has 1 to 4,096 bytes; this has so many. A longer one is refused by every call, and into none no byte
     /// fits.
     Buffer(usize),
-    /// A notice queue's memory has at least one record of 132 bytes; this has so many.
+    /// A notice queue's memory has at least one record of 1,029 bytes; this has so many.
     Queue(usize),
 }
 
@@ -25,7 +25,7 @@ impl fmt::Display for MemoryError {
     fn fmt(&self, f: &mut fmt::Formatter<'_>) -> fmt::Result {
         match self {
             Self::Buffer(n) => write!(f, "a buffer has 1 to 4,096 bytes, and this has {n}"),
-            Self::Queue(n) => write!(f, "a notice queue needs 132 bytes or more, and this has {n}"),
+            Self::Queue(n) => write!(f, "a notice queue needs 1,029 bytes or more, and this has {n}"),
         }
     }
 }

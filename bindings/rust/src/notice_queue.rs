@@ -1,11 +1,13 @@
 use crate::digest::part;
 use crate::ffi::{self, State, COUNT, NUMBERS, QUEUE_LOST};
-use crate::{MemoryError, Refusal, Urc};
+use crate::{ConvertRefusal, MemoryError, Refusal, Urc};
 
 /// How many bytes of memory one notice takes in a queue.
-pub const NOTICE_RECORD: usize = 132;
+pub const NOTICE_RECORD: usize = 1029;
+/// How many it took before version 0.6.0: what [`convert_queue`] reads.
+pub const OLD_NOTICE_RECORD: usize = 132;
 /// The longest notice that a queue holds; a longer one is lost, and counted.
-pub const LONGEST_NOTICE: usize = 128;
+pub const LONGEST_NOTICE: usize = 1024;
 /// The most notices that a queue holds, however much memory it has.
 pub const MOST_NOTICES: usize = 16;
 
@@ -53,7 +55,7 @@ impl<'m> NoticeQueue<'m> {
         Ok(Some(Urc { record: record as u8, payload: part(self.mem, place, len) }))
     }
 
-    /// Puts a notice in. One of 0 or over 128 bytes is lost, and counted. Refused with 5 where the queue is full, and with
+    /// Puts a notice in. One of 0 or over 1,024 bytes is lost, and counted. Refused with 5 where the queue is full, and with
     /// 3 where the numbers don't fit the memory.
     pub fn put(&mut self, record: u8, payload: &[u8]) -> Result<(), Refusal> {
         ffi::queue_put(&mut self.state, self.mem, record, payload)
@@ -83,4 +85,48 @@ impl<'m> NoticeQueue<'m> {
     pub const fn lost(&self) -> u64 {
         self.state[QUEUE_LOST]
     }
+}
+
+/// Makes a queue of this version of one that was kept before version 0.6.0, for a program that restarts: it writes the same
+/// notices, in the same order, into other memory.
+///
+/// `old` are the ten numbers that [`Ingress::state`](crate::Ingress::state) gave (nine of before version 0.5.0 are ten with 0
+/// behind them), and `old_mem` is the queue's memory, of the length that it had: [`OLD_NOTICE_RECORD`] bytes a notice. The answer
+/// is the same numbers with the queue's start made 0, for [`Ingress::with_state`](crate::Ingress::with_state). The notices stand
+/// at the front of `mem`, oldest first; no other byte of it is touched, those behind a notice in its record included.
+///
+/// ```
+/// use walumbeex::{convert_queue, Digester, Ingress, Table, Urc, NOTICE_RECORD, OLD_NOTICE_RECORD};
+///
+/// // What the program before kept: half a line in the buffer, and two notices in a ring of two, the older in its second place.
+/// let (mut buf, mut answer, mut old_waiting) = ([0; 64], [0; 64], [0; 2 * OLD_NOTICE_RECORD]);
+/// buf[..5].copy_from_slice(b"\r\n+UU");
+/// old_waiting[OLD_NOTICE_RECORD..][..14].copy_from_slice(b"UR\x00\x0A+UUSORD: 1");
+/// old_waiting[..14].copy_from_slice(b"UR\x00\x0A+UUSORD: 2");
+/// let kept = [5, 0, 1, 0, 0, 0, 1, 2, 0, 7];
+///
+/// let mut waiting = [0; 3 * NOTICE_RECORD];
+/// let state = convert_queue(&kept, &old_waiting, &mut waiting).unwrap();
+/// assert_eq!(state, [5, 0, 1, 0, 0, 0, 0, 2, 0, 7]);
+///
+/// // The program goes on: what waited comes first.
+/// let digester = Digester::new(Table::new(b"UR\x07+UUSORD").unwrap());
+/// let mut ingress = Ingress::with_state(digester, state, &mut buf, &mut answer, &mut waiting).unwrap();
+/// assert_eq!(ingress.notices.take(), Ok(Some(Urc { record: 0, payload: b"+UUSORD: 1" })));
+/// ingress.try_write(b"SORD: 3\r\n").unwrap();
+/// assert_eq!(ingress.notices.take(), Ok(Some(Urc { record: 0, payload: b"+UUSORD: 2" })));
+/// assert_eq!(ingress.notices.take(), Ok(Some(Urc { record: 0, payload: b"+UUSORD: 3" })));
+/// assert_eq!(ingress.notices.take(), Ok(None));
+/// ```
+///
+/// Refused with 3 where `old` and `old_mem` are no queue of the old form, for which every notice that is held is looked at; then
+/// with 13 where `mem` is too short for them. What to do at each stands at [`ConvertRefusal`]. Where no notice is held, any `mem`
+/// is good, also one below the record that an [`Ingress`](crate::Ingress) needs.
+///
+/// Convert before anything is put into the queue, and once: keep beside the numbers which form the queue is of. The bytes alone
+/// don't tell: where the start isn't 0, a call that is given the other form looks for a notice in the midst of one.
+pub fn convert_queue(old: &[u64; 10], old_mem: &[u8], mem: &mut [u8]) -> Result<[u64; 10], ConvertRefusal> {
+    let mut state: State = *old;
+    ffi::queue_convert(old, old_mem, &mut state, mem)?;
+    Ok(state)
 }

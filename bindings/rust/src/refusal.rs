@@ -1,10 +1,11 @@
+use crate::NOTICE_RECORD;
 use core::fmt;
 
 /// Why a call was refused. Each refusal has a number, and is given exactly when its condition holds; where several hold,
 /// the lowest is given.
 ///
 /// All but [`QueueFull`](Refusal::QueueFull) leave every byte and every number as it stood. A reset of the slot has refusals of its
-/// own, [`ResetRefusal`].
+/// own, [`ResetRefusal`], and so has the conversion of a queue, [`ConvertRefusal`].
 ///
 /// ```
 /// use walumbeex::Refusal;
@@ -24,12 +25,13 @@ pub enum Refusal {
     },
     /// 3: numbers that don't fit their memory: the end is past the buffer, the stored length past the slot's memory, the
     /// queue's start or count outside its bounds, or the record to be taken is damaged. Seen only with a state that was
-    /// put together by hand ([`Ingress::with_state`](crate::Ingress::with_state)).
+    /// put together by hand ([`Ingress::with_state`](crate::Ingress::with_state)), or with a queue that was kept before version
+    /// 0.6.0 and wasn't [converted](crate::convert_queue).
     BadState,
     /// 4: the commit is more than the room in the buffer.
     NoRoom,
-    /// 5: a notice meets a full queue. What came before it is delivered; the notice and what lay with it are still in the
-    /// buffer. Take a notice, then `try_advance(0)`.
+    /// 5: a notice of 1 to 1,024 bytes meets a full queue. What came before it is delivered; the notice and what lay with it are
+    /// still in the buffer. Take a notice, then `try_advance(0)`.
     QueueFull {
         /// How many of the bytes offered were taken: never offer them again. For `try_write` the bytes of the piece that
         /// are consumed or in the buffer, for `try_advance` the commit, for `NoticeQueue::put` 0.
@@ -114,3 +116,54 @@ impl fmt::Display for ResetRefusal {
 }
 
 impl core::error::Error for ResetRefusal {}
+
+/// Why a [conversion](crate::convert_queue) was refused. Either leaves both memories as they stood; where both hold,
+/// [`BadState`](ConvertRefusal::BadState) is given.
+///
+/// ```
+/// use walumbeex::{convert_queue, ConvertRefusal, NOTICE_RECORD, OLD_NOTICE_RECORD};
+/// let mut old_mem = [0; OLD_NOTICE_RECORD];
+/// old_mem[..8].copy_from_slice(b"UR\x00\x04RING");
+/// let kept = [0, 0, 1, 0, 0, 0, 0, 1, 0, 0];
+/// let refusal = convert_queue(&kept, &old_mem, &mut [0; NOTICE_RECORD - 1]).unwrap_err();
+/// assert_eq!(refusal, ConvertRefusal::TooFew { held: 1 });
+/// assert_eq!(refusal.number(), 13);
+/// assert_eq!(refusal.to_string(), "refused 13: the new memory is too short: the notices held (1) take 1029 bytes");
+/// ```
+#[derive(Debug, Clone, Copy, PartialEq, Eq)]
+pub enum ConvertRefusal {
+    /// 3: what was kept is no queue of the old form: its start or count is outside the bounds of its memory, or a notice that it
+    /// holds has a wrong mark or length. See whether it was read back as it was kept, and whether it is converted already. Where
+    /// its notices can't be had, go on without them: with 0 for its start and count, the state's numbers 6 and 7, it is empty.
+    BadState,
+    /// 13: the new memory holds fewer notices than the old queue holds. Nothing is lost: lend more, and convert then.
+    TooFew {
+        /// How many the old queue holds: it takes [`NOTICE_RECORD`](crate::NOTICE_RECORD) bytes for each.
+        held: usize,
+    },
+}
+
+impl ConvertRefusal {
+    /// The refusal's number, 3 or 13.
+    #[must_use]
+    pub const fn number(&self) -> u8 {
+        match self {
+            Self::BadState => Refusal::BadState.number(),
+            Self::TooFew { .. } => 13,
+        }
+    }
+}
+
+impl fmt::Display for ConvertRefusal {
+    fn fmt(&self, f: &mut fmt::Formatter<'_>) -> fmt::Result {
+        write!(f, "refused {}: ", self.number())?;
+        match self {
+            Self::BadState => f.write_str("the numbers and the memory that were kept are no queue of the old form"),
+            Self::TooFew { held } => {
+                write!(f, "the new memory is too short: the notices held ({held}) take {} bytes", held * NOTICE_RECORD)
+            }
+        }
+    }
+}
+
+impl core::error::Error for ConvertRefusal {}

@@ -79,9 +79,9 @@ pub enum Response<'a> {
 /// 1 that arrives behind the reset for command 2 is stored, and bears 2:
 ///
 /// ```
-/// use walumbeex::{Digester, Ingress, ResetRefusal, Response};
+/// use walumbeex::{Digester, Ingress, ResetRefusal, Response, NOTICE_RECORD};
 ///
-/// let (mut buf, mut answer, mut waiting) = ([0; 64], [0; 64], [0; 132]);
+/// let (mut buf, mut answer, mut waiting) = ([0; 64], [0; 64], [0; NOTICE_RECORD]);
 /// let mut ingress = Ingress::new(Digester::default(), &mut buf, &mut answer, &mut waiting).unwrap();
 /// ingress.res_slot.reset(1).unwrap();
 /// // Command 1 is sent, and no answer comes; then command 2.

@@ -95,7 +95,7 @@ fn fifteen_the_number_already_in_force() {
             assert_eq!(format!("{:?}", ingress.res_slot.try_get_with_serial()), held, "{serial}");
             assert_eq!(ingress.pending(), b"\r\nhalf");
             assert_eq!(slot_mem, *b"0010efgh", "{serial}");
-            assert_eq!(&queue_mem[..8], b"UR\x00\x04RING", "{serial}");
+            assert_eq!(&queue_mem[..9], b"UX\x00\x00\x04RING", "{serial}");
         }
     }
 }

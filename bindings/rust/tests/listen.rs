@@ -132,9 +132,18 @@ fn bytes_that_nothing_finishes_are_dropped_and_it_goes_on() {
 
 #[test]
 fn a_notice_that_no_queue_holds_is_said_to_be_lost() {
-    let said = listen(&["-", "+CREG"], format!("\r\n+CREG: {}\r\n\r\nOK\r\n", "1".repeat(130)).as_bytes());
+    let said = listen(&["-", "+CREG"], format!("\r\n+CREG: {}\r\n\r\nOK\r\n", "1".repeat(1018)).as_bytes());
     assert_eq!(String::from_utf8_lossy(&said.stdout), "ok          \n");
     assert_eq!(String::from_utf8_lossy(&said.stderr), "listen: 0 answers and 1 notices were lost\n");
+}
+
+/// The longest that it holds, and more of them than it holds at once.
+#[test]
+fn notices_of_1024_bytes_are_printed() {
+    let line = format!("+CREG: {}", "1".repeat(1017));
+    let said = listen(&["-", "+CREG"], format!("\r\n{line}\r\n").repeat(5).as_bytes());
+    assert_eq!(String::from_utf8_lossy(&said.stdout), format!("notice      {line}\n").repeat(5));
+    assert_eq!(said.status.code(), Some(0));
 }
 
 /// A text that something other than `:` or CRLF follows is no notice.

@@ -2,7 +2,9 @@
 //! digesting by hand makes of them.
 
 use std::collections::VecDeque;
-use walumbeex::{DigestResult, Digester, Ingress, InternalError, Refusal, ResetRefusal, Response, Table, NOTICE_RECORD, RING};
+use walumbeex::{
+    DigestResult, Digester, Ingress, InternalError, Refusal, ResetRefusal, Response, Table, LONGEST_NOTICE, NOTICE_RECORD, RING,
+};
 
 /// A small generator (splitmix64).
 struct Random(u64);
@@ -155,7 +157,7 @@ impl Hand<'_> {
             match result {
                 DigestResult::None => {}
                 DigestResult::Urc(urc) => {
-                    if urc.payload.is_empty() || urc.payload.len() > 128 {
+                    if urc.payload.is_empty() || urc.payload.len() > LONGEST_NOTICE {
                         self.queue_lost += 1;
                     } else if self.queue.len() == self.queue_size {
                         return Err(Refusal::QueueFull { taken: bytes.len() });
@@ -205,6 +207,7 @@ struct Met {
     rings: u64,
     notices: u64,
     notices_lost: u64,
+    long_notices: u64,
     full: u64,
     no_room: u64,
     cleared: u64,
@@ -235,7 +238,10 @@ fn run(seed: u64, met: &mut Met) {
         1 => (Digester::connect(table), &ITEMS[..]),
         _ => (Digester::numeric(), &V0_ITEMS[..]),
     };
-    let (size, slot_size, queue_size) = (1 + r.below(300), r.below(40), 1 + r.below(3));
+    // Now and then a buffer for the longest notices, of which there are more then, in longer pieces.
+    let long = r.below(4) == 0;
+    let size = if long { 1024 + r.below(1000) } else { 1 + r.below(300) };
+    let (slot_size, queue_size) = (r.below(40), 1 + r.below(3));
     let mut memory = (vec![0; size], vec![0; slot_size], vec![0; queue_size * NOTICE_RECORD + r.below(NOTICE_RECORD)]);
     let mut ingress = Ingress::new(digester, &mut memory.0, &mut memory.1, &mut memory.2).unwrap();
     let mut hand = Hand {
@@ -254,11 +260,11 @@ fn run(seed: u64, met: &mut Met) {
 
     let mut bytes = Vec::new();
     for _ in 0..r.below(30) {
-        match r.below(12) {
+        match r.below(if long { 6 } else { 12 }) {
             0 => bytes.extend((0..r.below(6)).map(|_| r.next() as u8)),
             1 => {
                 bytes.extend_from_slice(b"\r\n+UUSORD: ");
-                bytes.resize(bytes.len() + 110 + r.below(20), b'x');
+                bytes.resize(bytes.len() + if long { 990 } else { 110 } + r.below(50), b'x');
                 bytes.extend_from_slice(b"\r\n");
             }
             _ => bytes.extend_from_slice(r.one_of(items)),
@@ -270,7 +276,8 @@ fn run(seed: u64, met: &mut Met) {
     while !rest.is_empty() && turns < 500 {
         turns += 1;
         met.calls += 1;
-        let piece = &rest[..usize::min(rest.len(), 1 + r.below(if turns % 5 == 0 { 60 } else { 7 }))];
+        let longest = if long { 400 } else { 7 };
+        let piece = &rest[..usize::min(rest.len(), 1 + r.below(if turns % 5 == 0 { 60 } else { longest }))];
         match r.below(8) {
             // By the buffer and a commit; what doesn't fit comes later.
             0..=2 => {
@@ -300,6 +307,7 @@ fn run(seed: u64, met: &mut Met) {
                 None => assert_eq!(hand.queue.pop_front(), None, "seed {seed}"),
                 Some(urc) => {
                     met.notices += 1;
+                    met.long_notices += u64::from(urc.payload.len() > 900);
                     met.rings += u64::from(urc.record == RING);
                     assert_eq!(hand.queue.pop_front(), Some((urc.record, urc.payload.to_vec())), "seed {seed}");
                 }
@@ -348,7 +356,8 @@ fn pieces_through_the_ingress_are_what_digesting_by_hand_makes_of_them() {
     }
     println!("fresh seeds from {fresh}: {met:?}");
     let answers = [met.answers, met.digits, met.digits_left_out, met.answers_lost, met.texts, met.resets, met.repeated];
-    let all = [&answers[..], &[met.notices, met.rings, met.notices_lost, met.full, met.no_room, met.cleared]].concat();
+    let notices = [met.notices, met.long_notices, met.rings, met.notices_lost, met.full];
+    let all = [&answers[..], &notices, &[met.no_room, met.cleared]].concat();
     assert!(all.iter().all(|&n| n > 100), "too few of something: {met:?}");
 }
 

@@ -1,8 +1,9 @@
-//! Refusals 1 to 5: exactly when, what they carry, and what they leave. A reset's 15 is in late.rs.
+//! Refusals 1 to 5: exactly when, what they carry, and what they leave. A conversion's 13 is in convert.rs, a reset's 15 in
+//! late.rs.
 
 use walumbeex::{
     DigestResult, Digester, Ingress, MemoryError, NoticeQueue, Refusal, Response, ResponseSlot, Table, TableBuilder, TableError,
-    Urc, LONGEST_INPUT, MOST_RECORDS, NOTICE_RECORD,
+    Urc, LONGEST_INPUT, LONGEST_NOTICE, MOST_RECORDS, NOTICE_RECORD,
 };
 
 fn ring() -> Digester<'static> {
@@ -24,9 +25,10 @@ fn memory_that_can_never_work_is_refused_where_it_is_lent() {
     assert_eq!(new(1, NOTICE_RECORD), Ok(()));
     assert_eq!(new(LONGEST_INPUT + 1, NOTICE_RECORD), Err(MemoryError::Buffer(4097)));
     assert_eq!(new(0, NOTICE_RECORD), Err(MemoryError::Buffer(0)));
-    assert_eq!(new(1, NOTICE_RECORD - 1), Err(MemoryError::Queue(131)));
+    assert_eq!(new(1, NOTICE_RECORD - 1), Err(MemoryError::Queue(1028)));
     assert_eq!(new(0, 0), Err(MemoryError::Buffer(0)));
-    assert_eq!(NoticeQueue::new(&mut [0; 131]).unwrap_err(), MemoryError::Queue(131));
+    assert_eq!(NoticeQueue::new(&mut [0; 1028]).unwrap_err(), MemoryError::Queue(1028));
+    assert_eq!(NoticeQueue::new(&mut [0; 1029]).unwrap().capacity(), 1);
     let kept = Ingress::with_state(ring(), [0; 10], &mut [0; 8], &mut [], &mut []).map(|_| ());
     assert_eq!(kept, Err(MemoryError::Queue(0)));
 }
@@ -103,8 +105,18 @@ fn three_numbers_that_dont_fit() {
             assert_eq!(buf, [7; 8]);
         }
     }
-    // The record to be taken has a wrong mark, or a wrong length; another damaged record is no matter.
-    for (damage, byte, refused) in [(0, b'u', true), (3, 0, true), (3, 129, true), (132, b'u', false), (3, 128, false)] {
+    // The record to be taken, of 4 bytes, has a wrong mark (that of the old form too) or a wrong length; another damaged record is
+    // no matter. At 3 is the length's high byte.
+    for (damage, byte, refused) in [
+        (0, b'u', true),
+        (1, b'R', true),
+        (4, 0, true),
+        (4, 255, false),
+        (3, 3, false),
+        (3, 4, true),
+        (NOTICE_RECORD, b'u', false),
+        (NOTICE_RECORD + 3, 255, false),
+    ] {
         let mut queue_mem = [0; 2 * NOTICE_RECORD];
         let mut queue = NoticeQueue::new(&mut queue_mem).unwrap();
         queue.put(0, b"RING").unwrap();
@@ -173,14 +185,60 @@ fn five_a_notice_meets_a_full_queue() {
 fn a_notice_that_no_queue_holds_is_lost() {
     let mut queue_mem = [0; NOTICE_RECORD];
     let mut queue = NoticeQueue::new(&mut queue_mem).unwrap();
-    queue.put(0, &[b'a'; 128]).unwrap();
+    queue.put(0, &[b'a'; LONGEST_NOTICE]).unwrap();
     // Lost also where the queue is full.
-    queue.put(0, &[b'a'; 129]).unwrap();
+    queue.put(0, &[b'a'; LONGEST_NOTICE + 1]).unwrap();
     queue.put(0, b"").unwrap();
     assert_eq!((queue.len(), queue.lost(), queue.capacity()), (1, 2, 1));
-    assert_eq!(queue.take().unwrap().unwrap().payload, &[b'a'; 128]);
+    assert_eq!(queue.take().unwrap().unwrap().payload, &[b'a'; 1024]);
     assert!(queue.is_empty());
     assert_eq!(NoticeQueue::new(&mut vec![0; 17 * NOTICE_RECORD]).unwrap().capacity(), 16);
+}
+
+/// The mark, the table number, the length in two bytes, high byte first, the payload; no other byte changes.
+#[test]
+fn a_record_in_the_queues_memory() {
+    for (len, head) in [
+        (1, b"UX\x07\x00\x01"),
+        (128, b"UX\x07\x00\x80"),
+        (129, b"UX\x07\x00\x81"),
+        (255, b"UX\x07\x00\xFF"),
+        (256, b"UX\x07\x01\x00"),
+        (900, b"UX\x07\x03\x84"),
+        (1024, b"UX\x07\x04\x00"),
+    ] {
+        let payload = vec![b'p'; len];
+        let mut queue_mem = [b'm'; 2 * NOTICE_RECORD];
+        let mut expected = queue_mem;
+        for record in expected.chunks_mut(NOTICE_RECORD) {
+            record[..5].copy_from_slice(head);
+            record[5..][..len].copy_from_slice(&payload);
+        }
+        let mut queue = NoticeQueue::new(&mut queue_mem).unwrap();
+        queue.put(7, &payload).unwrap();
+        queue.put(7, &payload).unwrap();
+        for _ in 0..2 {
+            assert_eq!(queue.take(), Ok(Some(Urc { record: 7, payload: &payload })), "{len} bytes");
+        }
+        assert_eq!(queue.take(), Ok(None));
+        assert_eq!(queue.lost(), 0);
+        assert_eq!(queue_mem, expected, "{len} bytes");
+    }
+}
+
+/// As long as a notice can be, through an ingress: the digest hears the line, and the queue decides.
+#[test]
+fn an_ingress_delivers_a_notice_of_1024_bytes() {
+    for (len, delivered) in [(128, true), (129, true), (900, true), (1024, true), (1025, false)] {
+        let line = [&b"RING:"[..], &vec![b'x'; len - 5]].concat();
+        let (mut buf, mut slot_mem, mut queue_mem) = ([0; 2048], [0; 8], [0; NOTICE_RECORD]);
+        let mut ingress = Ingress::new(ring(), &mut buf, &mut slot_mem, &mut queue_mem).unwrap();
+        let piece = [b"\r\n", &line[..], b"\r\n"].concat();
+        assert_eq!(ingress.try_write(&piece), Ok(piece.len()));
+        assert_eq!((ingress.notices.len(), ingress.notices.lost()), if delivered { (1, 0) } else { (0, 1) }, "{len} bytes");
+        assert_eq!(ingress.notices.take(), Ok(delivered.then_some(Urc { record: 0, payload: &line })), "{len} bytes");
+        assert_eq!(ingress.pending(), b"");
+    }
 }
 
 #[test]

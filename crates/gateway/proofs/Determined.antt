@@ -40,6 +40,9 @@ wx-queue-put-one κs a r q s t h g = turn-one _ r q _ _ _ _ h g
 pub wx-queue-take-one : Alike calls.wx_queue_take.Reads.Post (λ κs r q s t. (r ≡ q) × ((s .0 .now ≡ t .0 .now) × (s .1 .1 .0 .now ≡ t .1 .1 .0 .now)))
 wx-queue-take-one κs a r q s t h g = took-one _ r q _ _ _ _ h g
 
+pub wx-queue-convert-one : Alike calls.wx_queue_convert.Reads.Post (λ κs r q s t. (r ≡ q) × ((s .1 .1 .0 .now ≡ t .1 .1 .0 .now) × (s .1 .1 .1 .0 .now ≡ t .1 .1 .1 .0 .now)))
+wx-queue-convert-one κs a r q s t h g = turn-one _ r q _ _ _ _ h g
+
 pub wx-ingress-advance-one : Alike calls.wx_ingress_advance.Reads.Post (λ κs r q s t. (r ≡ q) × ((s .0 .now ≡ t .0 .now) × ((s .1 .1 .1 .1 .1 .1 .1 .0 .now ≡ t .1 .1 .1 .1 .1 .1 .1 .0 .now) × ((s .1 .1 .1 .1 .0 .now ≡ t .1 .1 .1 .1 .0 .now) × ((s .1 .1 .1 .1 .1 .0 .now ≡ t .1 .1 .1 .1 .1 .0 .now) × (s .1 .1 .1 .1 .1 .1 .0 .now ≡ t .1 .1 .1 .1 .1 .1 .0 .now))))))
 wx-ingress-advance-one κs a r q s t h g = whole-one _ r q _ _ _ _ _ _ _ _ _ _ h g
 

@@ -52,7 +52,7 @@ numbersBy f (refused n w) v = v
 abbrev pub resetSaid : Outcome Slot → List ℕ → Call
 resetSaid o v = call (numberOf o) (numbersBy withSlot o v)
 
--- a signal or a put: what it returns, and what it leaves of the state's numbers and of the memory
+-- a signal, a put or a conversion (R-9): what it returns, and what it leaves of the state's numbers and of the memory
 pub record Turn : Type 0 where
   pub number : ℕ
   pub state : List ℕ

@@ -17,10 +17,9 @@ use Rattle.slot.specs.Laws as slot-laws
 use Rattle.slot.specs.declared.Slot.{Slot}
 use Rattle.slot.specs.declared.Turned.{Turned}
 use Rattle.slot.specs.declared.Reset.{Reset}
-use Rattle.queue.specs.Queue.{Got, ours, putInto}
+use Rattle.queue.specs.Queue.{Got, ours}
 use Rattle.queue.specs.Queue as queues
 use Rattle.queue.specs.declared.Queue.{Queue}
-use Rattle.queue.specs.declared.Put.{Put}
 use Rattle.queue.specs.declared.Taken.{Taken}
 use Rattle.turn.specs.Turn.{world}
 use Rattle.ingress.specs.Ingress.{Result, advanceSays, advanced, result, writeSays, written, taking}
@@ -76,12 +75,12 @@ reset-is v m n s es r e x q u f =
     ∙ ap (λ (y : Reset). resetSaid (slots.resetting y) v) (sym q)
     ∙ ap (λ (z : Outcome Slot). resetSaid z v) (e ∙ ap (λ (y : Slot). slots.wasReset y n m) es)
 
--- a put: likewise
-pub put-is : (v p m : List ℕ) (n : ℕ) (s : Queue) → s ≡ queueOf v → (r : Put) (k : List ℕ) → queues.after (queues.outcome r) k ≡ putInto ours s n p m → (x : Put) → r ≡ x → (u : List ℕ) → u ≡ numbersBy withQueue (queues.outcome x) v → turn (numberOf (queues.outcome x)) u k ≡ putSaid (putInto ours (queueOf v) n p m) v
-put-is v p m n s es r k e x q u f =
-    ap (λ (z : List ℕ). turn (numberOf (queues.outcome x)) z k) f
-    ∙ ap (λ (y : Put). putSaid (queues.after (queues.outcome y) k) v) (sym q)
-    ∙ ap (λ (z : queues.After). putSaid z v) (e ∙ ap (λ (y : Queue). putInto ours y n p m) es)
+-- a put or a conversion: likewise, by what the call leaves of a queue, and what its answers' outcomes are
+pub queued-is : {R : Type 0} (outcome : R → Outcome Queue) (leaves : Queue → queues.After) (v : List ℕ) (s t : Queue) → s ≡ t → (r : R) (k : List ℕ) → queues.after (outcome r) k ≡ leaves s → (x : R) → r ≡ x → (u : List ℕ) → u ≡ numbersBy withQueue (outcome x) v → turn (numberOf (outcome x)) u k ≡ putSaid (leaves t) v
+queued-is {R} outcome leaves v s t es r k e x q u f =
+    ap (λ (z : List ℕ). turn (numberOf (outcome x)) z k) f
+    ∙ ap (λ (y : R). putSaid (queues.after (outcome y) k) v) (sym q)
+    ∙ ap (λ (z : queues.After). putSaid z v) (e ∙ ap leaves es)
 
 pub take-is : (v o m : List ℕ) (s : Queue) → s ≡ queueOf v → (r : Taken) → queues.taking r ≡ queues.taken ours s m → (x : Taken) → r ≡ x → (u : List ℕ) → u ≡ numbersBy withGot (queues.taking x) v → (k : List ℕ) → k ≡ laid (valuesOf gotValues (queues.taking x)) o → took (numberOf (queues.taking x)) u k ≡ takeSaid (queues.taken ours (queueOf v) m) v o
 take-is v o m s es r e x q u f k g =

@@ -8,11 +8,13 @@ ghost use Rattle.text.specs.Text.{partAt};
 ghost use Rattle.table.specs.Table.{ruling};
 ghost use Rattle.selector.specs.Selector.{choice, digest};
 ghost use Rattle.slot.specs.Slot.{newSlot, signalled, wasReset, wasRead, readable};
-ghost use Rattle.queue.specs.Queue.{ours, newQueue, capacityOf, putInto, taken};
+ghost use Rattle.queue.specs.Queue.{ours, older, newQueue, capacityOf, putInto, taken};
+ghost use Rattle.convert.specs.Convert.{converted};
 ghost use Rattle.turn.specs.Turn.{world};
 ghost use Rattle.ingress.specs.Ingress.{advanceSays, advanced, writeSays, written, cleared};
 ghost use Rattle.numbers.specs.Numbers.{selectorOf, answerOf, slotOf, queueOf, stateOf, withEnd, withSlot, withQueue, laid, answerValues};
 ghost use Rattle.gateway.specs.Gateway.{call, said, countValues, partValues, resetSaid, turn, signalSaid, putSaid, readValues, took, takeSaid, leftSaid, whole, wholeSaid, noValues};
+use convert::Converted;
 use digest::Digested;
 use ingress::Advanced;
 use ingress::Written;
@@ -231,6 +233,26 @@ pub extern "C" fn wx_queue_take(state: &mut [u64; NUMBERS], mem: &[u8], out: &mu
     }
 }
 
+// Converts a queue in the old form (R-9), whose numbers are those of `old`, into `mem`; the state's queue is then the new one. A gateway that restarts calls it once.
+#[no_mangle]
+pub extern "C" fn wx_queue_convert(
+    old: &[u64; NUMBERS],
+    old_mem: &[u8],
+    state: &mut [u64; NUMBERS],
+    mem: &mut [u8],
+) -> u32
+    ensures { λ r. ⌜ turn r (now (state .exit)) (now (mem .exit)) ≡ putSaid (converted older ours (queueOf (now (old .entry))) (now («old_mem» .entry)) (now (mem .entry))) (now (state .entry)) ⌝ }
+{
+    match convert::convert(numbers::queue_of(old), old_mem, mem) {
+        Converted::Is(next) => {
+            numbers::put_queue(state, next);
+            0
+        }
+        Converted::Bad => 3,
+        Converted::TooFew => 13,
+    }
+}
+
 // What an advance leaves of the state's numbers, and its number. It is a function of its own since the three memories would be carried along each way out.
 fn lay_advanced(state: &mut [u64; NUMBERS], out: &mut [u64; OUT], what: Advanced) -> u32
     ensures { λ r. ⌜ took r (now (state .exit)) (now (out .exit)) ≡ leftSaid noValues (advanceSays (stateOf (now (state .entry))) what) (now (state .entry)) (now (out .entry)) ⌝ }
@@ -346,7 +368,7 @@ pub extern "C" fn wx_ingress_clear(state: &mut [u64; NUMBERS])
 // meaning of a number in either changes.
 #[no_mangle]
 pub extern "C" fn wx_version() -> u32
-    ensures { λ r. ⌜ r ≡ 5 ⌝ }
+    ensures { λ r. ⌜ r ≡ 6 ⌝ }
 {
-    5
+    6
 }

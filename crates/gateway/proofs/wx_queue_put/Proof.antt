@@ -1,6 +1,8 @@
 -- `wx_queue_put` meets its contract: it equals `Queue::put`.
 use mathlib.Core.Path.{refl}
-use Rattle.gateway.specs.Laws.{put-is}
+use Rattle.queue.specs.Queue.{ours, putInto, outcome}
+use Rattle.queue.specs.declared.Queue.{Queue}
+use Rattle.gateway.specs.Laws.{queued-is}
 use borrow.Author.Needs.{needs}
 use Rattle.gateway.proofs.wx_queue_put.Statement.{statement}
 use Rattle.gateway.proofs.wx_queue_put.Tie as tie
@@ -32,7 +34,7 @@ returns c =
     let queue-of = c .before .before .before .before .before .before .before .before .before .queue-of in
     let put = c .before .before .before .before .before .before .before .put in
     let x = c .before .before .before .next in
-    put-is (args .state .now) (args .payload .now) (args .mem .now) (args .number) _ (queue-of .ensures) _ _ (put .ensures) _ (x .given .1) _ (c .put-queue .ensures)
+    queued-is outcome (λ (y : Queue). putInto ours y (args .number) (args .payload .now) (args .mem .now)) (args .state .now) _ _ (queue-of .ensures) _ _ (put .ensures) _ (x .given .1) _ (c .put-queue .ensures)
 
 same-length-2 : tie.Need-same-length-2
 same-length-2 c = search needs
@@ -42,7 +44,7 @@ returns-2 c =
     let args = c .before .before .before .before .before .before .before .before .before .before .args in
     let queue-of = c .before .before .before .before .before .before .queue-of in
     let put = c .before .before .before .before .put in
-    put-is (args .state .now) (args .payload .now) (args .mem .now) (args .number) _ (queue-of .ensures) _ _ (put .ensures) _ (c .enum-told .given .1) (args .state .now) refl
+    queued-is outcome (λ (y : Queue). putInto ours y (args .number) (args .payload .now) (args .mem .now)) (args .state .now) _ _ (queue-of .ensures) _ _ (put .ensures) _ (c .enum-told .given .1) (args .state .now) refl
 
 same-length-3 : tie.Need-same-length-3
 same-length-3 c = search needs
@@ -52,7 +54,7 @@ returns-3 c =
     let args = c .before .before .before .before .before .before .before .before .before .before .args in
     let queue-of = c .before .before .before .before .before .before .queue-of in
     let put = c .before .before .before .before .put in
-    put-is (args .state .now) (args .payload .now) (args .mem .now) (args .number) _ (queue-of .ensures) _ _ (put .ensures) _ (c .enum-told2 .given .1) (args .state .now) refl
+    queued-is outcome (λ (y : Queue). putInto ours y (args .number) (args .payload .now) (args .mem .now)) (args .state .now) _ _ (queue-of .ensures) _ _ (put .ensures) _ (c .enum-told2 .given .1) (args .state .now) refl
 
 pub wx-queue-put-spec : {M : Type 1} → statement M
 wx-queue-put-spec =
