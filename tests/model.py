@@ -9,6 +9,7 @@ The notation of the lines stands in the head comment of crates/notation/src/lib.
 """
 import sys
 from functools import partial
+from typing import NamedTuple
 
 CRLF = b"\r\n"
 TRIM = b" \t\n\x0c\r"
@@ -301,7 +302,7 @@ def heard(mode, records, s):
     return digest_codes(s) if mode == "numeric" else digest(mode, records, s)
 
 
-# ---- slot, queue, ingress ----
+# ---- refusals ----
 
 class Refused(Exception):
     """A number of refusal, with the record at 2 and the bytes taken at a write's 5."""
@@ -310,6 +311,69 @@ class Refused(Exception):
         super().__init__(number)
         self.number, self.record, self.taken = number, record, taken
 
+
+# ---- the queue's memory, in either form ----
+
+class Layout(NamedTuple):
+    """A form of the queue's memory: how many bytes a record has, its mark, how many of its bytes are the payload's length, and the longest payload. A record is
+    the mark, the table number, the length, "high byte first" (R-9) where it has two bytes, and the payload, "(unused ones untouched)"."""
+
+    size: int
+    mark: bytes
+    width: int
+    longest: int
+
+    def capacity(self, memory):
+        """"the memory's length divided by 132, rounded down, at most 16"; R-9: "Capacity is worked out over 1,029, still at most 16\""""
+        return min(len(memory) // self.size, 16)
+
+    def fits(self, start, count, memory):
+        """Refusal 3 for start or count outside its bounds: "a start below the capacity (0 if that is 0) and a count up to it\""""
+        cap = self.capacity(memory)
+        if count > cap or (start >= cap if cap else start != 0):
+            raise Refused(3)
+
+    def is_length(self, length):
+        """Whether a record's payload may have this length: "1 to 128"; R-9: "the limit becomes 1,024\""""
+        return 1 <= length <= self.longest
+
+    def nth(self, start, n, memory):
+        """The place of the record n behind the start, round the ring; the capacity isn't 0."""
+        return self.size * ((start + n) % self.capacity(memory))
+
+    def read(self, memory, at):
+        """The table number and payload of the record there; refusal 3 for "a wrong mark or length"."""
+        mark, number, length = memory[at:at + 2], memory[at + 2], int.from_bytes(memory[at + 3:at + 3 + self.width], "big")
+        if mark != self.mark or not self.is_length(length):
+            raise Refused(3)
+        payload_at = at + 3 + self.width
+        return number, bytes(memory[payload_at:payload_at + length])
+
+    def write(self, memory, at, number, payload):
+        """Writes a record there; the bytes behind its payload stay."""
+        record = self.mark + bytes([number]) + len(payload).to_bytes(self.width, "big") + payload
+        memory[at:at + len(record)] = record
+
+
+OLD = Layout(132, b"UR", 1, 128)  # 01: "records of 132 bytes: mark `UR`, table number, payload length 1 to 128, 128 payload bytes"
+NEW = Layout(1029, b"UX", 2, 1024)  # R-9: "The record becomes 1,029 bytes: mark `UX`, table number, length in two bytes, high byte first, payload"
+
+
+def convert(start, count, lost, old, new):
+    """R-9: "a conversion reads a queue in the old form and writes one in the new form into other memory, from its front with start 0, other bytes untouched,
+    same notices, same order"; the new queue's start, count and lost count. "Refusals: 3 over every held record, then 13 when the new memory holds fewer records
+    than are held, both memories unchanged." Readings: 3 also for a start or count outside the old memory's bounds, as at any call that takes a queue; a record
+    that isn't held is not looked at; what the new memory holds is its capacity, so that any does where no record is held; the lost count goes over."""
+    OLD.fits(start, count, old)
+    held = [OLD.read(old, OLD.nth(start, n, old)) for n in range(count)]
+    if NEW.capacity(new) < count:
+        raise Refused(13)
+    for n, (number, payload) in enumerate(held):
+        NEW.write(new, NEW.nth(0, n, new), number, payload)
+    return 0, count, lost
+
+
+# ---- slot, queue, ingress ----
 
 class World:
     """The end, slot and queue by value, and the three memories; the mode, which each advance and write is told. Reading: R-3 has no word of the slot, so a
@@ -368,41 +432,31 @@ class World:
 
     # -- the queue --
 
-    def capacity(self):
-        """"the memory's length divided by 132, rounded down, at most 16\""""
-        return min(len(self.queue_mem) // 132, 16)
-
     def queue_fits(self):
         """Refusal 3 for start or count outside its bounds."""
-        cap = self.capacity()
-        if self.count > cap or (self.start >= cap if cap else self.start != 0):
-            raise Refused(3)
+        NEW.fits(self.start, self.count, self.queue_mem)
 
     def put(self, number, payload):
-        """A delivered notice: lost, refusal 5, or the record next after those held. Reading: lost comes before full."""
-        if not 1 <= len(payload) <= 128:
+        """A delivered notice: lost, refusal 5, or the record next after those held. R-9 amends "the lost-notice rule and refusals 3 and 5": 1,024 bytes are the
+        most in all of them. Reading: lost comes before full."""
+        if not NEW.is_length(len(payload)):
             self.queue_lost = min(self.queue_lost + 1, MOST)
             return
-        if self.count == self.capacity():
+        if self.count == NEW.capacity(self.queue_mem):
             raise Refused(5)
-        at = 132 * ((self.start + self.count) % self.capacity())
-        record = b"UR" + bytes([number, len(payload)]) + payload
-        self.queue_mem[at:at + len(record)] = record
+        NEW.write(self.queue_mem, NEW.nth(self.start, self.count, self.queue_mem), number, payload)
         self.count += 1
 
     def take(self):
-        """The oldest record's number and payload, or None from an empty queue (reading: which looks at no record)."""
+        """The oldest record's number and payload, or None from an empty queue (reading: which looks at no record). A record of the old form has a wrong mark
+        here: R-9 amends refusal 3."""
         self.queue_fits()
         if self.count == 0:
             return None
-        at = 132 * self.start
-        length = self.queue_mem[at + 3]
-        if self.queue_mem[at:at + 2] != b"UR" or not 1 <= length <= 128:
-            raise Refused(3)
-        number, payload = self.queue_mem[at + 2], bytes(self.queue_mem[at + 4:at + 4 + length])
-        self.start = (self.start + 1) % self.capacity()
+        taken = NEW.read(self.queue_mem, NEW.nth(self.start, 0, self.queue_mem))
+        self.start = (self.start + 1) % NEW.capacity(self.queue_mem)
         self.count -= 1
-        return number, payload
+        return taken
 
     # -- the ingress --
 
@@ -501,6 +555,14 @@ def number_of(text, most):
     if not text or len(digits) > len(str(MOST)) or any(c not in "0123456789" for c in text) or int(digits or "0") > most:
         raise BadLine
     return int(digits or "0")
+
+
+def numbers_of(text, many):
+    """So many decimal numbers, joined by commas."""
+    numbers = text.split(",")
+    if len(numbers) != many:
+        raise BadLine
+    return [number_of(n, MOST) for n in numbers]
 
 
 def op_of(text):
@@ -605,21 +667,32 @@ def digest_case(mode, table, data):
 
 def started(w, text):
     """END,SIGNALLED,LEN,SLOT-LOST,START,COUNT,QUEUE-LOST,SERIAL."""
-    numbers = text.split(",")
-    if len(numbers) != 8:
-        raise BadLine
-    w.end, flag, w.length, w.slot_lost, w.start, w.count, w.queue_lost, w.serial = [number_of(n, MOST) for n in numbers]
+    w.end, flag, w.length, w.slot_lost, w.start, w.count, w.queue_lost, w.serial = numbers_of(text, 8)
     if flag > 1:
         raise BadLine
     w.signalled = flag == 1
 
 
+def conversion(fields):
+    """START,COUNT,LOST OLD-MEMORY NEW-MEMORY: refusal 3, refusal 13, or the new queue and its memory (R-9)."""
+    if len(fields) != 3:
+        raise BadLine
+    queue, old, new = numbers_of(fields[0], 3), data_of(fields[1]), bytearray(data_of(fields[2]))
+    try:
+        start, count, lost = convert(*queue, old, new)
+    except Refused as r:
+        return refusal(r)
+    return "converted %d %d %d memory %s" % (start, count, lost, shown(new))
+
+
 def answer(line):
-    """The answer to a line. A first field that is a mode's word names it, none is `verbose`; behind it a comma in the first field tells the form, else the
-    number of fields."""
+    """The answer to a line. A first field `convert` is a conversion (R-9), in which no digester has a part. Else one that is a mode's word names it, none is
+    `verbose`; behind it a comma in the first field tells the form, else the number of fields."""
     if len(line) > LINE:
         raise BadLine
     fields = line.split(" ")
+    if fields[0] == "convert":
+        return conversion(fields[1:])
     mode = fields.pop(0) if fields[0] in MODES else "verbose"
     if fields and "," in fields[0]:
         if len(fields) != 6:

@@ -1,4 +1,4 @@
-// The digester that a line chooses, its form, and the state that it starts from where it has one.
+// The digester that a line chooses, its form, and the state or the old queue that it starts from where it has one.
 use fields::Amount;
 use fields::LENGTH;
 use lines::Digester;
@@ -62,7 +62,7 @@ pub enum Form {
     Bad,
 }
 
-// The number k of a written state.
+// The number k of a written state or queue.
 fn state_number(s: &[u8], k: usize, most: u32) -> Amount {
     fields::number(fields::part_of(s, k, b','), most)
 }
@@ -111,6 +111,33 @@ fn queue_started(s: &[u8], end: usize, signalled: bool, len: usize, slot_lost: u
         queue_lost: lost,
         serial: serial,
     })
+}
+
+// A written queue in the old form (R-9), or what isn't one.
+pub enum Conversion {
+    Of(usize, usize, u32),
+    Bad,
+}
+
+// The numbers of the line convert START,COUNT,LOST OLD-MEMORY NEW-MEMORY. A line that fills the memory is too long.
+pub fn conversion_of(line: &[u8]) -> Conversion {
+    if line.len() == LENGTH {
+        return Conversion::Bad;
+    }
+    let s = fields::part_of(line, 1, b' ');
+    if fields::parts(line, b' ') != 4 || fields::parts(s, b',') != 3 {
+        return Conversion::Bad;
+    }
+    let Amount::Is(start) = state_number(s, 0, fields::MOST) else {
+        return Conversion::Bad;
+    };
+    let Amount::Is(count) = state_number(s, 1, fields::MOST) else {
+        return Conversion::Bad;
+    };
+    let Amount::Is(lost) = state_number(s, 2, fields::MOST) else {
+        return Conversion::Bad;
+    };
+    Conversion::Of(start as usize, count as usize, lost)
 }
 
 // A comma in the first field tells the form, else the number of fields. A line that fills the memory is too long.

@@ -7,6 +7,7 @@
 // TABLE INPUT is a digest case; TABLE BUFFER SLOT-MEMORY QUEUE-MEMORY OPS an ingress case from end 0, a new slot and an empty queue;
 // STATE TABLE BUFFER SLOT-MEMORY QUEUE-MEMORY OPS one from any state, where STATE is
 // END,SIGNALLED,LENGTH,SLOT-LOST,START,COUNT,QUEUE-LOST,SERIAL (SIGNALLED 0 or 1; the slot holds an Ok).
+// convert START,COUNT,LOST OLD-MEMORY NEW-MEMORY is a conversion (R-9) of a queue in the old form; it has no digester, and no word stands before it.
 //
 // Bytes are `-` for none, or parts joined by `+`, a part being hex in either case or COUNT*HH, one byte that many times.
 // Bytes of one field, or of one op, are at most 65,536; numbers are decimal, at most 4,294,967,295.
@@ -20,6 +21,7 @@
 // space, and the last state. A write answers `took N`, an advance `advanced`, a take `notice NUMBER HEX` or `nothing`, a lookup `held KIND NUMBER HEX serial N` (R-11)
 // or `nothing`, the others `done`; a refusal as above, a write's 5 `refused 5 took N`. The last state is
 // end N buffer HEX slot free|signalled KIND NUMBER LENGTH LOST serial N memory HEX queue START COUNT LOST memory HEX, KIND `capacity` for CapacityError.
+// A conversion answers `converted START COUNT LOST memory HEX`, the new queue and its memory, or `refused 3`, `refused 13`.
 // What doesn't read in this notation, or is over a limit, is answered `bad line`, and nothing of the line is done.
 pub mod form;
 pub mod op;

@@ -1,9 +1,8 @@
-// A case of the notation: a line's fields made into memories, the calls made over them, and what they answered; the notation is in crates/notation/src/lib.rt.
+// A case of the notation that is a script: a line's fields made into memories, the calls made over them, and what they answered; cases of one call are in `cases`,
+// the notation in crates/notation/src/lib.rt.
 // It is part of a harness and promises only that it doesn't trip; what it answers is held to a file of another origin (tests/model.py).
-use answers::Answer;
 use answers::Kind;
 use data::Filled;
-use digest::Digested;
 use fields::Memory;
 use notation::form::Form;
 use notation::form::Start;
@@ -68,15 +67,6 @@ fn say_flag(is_signalled: bool, out: &mut Memory, at: usize) -> usize {
     say::words(out, at, b" slot free ")
 }
 
-// Says a queue and its memory.
-fn say_queue(q: Queue, queue_mem: &[u8], out: &mut Memory, at: usize) -> usize {
-    let head = say::words(out, at, b" queue");
-    let start = say::and_number(out, head, q.start as u64);
-    let count = say::and_number(out, start, q.count as u64);
-    let lost = say::and_number(out, count, q.lost as u64);
-    say::memory(out, lost, queue_mem)
-}
-
 // Says the last state, and ends the line.
 fn say_last(said: Said, buf: &[u8], slot_mem: &[u8], queue_mem: &[u8], out: &mut Memory) -> usize {
     let now = said.state;
@@ -87,7 +77,8 @@ fn say_last(said: Said, buf: &[u8], slot_mem: &[u8], queue_mem: &[u8], out: &mut
     let apart = say::words(out, end, b" buffer ");
     let bytes = say::hex(out, apart, buf);
     let slotted = say_slot(slot, slot_mem, out, bytes);
-    let queued = say_queue(queue, queue_mem, out, slotted);
+    let named = say::words(out, slotted, b" queue");
+    let queued = cases::say_queue(queue, queue_mem, out, named);
     say::words(out, queued, b"\n")
 }
 
@@ -273,64 +264,6 @@ fn state_of(x: Start) -> State {
     }
 }
 
-// Where another part of the input stands, by its name, if it has any bytes.
-fn say_part(name: &[u8], place: usize, len: usize, out: &mut Memory, at: usize) -> usize {
-    if len == 0 {
-        return at;
-    }
-    let head = say::words(out, at, name);
-    let from = say::and_number(out, head, place as u64);
-    say::and_number(out, from, len as u64)
-}
-
-// Says a digester's answer, and ends the line.
-fn say_answer(a: Answer, out: &mut Memory, at: usize) -> usize {
-    let kind = a.kind;
-    let named = say::kind_number(out, at, kind, a.number);
-    let place = say::and_number(out, named, a.place as u64);
-    let len = say::and_number(out, place, a.len as u64);
-    let consumed = say::and_number(out, len, a.consumed as u64);
-    let digits = say_part(b" digits", a.digits_place, a.digits_len, out, consumed);
-    let text = say_part(b" text", a.text_place, a.text_len, out, digits);
-    say::words(out, text, b"\n")
-}
-
-// Digests, and says the answer or the refusal.
-fn do_digest(selector: Selector, table: &[u8], input: &[u8], out: &mut Memory, at: usize) -> usize {
-    match selector::digest(selector, table, input) {
-        Digested::Is(a) => say_answer(a, out, at),
-        Digested::TooLong => say::words(out, at, b"refused 1\n"),
-        Digested::BadTable(k) => {
-            let used = say::refusal_of_record(out, at, k);
-            say::words(out, used, b"\n")
-        }
-    }
-}
-
-// The case TABLE INPUT.
-fn digest_case(
-    line: &[u8],
-    selector: Selector,
-    table: &mut Memory,
-    buf: &mut Memory,
-    out: &mut Memory,
-    at: usize,
-) -> usize {
-    let Filled::Is(t) = data::data(fields::part_of(line, 0, b' '), table) else {
-        return say::bad_line(out, at);
-    };
-    let Filled::Is(n) = data::data(fields::part_of(line, 1, b' '), buf) else {
-        return say::bad_line(out, at);
-    };
-    do_digest(
-        selector,
-        text::part(table, 0, t),
-        text::part(buf, 0, n),
-        out,
-        at,
-    )
-}
-
 // What a line asks for: a digest, or a script from a state, its memories' fields from a field on.
 enum Case {
     Digest,
@@ -359,11 +292,14 @@ pub fn answer(
     out: &mut Memory,
     at: usize,
 ) -> usize {
+    if text::matches_at(line, 0, b"convert ") {
+        return cases::convert_case(line, buf, queue_mem, out, at);
+    }
     let chosen = notation::form::first_word(line);
     let selector = chosen.selector;
     let rest = fields::between(line, chosen.from, line.len());
     match case_of(rest) {
-        Case::Digest => digest_case(rest, selector, table, buf, out, at),
+        Case::Digest => cases::digest_case(rest, selector, table, buf, out, at),
         Case::Script(k, start) => {
             script_case(
                 rest,
