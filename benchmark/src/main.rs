@@ -1,9 +1,9 @@
 //! The proved digester and ingress beside those of atat 0.25.0, on the same inputs, in one program.
 //!
 //! `count` runs each workload once between the two marks that icount.c looks for, ours and then the Rust's, and prints its name, and `count vast` the vast
-//! one; `count growth` does so with ours alone, at a length and at twice that, and `judge` fails where that grew too fast; `time` prints median nanoseconds;
-//! `report` makes the page and the drawing of all. Before any workload is measured the two sides' answers to it are compared; of the vast one, what the counted
-//! calls answer.
+//! one; `count growth` does so with ours alone, at a length and at twice that, and with notices through our queue, and `judge` fails where a digest grew too
+//! fast; `time` prints median nanoseconds; `report` makes the page and the drawing of all. Before any workload is measured the two sides' answers to it are
+//! compared; of the vast one, what the counted calls answer.
 
 mod heard;
 mod measure;
@@ -104,7 +104,7 @@ fn count_vast(w: &Workload) -> Result<(), String> {
 }
 
 /// How our work grows: runs each shape and each pattern at a length and at twice that between the marks, and prints its name, the way and the length. So with the
-/// numeric digester's.
+/// numeric digester's, and with notices through the queue.
 fn count_growth() -> Result<(), String> {
     for shape in SHAPES {
         count_digests(shape.name, &[], shape.input)?;
@@ -121,7 +121,8 @@ fn count_growth() -> Result<(), String> {
     for pattern in patterns::all() {
         count_digests(&pattern.to_string(), if pattern.has_table { &table } else { &[] }, |len| pattern.input(len))?;
     }
-    growth::numeric::count(ours::digest_numeric, paged, measure::marked)
+    growth::numeric::count(ours::digest_numeric, paged, measure::marked)?;
+    growth::notices::count(&mut ours::Ingress::new(&records("UR", One::TEXTS)), paged, measure::marked)
 }
 
 /// Two digests that are answered by different rules say nothing of how work grows: their answers are compared. So no call between the marks is the first, which

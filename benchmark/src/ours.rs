@@ -3,11 +3,16 @@
 use crate::heard::{Heard, Held};
 use crate::sides::Ears;
 use crate::{BUFFER, QUEUE, SLOT};
+use growth::notices::Queue;
 use std::hint::black_box;
 
-/// The numbers of a state; the last is the slot's serial number.
+/// The numbers of a state; among them the notices lost, and the slot's serial number.
 type State = [u64; 10];
+const QUEUE_LOST: usize = 8;
 const SERIAL: usize = 9;
+
+/// The bytes of a record in the queue's memory; before R-9 they were 132.
+const RECORD: usize = 1029;
 
 extern "C" {
     fn wx_digest(digester: u32, table: *const u8, table_len: usize, input: *const u8, input_len: usize, out: *mut [u64; 9]) -> u32;
@@ -16,6 +21,7 @@ extern "C" {
     fn wx_slot_lookup(state: *const State, mem: *const u8, mem_len: usize, out: *mut [u64; 9]) -> u32;
     fn wx_slot_reset(state: *mut State, serial: u32, mem: *const u8, mem_len: usize) -> u32;
     fn wx_queue_new(state: *mut State);
+    fn wx_queue_take(state: *mut State, mem: *const u8, mem_len: usize, out: *mut [u64; 9]) -> u32;
     fn wx_ingress_clear(state: *mut State);
     fn wx_ingress_write(
         state: *mut State,
@@ -109,7 +115,7 @@ impl Ingress {
             wx_slot_new(&mut state);
             wx_queue_new(&mut state);
         }
-        Self { state, table: table.to_vec(), buf: vec![0; BUFFER], slot_mem: vec![0; SLOT], queue_mem: vec![0; QUEUE * 132] }
+        Self { state, table: table.to_vec(), buf: vec![0; BUFFER], slot_mem: vec![0; SLOT], queue_mem: vec![0; QUEUE * RECORD] }
     }
 }
 
@@ -179,5 +185,21 @@ impl Ears for Ingress {
     fn waiting(&mut self) -> Vec<u8> {
         assert_eq!(self.state[7], 0, "a workload of the ingress has a notice");
         self.buf[..self.state[0] as usize].to_vec()
+    }
+}
+
+impl Queue for Ingress {
+    fn through(&mut self, notice: &[u8]) -> Option<&[u8]> {
+        self.write(notice);
+        let mut out = [0; 9];
+        // SAFETY: as above.
+        let refusal = unsafe { wx_queue_take(&mut self.state, self.queue_mem.as_ptr(), self.queue_mem.len(), &mut out) };
+        assert_eq!(refusal, 0, "our queue refused a take");
+        let (place, len) = (out[2] as usize, out[3] as usize);
+        (out[0] == 1).then(|| &self.queue_mem[place..place + len])
+    }
+
+    fn lost(&self) -> u64 {
+        self.state[QUEUE_LOST]
     }
 }

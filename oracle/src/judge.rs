@@ -5,6 +5,7 @@ use crate::generate;
 use crate::lines;
 use crate::notation::{Asked, Case, Mode, Op};
 use crate::origin::Origin;
+use crate::queue::RECORD;
 use crate::script::SLOT_SIZES;
 use crate::table::{self, Mark};
 use crate::{oracle, tokens};
@@ -440,7 +441,7 @@ fn smaller(case: &Case) -> Vec<Case> {
             let lengths = [buffer.len() / 2, buffer.len().saturating_sub(8), buffer.len().saturating_sub(1)];
             said.extend(lengths.iter().map(|&len| with(table, &buffer[..len], slot, queue, ops.clone())));
             said.extend(SLOT_SIZES.iter().filter(|&&len| len < slot.len()).map(|&len| with(table, buffer, &slot[..len], queue, ops.clone())));
-            said.extend([queue.len() / 2, queue.len().saturating_sub(132)].iter().map(|&len| with(table, buffer, slot, &queue[..len], ops.clone())));
+            said.extend([queue.len() / 2, queue.len().saturating_sub(RECORD)].iter().map(|&len| with(table, buffer, slot, &queue[..len], ops.clone())));
             for (i, op) in ops.iter().enumerate() {
                 let (Op::Write(bytes) | Op::Put(bytes) | Op::Okay(bytes)) = op else { continue };
                 for less in without_a_run(bytes) {

@@ -7,6 +7,7 @@ pub mod longer;
 pub mod notation;
 pub mod oracle;
 pub mod origin;
+pub mod queue;
 pub mod script;
 pub mod table;
 pub mod tokens;

@@ -5,6 +5,8 @@ use std::fmt;
 
 /// The longest line, without its end.
 pub const LONGEST_LINE: usize = 65_535;
+/// The longest line of a case, so that a mode's word fits before it.
+pub const LONGEST_CASE: usize = LONGEST_LINE - "connect ".len();
 
 /// Which CONNECT lines the digester is to hear: the bare one of document 01 alone, or those with text too. The crate has the first only.
 #[derive(Clone, Copy, Debug, PartialEq, Eq, PartialOrd, Ord)]

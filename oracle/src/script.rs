@@ -8,13 +8,10 @@
 use crate::lines;
 use crate::notation::{Hex, Op};
 use crate::origin::{caught, Origin, LONGEST};
+use crate::queue::{self, RECORD};
 use crate::table;
 use crate::tokens::{self, Notice, Tokens};
 use atat::{reach, AtatIngress, CmeError, ConnectionError, Ingress, IngressError, InternalError, Response, ResponseSlot, UrcChannel};
-
-/// One record of the queue, and the most that it holds.
-const RECORD: usize = 132;
-const MOST_RECORDS: usize = 16;
 
 /// The sizes of slot memory for which there is a ResponseSlot here: its size is a constant of its type.
 pub const SLOT_SIZES: [usize; 14] = [0, 1, 2, 3, 4, 5, 8, 16, 32, 64, 128, 256, 1024, 4096];
@@ -44,7 +41,7 @@ fn run_in<const N: usize>(table: &[u8], buffer: &[u8], slot: &[u8], queue: &[u8]
     tokens::lay(records);
     let mut buffer = buffer.to_vec();
     let response = ResponseSlot::<N>::new();
-    let channel = Channel::holding((queue.len() / RECORD).min(MOST_RECORDS));
+    let channel = Channel::holding(queue::capacity(queue.len()));
     let mut beside = Beside::new(slot, queue);
     let mut said = String::new();
     let end;
@@ -144,7 +141,7 @@ impl Beside {
         match channel.take() {
             None => "nothing".to_owned(),
             Some(notice) => {
-                self.start = (self.start + 1) % (self.queue_memory.len() / RECORD).min(MOST_RECORDS);
+                self.start = (self.start + 1) % queue::capacity(self.queue_memory.len());
                 self.count -= 1;
                 lines::notice(notice.number, &notice.line)
             }
@@ -169,9 +166,8 @@ impl Beside {
             self.slot_memory[..self.digits.len()].copy_from_slice(&self.digits);
         }
         for notice in channel.behind(self.count) {
-            let capacity = (self.queue_memory.len() / RECORD).min(MOST_RECORDS);
-            let at = RECORD * ((self.start + self.count) % capacity);
-            let record = [b"UR", &[notice.number as u8, notice.line.len() as u8][..], &notice.line].concat();
+            let at = RECORD * ((self.start + self.count) % queue::capacity(self.queue_memory.len()));
+            let record = queue::record(notice.number, &notice.line);
             self.queue_memory[at..at + record.len()].copy_from_slice(&record);
             self.count += 1;
         }

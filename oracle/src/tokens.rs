@@ -4,6 +4,7 @@
 //! Notices go through the crate's own `try_urc` and `urc_helper`, in table order. Custom successes, errors and prompts are
 //! functions that a user of the crate writes: those here are ours, written by document 01, and no evidence about the crate.
 
+use crate::queue::LONGEST_NOTICE;
 use crate::table::{Mark, Record};
 use crate::{lines, longer};
 use atat::digest::parser::{try_urc, urc_helper};
@@ -163,7 +164,7 @@ impl Digester for Tokens {
     }
 }
 
-/// A notice as the queue holds it: by document 01 a line of 1 to 128 bytes, and else nothing.
+/// A notice as the queue holds it: by R-9 a line of 1 to 1,024 bytes, and else nothing.
 #[derive(Clone)]
 pub struct Notice {
     pub number: usize,
@@ -172,6 +173,6 @@ pub struct Notice {
 
 impl AtatUrc for Notice {
     fn parse(line: &[u8]) -> Option<Self> {
-        (1..=128).contains(&line.len()).then(|| Notice { number: matched(), line: line.to_vec() })
+        (1..=LONGEST_NOTICE).contains(&line.len()).then(|| Notice { number: matched(), line: line.to_vec() })
     }
 }

@@ -1,8 +1,10 @@
-//! How our work grows: the inputs that show it, at a length and at twice that, and what is made of the instructions counted on them.
+//! How our work grows: the inputs that show it, at a length and at twice that, and what is made of the instructions counted on them. What else stands alone on our
+//! side is here too: the numeric digester, and notices through the queue.
 //!
 //! It is a crate of its own so that nothing of it is compiled together with the calls that are measured: as a part of their crate it made the Rust's figures
 //! with the table of 56 greater by 14 per cent, and left ours as they were.
 
+pub mod notices;
 pub mod numeric;
 pub mod patterns;
 pub mod shapes;
@@ -65,10 +67,13 @@ pub struct Growth {
     patterns: Vec<(Pattern, Grown)>,
     /// By the numeric digester, of each shape its name, a digest of a short answer's length, and the two.
     numeric: Vec<(&'static str, f64, Grown)>,
+    /// Through the queue, of each notice its payload's length, what became of it, and the instructions.
+    notices: Vec<(usize, &'static str, f64)>,
 }
 
 impl Growth {
-    /// Reads lines of four parts by tabs: the name of a shape or pattern, `digest`, `stream` or `numeric`, its length in bytes, the instructions.
+    /// Reads lines of four parts by tabs: the name of a shape or pattern, `digest`, `stream` or `numeric`, its length in bytes, the instructions; of a notice what
+    /// became of it, and `queue`.
     pub fn read(counts: &str) -> Result<Self, String> {
         let mut counted: HashMap<(&str, &str, &str), f64> = HashMap::new();
         for line in counts.lines() {
@@ -85,10 +90,15 @@ impl Growth {
         let shapes = SHAPES.iter().map(|s| Ok((s.name, grown(s.name, "digest", DIGEST)?, grown(s.name, "stream", STREAM)?)));
         let patterns = patterns::all().into_iter().map(|p| grown(&p.to_string(), "digest", DIGEST).map(|g| (p, g)));
         let numeric = numeric::SHAPES.iter().map(|s| Ok((s.name, get(s.name, "numeric", numeric::LENS[0])?, grown(s.name, "numeric", DIGEST)?)));
+        let notices = notices::LENS.iter().map(|&len| {
+            let counted = [notices::TAKEN, notices::LOST].into_iter().find_map(|fate| Some((len, fate, get(fate, "queue", len).ok()?)));
+            counted.ok_or_else(|| format!("not counted: a notice of {len} bytes through the queue"))
+        });
         Ok(Self {
             shapes: shapes.collect::<Result<_, String>>()?,
             patterns: patterns.collect::<Result<_, String>>()?,
             numeric: numeric.collect::<Result<_, String>>()?,
+            notices: notices.collect::<Result<_, String>>()?,
         })
     }
 
@@ -139,7 +149,7 @@ impl Growth {
             let table = if pattern.has_table { format!("of {}", records.len()) } else { "empty".to_owned() };
             let _ = writeln!(out, "| {pattern} | {table} | {} |", g.cells());
         }
-        out + &self.numeric_section()
+        out + &self.numeric_section() + &self.notices_section()
     }
 
     /// The numeric digester has no Rust beside it, so that all its rows stand here.
@@ -151,6 +161,18 @@ impl Growth {
         );
         for (name, short, g) in &self.numeric {
             let _ = writeln!(out, "| {name} | {} | {} |", thousands(*short), g.cells());
+        }
+        out
+    }
+
+    /// The queue has no Rust beside it either.
+    fn notices_section(&self) -> String {
+        let mut out = String::from(
+            "\n## Notices through the queue, ours alone\n\nInstructions of ours to write a notice in one piece, under a table of 1, and to take it from the queue.\n\n\
+             | Payload | What became of it | Instructions |\n|---|---|--:|\n",
+        );
+        for &(len, fate, n) in &self.notices {
+            let _ = writeln!(out, "| {len} bytes | {fate} | {} |", thousands(n));
         }
         out
     }

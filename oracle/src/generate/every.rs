@@ -2,6 +2,7 @@
 
 use super::tables::{self, Table};
 use crate::notation::{Case, Op};
+use crate::queue::RECORD;
 
 /// Records, tokens, and the most tokens in a row.
 type List = (&'static [(&'static [u8], &'static [u8])], &'static [&'static [u8]], u32);
@@ -34,7 +35,7 @@ const SCRIPT_TABLE: &[(&[u8], &[u8])] = &[(b"UR", b"A")];
 const SCRIPT_OPS: [&[u8]; 7] = [b"W\r\nA\r\n", b"Wx", b"A\r\nOK\r\n", b"T", b"M", b"R", b"W\r\nyy\r\nOK\r\n\r\nA:z\r\n> "];
 const MOST_OPS: u32 = 5;
 /// Small enough that room, slot and queue all run out: lengths of buffer, slot memory and queue memory.
-const MEMORIES: [[usize; 3]; 2] = [[7, 1, 132], [24, 2, 264]];
+const MEMORIES: [[usize; 3]; 2] = [[7, 1, RECORD], [24, 2, 2 * RECORD]];
 
 fn sequences(letters: u64, most: u32) -> u64 {
     (0..=most).map(|len| letters.pow(len)).sum()

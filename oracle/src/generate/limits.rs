@@ -2,8 +2,15 @@
 //! fixed list, and every run beside the crate begins with them.
 
 use super::tables::{self, Table};
+use super::varied;
 use crate::notation::{Case, Op};
+use crate::queue::{self, LONGEST_NOTICE, MOST_RECORDS, RECORD};
 use crate::script::SLOT_SIZES;
+
+/// A record's bytes before R-9: a memory that is too short for one now. Scripts without a notice have it, so that they are what they were, and short.
+const OLD_RECORD: usize = 132;
+/// A buffer with room for a notice a little longer than the longest that is kept, and not for two.
+const WIDE: usize = 1100;
 
 const HEADS: [&[u8]; 3] = [b"\r\n+CME ERROR:", b"\r\n+CMS ERROR:", b"\r\nMODEM ERROR:"];
 const LINES: [&[u8]; 12] = [
@@ -58,6 +65,7 @@ pub fn limits() -> Vec<Case> {
     all.slot_sizes();
     all.digit_sizes();
     all.queue_sizes();
+    all.long_notices();
     all.rooms();
     all.going_on();
     all.connects();
@@ -72,6 +80,26 @@ fn line(text: &[u8]) -> Vec<u8> {
 
 fn write(bytes: &[u8]) -> Op {
     Op::Write(bytes.to_vec())
+}
+
+/// The line of a notice `+U` whose payload has so many bytes, at least two.
+fn notice(len: usize) -> Vec<u8> {
+    line(&[b"+U:", &varied(len)[..]].concat()[..len])
+}
+
+/// Payloads of notices by their bytes, where something turns or did: the most before R-9, the length's high byte, a scan's notice, the most.
+fn lengths() -> impl Iterator<Item = usize> {
+    (126..=130).chain(255..=257).chain([900]).chain(LONGEST_NOTICE - 2..=LONGEST_NOTICE + 2)
+}
+
+/// The bytes of a queue's memory: a record's where the notice comes in what is said, else too few for one.
+fn queue_for(notice: &[u8], said: &[u8]) -> usize {
+    let comes = said.windows(notice.len()).any(|w| w == notice);
+    if comes {
+        RECORD
+    } else {
+        OLD_RECORD
+    }
 }
 
 struct List(Vec<Case>);
@@ -196,7 +224,7 @@ impl List {
             self.digest(&table, &line(&text[1..]));
             self.digest(&table, &line(&[&text[..], b"u"].concat()));
         }
-        for len in [126, 127, 128, 129, 300] {
+        for len in lengths().chain([300]) {
             self.digest(&one, &line(&[b"+UUSORD:", &vec![b'n'; len - 8][..]].concat()));
         }
     }
@@ -277,9 +305,10 @@ impl List {
         ]);
         for (i, item) in items.iter().enumerate() {
             let next = &items[(i + 1) % items.len()];
-            self.script(&table, 40, 16, 132, &[write(item)]);
-            self.script(&table, 40, 16, 132, &[write(item), Op::Reset]);
-            self.script(&table, 40, 16, 132, &[write(item), write(next), Op::Take, Op::Reset, write(next)]);
+            self.script(&table, 40, 16, queue_for(b"+U", item), &[write(item)]);
+            self.script(&table, 40, 16, queue_for(b"+U", item), &[write(item), Op::Reset]);
+            let queue = queue_for(b"+U", &[&item[..], next].concat());
+            self.script(&table, 40, 16, queue, &[write(item), write(next), Op::Take, Op::Reset, write(next)]);
             self.script(&table, 40, 2, 0, &[write(item), Op::Busy, Op::Reset, Op::Cme(100, None), Op::Prompt(64)]);
         }
     }
@@ -320,23 +349,50 @@ impl List {
         }
     }
 
-    /// Queues of every capacity, filled, refused, taken from and filled again round the ring; notices of 1 to 130 bytes.
+    /// Queues of every capacity, filled, refused, taken from and filled again round the ring.
     fn queue_sizes(&mut self) {
         let one = tables::of(&[(b"CS", b"S"), (b"UR", b"+U")]);
-        for queue in [0, 131, 132, 133, 263, 264, 396, 2111, 2112, 2113, 2244] {
-            let capacity = (queue / 132).min(16);
+        let (few, most) = (3 * RECORD, MOST_RECORDS * RECORD);
+        for queue in [0, OLD_RECORD, RECORD - 1, RECORD, RECORD + 1, 2 * RECORD - 1, 2 * RECORD, few, most - 1, most, most + RECORD] {
+            let capacity = queue::capacity(queue);
             let mut ops: Vec<Op> = (0..capacity + 1).map(|n| write(&line(format!("+U: {n}").as_bytes()))).collect();
             ops.extend([Op::Take, Op::Over(0), write(&line(b"+U")), Op::Take, Op::Take, Op::Clear, write(&line(b"+U: last"))]);
-            self.script(&one, 20, 0, queue, &ops);
+            // A long memory has tens of thousands of digits in its line, and the front of the script says little that the whole doesn't.
+            if queue <= few {
+                self.script(&one, 20, 0, queue, &ops);
+            }
             ops.extend((0..capacity + 1).map(|_| Op::Take));
             self.script(&one, 20, 0, queue, &ops);
             self.script(&one, 200, 0, queue, &[write(&line(b"+U: x").repeat(capacity + 1)), Op::Take, Op::Over(0)]);
         }
-        for len in [2, 3, 126, 127, 128, 129, 130] {
-            let said = [b"+U", &b":".repeat((len - 2).min(1))[..], &vec![b'n'; len.saturating_sub(3)]].concat();
-            self.script(&one, 200, 0, 132, &[write(&line(&said)), write(&line(&said)), Op::Take, Op::Over(0), Op::Take]);
-            self.script(&one, 200, 0, 0, &[write(&line(&said))]);
+    }
+
+    /// Notices of 2 bytes to two over the most: kept, refused and lost; a short one over what a long one left; several in a buffer; in pieces, and in buffers
+    /// that a line just fits or doesn't; blanks that make a line longer than its payload.
+    fn long_notices(&mut self) {
+        let one = tables::of(&[(b"CS", b"S"), (b"UR", b"+U")]);
+        for len in [2, 3].into_iter().chain(lengths()) {
+            let said = write(&notice(len));
+            let buffer = if len < 200 { 200 } else { WIDE };
+            self.script(&one, buffer, 0, RECORD, &[said.clone(), said.clone(), Op::Take, Op::Over(0), Op::Take, write(&notice(2))]);
+            self.script(&one, buffer, 0, 0, &[said]);
         }
+        let many: Vec<u8> = [LONGEST_NOTICE, LONGEST_NOTICE + 1, 900, 256].into_iter().flat_map(notice).collect();
+        for piece in [many.len(), 300, 64] {
+            let mut ops: Vec<Op> = many.chunks(piece).map(write).collect();
+            ops.extend([Op::Take, Op::Over(0), write(&notice(3)), Op::Take, Op::Take, Op::Take]);
+            self.script(&one, 4096, 0, 2 * RECORD, &ops);
+        }
+        for len in [LONGEST_NOTICE, LONGEST_NOTICE + 1] {
+            let said = notice(len);
+            for buffer in [said.len() - 1, said.len()] {
+                self.script(&one, buffer, 0, RECORD, &[write(&said), Op::Over(0), Op::Take]);
+            }
+            let blanks = [&said[..said.len() - 2], b" \t \r\n"].concat();
+            self.script(&one, WIDE, 0, RECORD, &[Op::Put(blanks), Op::Take]);
+        }
+        let bytes: Vec<Op> = notice(LONGEST_NOTICE).iter().map(|&b| Op::Write(vec![b])).collect();
+        self.script(&one, WIDE, 0, RECORD, &bytes);
     }
 
     /// Buffers of every small length; commits at the room, one under and one over.
@@ -344,18 +400,19 @@ impl List {
         let one = tables::of(&[(b"UR", b"A")]);
         for buffer in 0..=9 {
             for said in [&b"\r\nOK\r\n"[..], b"\r\nA\r\n\r\nA\r\n", b"xyz> ", b"      \r\n"] {
-                self.script(&one, buffer, 4, 132, &[write(said)]);
+                let queue = queue_for(b"A", said);
+                self.script(&one, buffer, 4, queue, &[write(said)]);
                 let bytes: Vec<Op> = said.iter().map(|&b| Op::Write(vec![b])).collect();
-                self.script(&one, buffer, 4, 132, &bytes);
-                self.script(&one, buffer, 4, 132, &[Op::Put(said.to_vec()), Op::Over(1), write(b"\n")]);
+                self.script(&one, buffer, 4, queue, &bytes);
+                self.script(&one, buffer, 4, queue, &[Op::Put(said.to_vec()), Op::Over(1), write(b"\n")]);
             }
             for commit in [buffer.saturating_sub(1), buffer, buffer + 1] {
-                self.script(&one, buffer, 4, 132, &[Op::Over(commit as u32), Op::Over(1)]);
+                self.script(&one, buffer, 4, OLD_RECORD, &[Op::Over(commit as u32), Op::Over(1)]);
             }
-            self.script(&one, buffer, 4, 132, &[write(b"q"), Op::Over(u32::MAX), Op::Clear, Op::Over(0), write(b"")]);
+            self.script(&one, buffer, 4, OLD_RECORD, &[write(b"q"), Op::Over(u32::MAX), Op::Clear, Op::Over(0), write(b"")]);
         }
         self.script(&one, 4096, 4, 0, &[write(&[b'x'; 4097]), Op::Over(1), Op::Over(0), Op::Clear, Op::Over(0)]);
-        self.script(&one, 4096, 4096, 132, &[write(&[&b"\r\n"[..], &[b'x'; 4088], b"\r\nOK\r\n"].concat()), write(&line(b"A")), Op::Take]);
+        self.script(&one, 4096, 4096, RECORD, &[write(&[&b"\r\n"[..], &[b'x'; 4088], b"\r\nOK\r\n"].concat()), write(&line(b"A")), Op::Take]);
     }
 
     /// Refusal 5 in the midst of a piece, and the ways on after it.
@@ -375,7 +432,7 @@ impl List {
         for way in ways {
             for buffer in [5, 8, 11, 12, 20, 40] {
                 let ops = [&[write(&two)], way].concat();
-                self.script(&one, buffer, 4, 132, &ops);
+                self.script(&one, buffer, 4, RECORD, &ops);
             }
             self.script(&one, 5, 4, 0, &[&[write(&line(b"A"))], way].concat());
         }
@@ -434,26 +491,26 @@ impl List {
         let one = tables::of(&[(b"UR", b"A")]);
         for said in [&b"\r\nab\r\nCONNECT\r\n"[..], b"\r\nab\r\nCONNECT 96\r\n"] {
             for cut in 0..said.len() {
-                self.script(&one, 32, 4, 132, &[write(&said[..cut]), write(&said[cut..]), Op::Reset, write(&line(b"BUSY"))]);
+                self.script(&one, 32, 4, OLD_RECORD, &[write(&said[..cut]), write(&said[cut..]), Op::Reset, write(&line(b"BUSY"))]);
             }
             let bytes: Vec<Op> = said.iter().map(|&b| Op::Put(vec![b])).collect();
-            self.script(&one, 32, 4, 132, &bytes);
+            self.script(&one, 32, 4, OLD_RECORD, &bytes);
         }
         for buffer in 8..=18 {
             for said in [b"\r\nCONNECT\r\n", LONGER] {
-                self.script(&one, buffer, 4, 132, &[write(said), Op::Over(0), Op::Clear, write(&line(b"OK"))]);
+                self.script(&one, buffer, 4, OLD_RECORD, &[write(said), Op::Over(0), Op::Clear, write(&line(b"OK"))]);
             }
         }
         for held in 1..=LONGER.len() {
             let left = [Op::Put(line(b"OK")), Op::Reset, write(&LONGER[..held]), Op::Over(1), Op::Clear, Op::Over(3)];
-            self.script(&one, LONGER.len(), 4, 132, &left);
+            self.script(&one, LONGER.len(), 4, OLD_RECORD, &left);
             let ops = vec![Op::Over(1); held];
-            self.0.push(Case::Ingress { table: one.bytes.clone(), buffer: LONGER.to_vec(), slot: vec![b'.'; 4], queue: vec![b'.'; 132], ops });
+            self.0.push(Case::Ingress { table: one.bytes.clone(), buffer: LONGER.to_vec(), slot: vec![b'.'; 4], queue: vec![b'.'; OLD_RECORD], ops });
         }
         for said in [b"\r\nCONNECT\r\n", LONGER, b"\r\nCONNECT 96"] {
             for way in [&[][..], &[Op::Over(0)], &[Op::Take, Op::Over(0)], &[Op::Take, Op::Write(b"\r\n".to_vec())]] {
                 let held = [line(b"A"), line(b"A: 2"), said.to_vec()].concat();
-                self.script(&one, 40, 4, 132, &[&[write(&held)], way].concat());
+                self.script(&one, 40, 4, RECORD, &[&[write(&held)], way].concat());
             }
         }
     }

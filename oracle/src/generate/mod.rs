@@ -33,6 +33,11 @@ pub fn case(seed: u64, i: u64) -> Case {
     }
 }
 
+/// So many bytes, in which one that is lost or out of its place is seen.
+fn varied(len: usize) -> Vec<u8> {
+    b"0123456789".iter().copied().cycle().take(len).collect()
+}
+
 /// The k-th of `all` in an order that the seed chooses, each once: so few cases are a sample, and enough are all.
 fn shuffled(seed: u64, k: u64, all: u64) -> u64 {
     let mut chance = Chance::new(seed, u64::MAX);
