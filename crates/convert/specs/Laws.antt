@@ -86,14 +86,14 @@ module _ (m : List ℕ) (start count cap : ℕ) (c : cap ≡ capacityOf older (l
       (λ (p : cap ≤ 0). sym (ring-far start 0 cap (omega arith)) ∙ omega arith)
       (order 0 cap)
 
-  walk-none : Walk start count cap (132 * start) count 0
-  walk-none = record { all = omega arith; here = ap (λ (n : ℕ). 132 * n) (sym ring-first) }
+  walk-none : (base : ℕ) → base ≡ 132 * start → Walk start count cap base count 0
+  walk-none base e = record { all = omega arith; here = omega (arith, ring-first) }
 
-  pub seen-none : Seen m start count cap (132 * start) count
-  seen-none = record { seen = 0; walk = walk-none; rest = refl }
+  pub seen-none : (base : ℕ) → base ≡ 132 * start → Seen m start count cap base count
+  seen-none base e = record { seen = 0; walk = walk-none base e; rest = refl }
 
-  pub copied-none : (k : List ℕ) → heldGood older m cap start 0 count ≡ true → Copied m k start count cap (132 * start) count 0 k
-  copied-none k g = record { seen = 0; walk = walk-none; at = refl; good = g; rest = refl }
+  pub copied-none : (base : ℕ) → base ≡ 132 * start → (k : List ℕ) → heldGood older m cap start 0 count ≡ true → Copied m k start count cap base count 0 k
+  copied-none base e k g = record { seen = 0; walk = walk-none base e; at = refl; good = g; rest = refl }
 
   -- The next record: where it lies, what is asked of it and what it says.
   module _ (base left seen : ℕ) (w : Walk start count cap base left seen) (some : 0 < left) where

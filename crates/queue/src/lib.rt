@@ -91,7 +91,9 @@ pub fn write_record(mem: &mut [u8], base: usize, number: u8, p: &[u8])
         return;
     }
     let n = p.len();
-    let head = [b'U', b'X', number, (n / 256 % 256) as u8, (n % 256) as u8];
+    let high = (n / 256 % 256) as u8;
+    let low = (n % 256) as u8;
+    let head = [b'U', b'X', number, high, low];
     moves::put(mem, base, &head);
     moves::put(mem, base + HEAD, p);
 }

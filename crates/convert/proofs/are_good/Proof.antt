@@ -19,7 +19,7 @@ mul-base : tie.Need-mul-base Inv-loop μ-loop
 mul-base c = record { fits = omega (arith, c .before .pre .0, start-within (c .before .args .mem .now) (c .before .args .start) (c .before .args .count) (c .before .args .cap) (c .before .pre .0) (c .before .pre .1)) }
 
 loop-holds : tie.Need-loop-holds Inv-loop μ-loop
-loop-holds c = seen-none (c .before .args .mem .now) (c .before .args .start) (c .before .args .count) (c .before .args .cap) (c .before .pre .0) (c .before .pre .1)
+loop-holds c = seen-none (c .before .args .mem .now) (c .before .args .start) (c .before .args .count) (c .before .args .cap) (c .before .pre .0) (c .before .pre .1) _ (omega arith)
 
 is-good-requires : tie.Need-is-good-requires Inv-loop μ-loop
 is-good-requires c κs =

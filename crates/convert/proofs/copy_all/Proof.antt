@@ -27,7 +27,7 @@ loop-holds : tie.Need-loop-holds Inv-loop μ-loop
 loop-holds c =
     let pre = c .before .before .pre in
     let args = c .before .before .args in
-    (refl, copied-none (args .old-mem .now) (args .start) (args .count) (args .cap) (pre .0) (pre .1 .0) (args .mem .now) (pre .1 .1))
+    (refl, copied-none (args .old-mem .now) (args .start) (args .count) (args .cap) (pre .0) (pre .1 .0) _ (omega arith) (args .mem .now) (pre .1 .1))
 
 copy-requires : tie.Need-copy-requires Inv-loop μ-loop
 copy-requires c κs =

@@ -10,11 +10,11 @@ returns c =
     let args = c .before .before .before .args in
     record-past ours (args .number) (args .p .now) (args .base) (args .mem .now) (c .if1 .taken)
 
-cast-t10 : tie.Need-cast-t10
-cast-t10 c = search needs
+cast-high : tie.Need-cast-high
+cast-high c = search needs
 
-cast-t12 : tie.Need-cast-t12
-cast-t12 c = search needs
+cast-low : tie.Need-cast-low
+cast-low c = search needs
 
 slice-aggregate-put : tie.Need-slice-aggregate-put
 slice-aggregate-put c = search needs
@@ -43,8 +43,8 @@ write-record-spec =
     tie.close
     (tie.spec
     returns
-    cast-t10
-    cast-t12
+    cast-high
+    cast-low
     slice-aggregate-put
     put-requires
     add-put
