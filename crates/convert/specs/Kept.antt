@@ -1,5 +1,5 @@
--- What a conversion keeps, over any two sound geometries: what waits in the new queue is what waited in the old one, same notices, same order; and each byte of the
--- new memory outside a written head or payload is as it was.
+-- What a conversion keeps, over any two sound geometries: what waits in the new queue is what waited in the old one, same notices, same order, in good records; and
+-- each byte of the new memory outside a written head or payload is as it was.
 use mathlib.Core.Path.{_≡_, refl, sym, ap, _∙_}
 use mathlib.Core.Logic.{⊎-elim, inl, inr}
 use mathlib.Core.Bool.{true, false, _&&_, not}
@@ -7,8 +7,8 @@ use mathlib.Core.List.{List, [], _∷_}
 use Prim.Native.Nat.{ℕ, zero, suc, _+_, _*_, _≤_, _<_}
 use native.Mathlib.Nat.{mul-suc, mul-zero, zero-add, le-refl}
 use native.Mathlib.Omega.{arith}
-use lib.ListN.{length, getD, take, drop, length-take}
-use lib.Seq.{getD-take, getD-drop}
+use lib.ListN.{length, getD, take, drop, take-append-drop, length-drop}
+use lib.Seq.{length-take-le, getD-take, getD-drop}
 use lib.Dec.{leb, ltb}
 use borrow.Author.Tests.{le-leb, lt-ltb, ltb-false, not-false}
 use Rattle.text.specs.Logic.{and-both}
@@ -16,7 +16,7 @@ use Rattle.outcome.specs.Outcome.{answered, refused}
 use Rattle.outcome.specs.Laws.{ways}
 use Rattle.queue.specs.Queue.{Geometry, Sound, capacityOf, startIn, inBounds, ringPlace, recorded, lengthAt, recordGood, After, after, Arrival, recordBytes, arrivalOf, heldFrom, waiting}
 use Rattle.queue.specs.Laws.{start-some, bounds-room, bounds-count, ring-near, ring-below, record-in}
-use Rattle.queue.specs.Waiting.{good-length, arrival-is, recorded-length, recorded-elsewhere, recorded-new}
+use Rattle.queue.specs.Waiting.{good-length, good-own, arrival-is, recorded-length, recorded-elsewhere, recorded-good, recorded-new}
 use Rattle.queue.specs.declared.Queue.{Queue}
 use Rattle.convert.specs.Convert.{heldGood, laid, converted, Outside}
 
@@ -26,14 +26,14 @@ unfolding startIn
 first-in zero = refl
 first-in (suc c) = lt-ltb 0 (suc c) (omega arith)
 
--- each payload has at most n bytes
-abbrev Short : ℕ → List Arrival → Type 0
-Short n [] = Unit {0}
-Short n (a ∷ l) = (length (a .payload) ≤ n) × Short n l
+-- each payload has 1 to n bytes
+abbrev Sized : ℕ → List Arrival → Type 0
+Sized n [] = Unit {0}
+Sized n (a ∷ l) = ((1 ≤ length (a .payload)) × (length (a .payload) ≤ n)) × Sized n l
 
-short-up : (n k : ℕ) → n ≤ k → (l : List Arrival) → Short n l → Short k l
-short-up n k h [] s = tt
-short-up n k h (a ∷ l) s = (omega (arith, s .0), short-up n k h l (s .1))
+sized-up : (n k : ℕ) → n ≤ k → (l : List Arrival) → Sized n l → Sized k l
+sized-up n k h [] s = tt
+sized-up n k h (a ∷ l) s = ((s .0 .0, omega (arith, s .0 .1)), sized-up n k h l (s .1))
 
 -- Records laid one behind the other.
 module _ (g : Geometry) (sound : Sound g) where
@@ -58,8 +58,27 @@ module _ (g : Geometry) (sound : Sound g) where
       ∙ ap (λ (s : List ℕ). getD s 0 0) (recorded-elsewhere g sound (a .number) (a .payload) base m i 1 (⊎-elim (λ (q : i < base). inl (omega arith)) (λ (q : base + (g .head + length (a .payload)) ≤ i). inr q) (o .0)))
       ∙ byte m
 
-  -- are read back
-  laid-held : (l : List Arrival) (j cap : ℕ) (m : List ℕ) → cap ≡ capacityOf g (length m) → j + length l ≤ cap → Short (g .longest) l → heldFrom g (laid g (g .size * j) l m) cap 0 j (length l) ≡ l
+  -- are good
+  laid-good : (l : List Arrival) (j cap : ℕ) (m : List ℕ) → cap ≡ capacityOf g (length m) → j + length l ≤ cap → Sized (g .longest) l → heldGood g (laid g (g .size * j) l m) cap 0 j (length l) ≡ true
+  unfolding laid heldGood
+  laid-good [] j cap m c h s = refl
+  laid-good (a ∷ l) j cap m c h s =
+      let d : List ℕ = recorded g (a .number) (a .payload) (g .size * j) m in
+      let e : g .size * suc j ≡ g .size * j + g .size = mul-suc (g .size) j in
+      let near : ringPlace 0 j cap ≡ j = sym (ring-near 0 j cap (omega arith)) ∙ zero-add j in
+      let room = record-in g (length m) j (rw (sym c) (omega arith)) in
+      let long = recorded-length g sound (a .number) (a .payload) (g .size * j) m in
+      let k : List ℕ = laid g (g .size * j + g .size) l d in
+      let here : recordGood g k (g .size * j) ≡ true =
+      good-own g sound k (g .size * j) (omega (arith, laid-length l (g .size * j + g .size) d))
+      ∙ ap (λ (r : List ℕ). recordGood g r 0) (laid-before l (g .size * j + g .size) d (g .size * j) (g .size) (le-refl (g .size * j + g .size)))
+      ∙ sym (good-own g sound d (g .size * j) (omega arith))
+      ∙ recorded-good g sound (a .number) (a .payload) (g .size * j) m (omega (arith, s .0 .1, sound .fits)) (s .0 .1) (s .0 .0) in
+      let rest : heldGood g (laid g (g .size * suc j) l d) cap 0 (suc j) (length l) ≡ true = laid-good l (suc j) cap d (c ∙ ap (capacityOf g) (sym long)) (omega arith) (s .1) in
+      (λ i. recordGood g k (g .size * near i) && heldGood g (laid g (sym e i) l d) cap 0 (suc j) (length l)) ∙ rw (here, rest)
+
+  -- and read back
+  laid-held : (l : List Arrival) (j cap : ℕ) (m : List ℕ) → cap ≡ capacityOf g (length m) → j + length l ≤ cap → Sized (g .longest) l → heldFrom g (laid g (g .size * j) l m) cap 0 j (length l) ≡ l
   unfolding laid heldFrom
   laid-held [] j cap m c h s = refl
   laid-held (a ∷ l) j cap m c h s =
@@ -67,28 +86,28 @@ module _ (g : Geometry) (sound : Sound g) where
       let e : g .size * suc j ≡ g .size * j + g .size = mul-suc (g .size) j in
       let near : ringPlace 0 j cap ≡ j = sym (ring-near 0 j cap (omega arith)) ∙ zero-add j in
       let room = record-in g (length m) j (rw (sym c) (omega arith)) in
-      let here : arrivalOf g (recordBytes g (laid g (g .size * j + g .size) l d) j) ≡ a = ap (arrivalOf g) (laid-before l (g .size * j + g .size) d (g .size * j) (g .size) (le-refl (g .size * j + g .size))) ∙ recorded-new g sound (a .number) (a .payload) j m room (s .0) in
+      let here : arrivalOf g (recordBytes g (laid g (g .size * j + g .size) l d) j) ≡ a = ap (arrivalOf g) (laid-before l (g .size * j + g .size) d (g .size * j) (g .size) (le-refl (g .size * j + g .size))) ∙ recorded-new g sound (a .number) (a .payload) j m room (s .0 .1) in
       let rest : heldFrom g (laid g (g .size * suc j) l d) cap 0 (suc j) (length l) ≡ l = laid-held l (suc j) cap d (c ∙ ap (capacityOf g) (sym (recorded-length g sound (a .number) (a .payload) (g .size * j) m))) (omega arith) (s .1) in
       (λ i. arrivalOf g (recordBytes g (laid g (g .size * j + g .size) l d) (near i)) ∷ heldFrom g (laid g (sym e i) l d) cap 0 (suc j) (length l))
       ∙ (λ i. here i ∷ rest i)
 
--- What a ring holds: so many notices, and where each record is good, none too long.
+-- What a ring holds: so many notices, and where each record is good, each payload of its length.
 module _ (g : Geometry) (m : List ℕ) (start : ℕ) where
   held-length : (cap i n : ℕ) → length (heldFrom g m cap start i n) ≡ n
   unfolding heldFrom
   held-length cap i zero = refl
   held-length cap i (suc n) = ap suc (held-length cap (suc i) n)
 
-  held-short : Sound g → (cap i n : ℕ) → cap ≡ capacityOf g (length m) → (0 < n → start < cap) → i + n ≤ cap → heldGood g m cap start i n ≡ true → Short (g .longest) (heldFrom g m cap start i n)
+  held-sized : Sound g → (cap i n : ℕ) → cap ≡ capacityOf g (length m) → (0 < n → start < cap) → i + n ≤ cap → heldGood g m cap start i n ≡ true → Sized (g .longest) (heldFrom g m cap start i n)
   unfolding heldFrom heldGood
-  held-short sound cap i zero c s h e = tt
-  held-short sound cap i (suc n) c s h e =
+  held-sized sound cap i zero c s h e = tt
+  held-sized sound cap i (suc n) c s h e =
       let place = ringPlace start i cap in
       let w = and-both (recordGood g m (g .size * place)) (heldGood g m cap start (suc i) n) e in
       let l = good-length g m (g .size * place) (w .0) in
-      let a = arrival-is g sound m place (record-in g (length m) place (rw (sym c) (ring-below start i cap (s (omega arith)) (omega arith)))) l in
-      let u = ap (λ (y : Arrival). length (y .payload)) a in
-      (omega (arith, u, l, length-take (lengthAt g m (g .size * place)) (drop (g .size * place + g .head) m)), held-short sound cap (suc i) n c (λ q. s (omega arith)) (omega arith) (w .1))
+      let r = record-in g (length m) place (rw (sym c) (ring-below start i cap (s (omega arith)) (omega arith))) in
+      let u = ap (λ (y : Arrival). length (y .payload)) (arrival-is g sound m place r (l .1)) ∙ length-take-le (lengthAt g m (g .size * place)) (drop (g .size * place + g .head) m) (rw length-drop (omega (arith, r, l .1, sound .fits))) in
+      ((omega (arith, u, l .0), omega (arith, u, l .1)), held-sized sound cap (suc i) n c (λ q. s (omega arith)) (omega arith) (w .1))
 
 module _ (old new : Geometry) (from : Sound old) (to : Sound new) (longer : old .longest ≤ new .longest) (x : Queue) (m k : List ℕ) where
   -- a refused conversion leaves every byte
@@ -138,20 +157,32 @@ module _ (old new : Geometry) (from : Sound old) (to : Sound new) (longer : old 
         let cap = capacityOf new (length k) in
         (l, (λ i. inBounds (capacityOf new (l i)) (w .queue i)) ∙ rw (first-in cap, le-leb (x .count) cap (w .room)))
 
+    -- the notices that waited: as many as the count says, each of a length that the new form takes
+    waited : (length (waiting old x m) ≡ x .count) × Sized (new .longest) (waiting old x m)
+    unfolding waiting
+    waited =
+        let w = convert-answers in
+        let cap = capacityOf old (length m) in
+        let c = bounds-count cap x (w .bounds) in
+        let s = held-sized old m (x .start) from cap 0 (x .count) refl (λ q. bounds-room cap x (w .bounds) (omega arith) .0) (omega arith) (w .good) in
+        (held-length old m (x .start) cap 0 (x .count), sized-up (old .longest) (new .longest) longer (heldFrom old m cap (x .start) 0 (x .count)) s)
+
+    -- what is asked of the new queue is asked of the records laid
+    convert-as : {A : Type 0} (f : List ℕ → ℕ → ℕ → ℕ → A) → f d (capacityOf new (length d)) (y .start) (y .count) ≡ f (laid new (new .size * 0) (waiting old x m) k) (capacityOf new (length k)) 0 (length (waiting old x m))
+    convert-as f =
+        let w = convert-answers in
+        ap (λ (q : Queue). f d (capacityOf new (length d)) (q .start) (q .count)) (w .queue)
+        ∙ (λ i. f (w .memory i) (capacityOf new (convert-kept .0 i)) 0 (sym (waited .0) i))
+        ∙ ap (λ (b : ℕ). f (laid new b (waiting old x m) k) (capacityOf new (length k)) 0 (length (waiting old x m))) (sym (mul-zero (new .size)))
+
     -- what waits in the new queue is what waited in the old one
     pub convert-waits : waiting new y d ≡ waiting old x m
     unfolding waiting
-    convert-waits =
-        let w = convert-answers in
-        let cap = capacityOf old (length m) in
-        let l : List Arrival = heldFrom old m cap (x .start) 0 (x .count) in
-        let n : length l ≡ x .count = held-length old m (x .start) cap 0 (x .count) in
-        let c = bounds-count cap x (w .bounds) in
-        let s = held-short old m (x .start) from cap 0 (x .count) refl (λ q. bounds-room cap x (w .bounds) (omega arith) .0) (omega arith) (w .good) in
-        ap (λ (q : Queue). heldFrom new d (capacityOf new (length d)) (q .start) 0 (q .count)) (w .queue)
-        ∙ (λ i. heldFrom new (w .memory i) (capacityOf new (convert-kept .0 i)) 0 0 (sym n i))
-        ∙ ap (λ (b : ℕ). heldFrom new (laid new b l k) (capacityOf new (length k)) 0 0 (length l)) (sym (mul-zero (new .size)))
-        ∙ laid-held new to l 0 (capacityOf new (length k)) k refl (omega (arith, n, w .room)) (short-up (old .longest) (new .longest) longer l s)
+    convert-waits = convert-as (λ s cap start n. heldFrom new s cap start 0 n) ∙ laid-held new to (waiting old x m) 0 (capacityOf new (length k)) k refl (omega (arith, waited .0, convert-answers .room)) (waited .1)
+
+    -- and each of its records has the mark and a good length
+    pub convert-good : heldGood new d (capacityOf new (length d)) (y .start) 0 (y .count) ≡ true
+    convert-good = convert-as (λ s cap start n. heldGood new s cap start 0 n) ∙ laid-good new to (waiting old x m) 0 (capacityOf new (length k)) k refl (omega (arith, waited .0, convert-answers .room)) (waited .1)
 
     -- each byte of the new memory outside a written head or payload is as it was
     pub convert-frame : (i : ℕ) → Outside new 0 (waiting old x m) i → getD d i 0 ≡ getD k i 0

@@ -142,7 +142,7 @@ module _ (m : List ℕ) (start count cap : ℕ) (c : cap ≡ capacityOf older (l
         let e : left ≡ suc (left - 1) = omega arith in
         let place = ringPlace start seen cap in
         let inside = walk-in .1 in
-        let l = good-length older m base g in
+        let l = good-length older m base g .1 in
         ap (heldFrom older m cap start seen) e
         ∙ ap (λ (y : Arrival). y ∷ heldFrom older m cap start (suc seen) (left - 1))
         (arrival-is older older-sound m place (omega (arith, w .here)) (rw (sym (w .here)) l)

@@ -3,14 +3,15 @@ use mathlib.Core.Path.{_≡_}
 use mathlib.Core.Bool.{true, false}
 use mathlib.Core.List.{List, [], _∷_, _++_, map}
 use Prim.Native.Nat.{ℕ, _+_}
-use lib.ListN.{take}
+use lib.ListN.{length, take}
 use Rattle.text.specs.Text.{partOf}
 use Rattle.moves.specs.Moves.{put}
 use Rattle.outcome.specs.Outcome.{Outcome, answered, refused, if_then_else_}
 use Rattle.slot.specs.Slot.{wasReset, wasRead, Stands}
 use Rattle.slot.specs.declared.Slot.{Slot}
-use Rattle.queue.specs.Queue.{ours, older, taken, Got, got, empty, Arrival, waiting}
+use Rattle.queue.specs.Queue.{ours, older, capacityOf, taken, Got, got, empty, Arrival, waiting}
 use Rattle.queue.specs.declared.Queue.{Queue}
+use Rattle.convert.specs.Convert.{heldGood}
 use Rattle.selector.specs.Selector.{Choice}
 use Rattle.turn.specs.Turn.{withSlot, withQueue, World, world, withState, held, says, payloadOf}
 use Rattle.ingress.specs.Ingress.{advanced, written}
@@ -105,10 +106,12 @@ restarted w q m = world (withQueue (w .state) q) (w .buf) (w .slotMemory) m
 -- A gateway kept w, with its queue in the old form, converted that and goes on from v.
 -- `told`: from there on every byte is in one of the three places, and no arrival is delivered twice, as ever;
 -- `notices`: what was handed out since, followed by what waits, is what waited in the old queue followed by the notices of the stretches consumed since:
--- so each notice that waited over the restart was handed out once, in its order and before any new one, or waits still.
+-- so each notice that waited over the restart was handed out once, in its order and before any new one, or waits still;
+-- `good`: each record that waits in v has its mark and a good length, so that none of them is refused to a take.
 pub record Restart (c : Choice) (l : List Call) (w v : World) : Type 0 where
   pub told : Told c l v
   pub notices : along c (handsBy c) l v ++ waitingIn (leftAfter c l v) ≡ waiting older (w .state .queue) (w .queueMemory) ++ flat deliveredBy (told .events)
+  pub good : let x = v .state .queue in heldGood ours (v .queueMemory) (capacityOf ours (length (v .queueMemory))) (x .start) 0 (x .count) ≡ true
 
 -- R-11: the serial number that a call puts in force, where it is a reset and isn't refused
 abbrev pub forced : ℕ → Outcome Slot → List ℕ

@@ -2,17 +2,17 @@
 use mathlib.Core.Path.{_≡_, refl, sym, ap, _∙_}
 use mathlib.Core.Logic.{_⊎_, inl, inr, ⊎-elim}
 use mathlib.Core.Bool.{Bool, true, false, _&&_, not}
-use mathlib.Core.List.{List, [], _∷_, _++_, append-nil}
+use mathlib.Core.List.{List, [], _∷_, _++_, append-nil, append-assoc}
 use Prim.Native.Nat.{ℕ, zero, suc, _+_, _-_, _*_, _≤_, _<_}
 use native.Mathlib.Numerals.{add-one}
 use native.Mathlib.Nat.{add-zero, zero-add}
 use native.Mathlib.Omega.{arith}
 use lib.ListN.{length, getD, take, drop, take-append-drop, length-append, length-drop}
-use lib.Seq.{length-take-le, getD-take, getD-drop, getD-at, drop-drop, take-all, drop-append-add}
+use lib.Seq.{length-take-le, getD-take, getD-drop, getD-at, drop-drop, take-nil, take-all, drop-append-add}
 use lib.Dec.{eqb, leb}
-use borrow.Author.Tests.{le-leb, lt-ltb, leb-true, leb-false, eqb-false, not-true, not-false}
+use borrow.Author.Tests.{eq-eqb, le-leb, lt-ltb, leb-true, leb-false, eqb-false, not-true, not-false}
 use Rattle.text.specs.Logic.{false-true, and-both, order}
-use Rattle.text.specs.Text.{stands, partOf}
+use Rattle.text.specs.Text.{begins, stands, partOf}
 use Rattle.text.specs.Laws.{part-is}
 use Rattle.moves.specs.Moves.{put}
 use Rattle.moves.specs.Laws.{put-there, put-elsewhere, put-length, part-first}
@@ -83,17 +83,40 @@ sized-both : (g : Geometry) (p : List ℕ) → sized g p ≡ true → (1 ≤ len
 sized-both g p e = let w = and-both (leb 1 (length p)) (leb (length p) (g .longest)) e in (leb-true 1 (length p) (w .0), leb-true (length p) (g .longest) (w .1))
 
 -- a good record's length
-pub good-length : (g : Geometry) (m : List ℕ) (base : ℕ) → recordGood g m base ≡ true → lengthAt g m base ≤ g .longest
+pub good-length : (g : Geometry) (m : List ℕ) (base : ℕ) → recordGood g m base ≡ true → (1 ≤ lengthAt g m base) × (lengthAt g m base ≤ g .longest)
 unfolding recordGood
 good-length g m base h =
     let len = lengthAt g m base in
-    leb-true len (g .longest) (and-both (leb 1 len) (leb len (g .longest)) (and-both (stands (g .mark) m base) (leb 1 len && leb len (g .longest)) h .1) .1)
+    let w = and-both (leb 1 len) (leb len (g .longest)) (and-both (stands (g .mark) m base) (leb 1 len && leb len (g .longest)) h .1) in
+    (leb-true 1 len (w .0), leb-true len (g .longest) (w .1))
+
+-- a list begins with its own front
+begins-own : (t s : List ℕ) → begins t (t ++ s) ≡ true
+unfolding begins
+begins-own [] s = refl
+begins-own (x ∷ t) s = rw (eq-eqb x x refl, begins-own t s)
+
+begins-front : (t s : List ℕ) (n : ℕ) → length t ≤ n → begins t (take n s) ≡ begins t s
+unfolding begins
+begins-front [] s n h = refl
+begins-front (x ∷ t) [] n h = rw take-nil
+begins-front (x ∷ t) (y ∷ s) zero h = absurd (omega arith)
+begins-front (x ∷ t) (y ∷ s) (suc n) h = ap (λ (b : Bool). eqb y x && b) (begins-front t s n (omega arith))
 
 -- What follows holds of any sound geometry.
 module _ (g : Geometry) (sound : Sound g) where
   -- the head of a record, and the longest payload behind it, lie in the record
   head-fits : (3 ≤ g .head) × (g .head + g .longest ≤ g .size)
   head-fits = (omega (arith, sound .holds 0), sound .fits)
+
+  -- a record that lies in the memory is good by its own bytes
+  pub good-own : (m : List ℕ) (base : ℕ) → base + g .size ≤ length m → recordGood g m base ≡ recordGood g (take (g .size) (drop base m)) 0
+  unfolding recordGood stands
+  good-own m base h =
+      let f = head-fits in
+      let mark : begins (g .mark) (drop base m) ≡ begins (g .mark) (take (g .size) (drop base m)) = sym (begins-front (g .mark) (drop base m) (g .size) (omega (arith, sound .marked, f .0, f .1))) in
+      let len : lengthAt g m base ≡ lengthAt g (take (g .size) (drop base m)) 0 = ap (g .read) (sym (part-within m base (g .size) 3 (g .head - 3) h (omega (arith, f .0, f .1)))) in
+      λ i. mark i && (leb 1 (len i) && leb (len i) (g .longest))
 
   -- what the record at a place says, where it lies in the memory with a length up to the longest
   pub arrival-is : (m : List ℕ) (place : ℕ) → g .size * place + g .size ≤ length m → lengthAt g m (g .size * place) ≤ g .longest → arrivalOf g (recordBytes g m place) ≡ record { number = getD m (g .size * place + 2) 0; payload = take (lengthAt g m (g .size * place)) (drop (g .size * place + g .head) m) }
@@ -159,6 +182,18 @@ module _ (g : Geometry) (sound : Sound g) where
       recorded-payload : take (length p) (drop (base + g .head) (recorded g number p base m)) ≡ p
       unfolding recorded
       recorded-payload = put-there (put m base (headOf g number (length p))) (base + g .head) p (omega (arith, put-length m base (headOf g number (length p))))
+
+      -- and is a good record
+      mark-here : stands (g .mark) (recorded g number p base m) base ≡ true
+      unfolding stands
+      mark-here =
+          let d : List ℕ = drop base (recorded g number p base m) in
+          ap (begins (g .mark)) (sym (take-append-drop (g .head) d) ∙ ap (λ (y : List ℕ). y ++ drop (g .head) d) recorded-head ∙ append-assoc (g .mark) (number ∷ g .spelled (length p)) (drop (g .head) d))
+          ∙ begins-own (g .mark) ((number ∷ g .spelled (length p)) ++ drop (g .head) d)
+
+      pub recorded-good : 1 ≤ length p → recordGood g (recorded g number p base m) base ≡ true
+      unfolding recordGood
+      recorded-good s = rw (mark-here, recorded-len, le-leb 1 (length p) s, le-leb (length p) (g .longest) l)
 
   -- the record at a place, written: what it says, and what the records at other places say still
   module _ (number : ℕ) (p : List ℕ) (place : ℕ) (m : List ℕ) (h : g .size * place + g .size ≤ length m) (l : length p ≤ g .longest) where
@@ -292,7 +327,7 @@ module _ (g : Geometry) (sound : Sound g) where
         (λ i.
         ways P (not (recordGood g m (g .size * x .start)))
         (λ h o. let z : _≡_ {A = ℕ} 0 1 = cc in absurd (omega arith))
-        (λ h o. let q = eqb-false (x .count) 0 i in ((not-false _ f, (omega arith, good-length g m (g .size * x .start) (not-false _ h))), (cc, cc)))))
+        (λ h o. let q = eqb-false (x .count) 0 i in ((not-false _ f, (omega arith, good-length g m (g .size * x .start) (not-false _ h) .1)), (cc, cc)))))
         e
 
     take-start : (x .start < capacityOf g (length m)) × (x .count ≤ capacityOf g (length m))
