@@ -2,20 +2,20 @@
 -- each byte of the new memory outside a written head or payload is as it was.
 use mathlib.Core.Path.{_≡_, refl, sym, ap, _∙_}
 use mathlib.Core.Logic.{⊎-elim, inl, inr}
-use mathlib.Core.Bool.{true, false, _&&_, not}
+use mathlib.Core.Bool.{true, _&&_, not}
 use mathlib.Core.List.{List, [], _∷_}
 use Prim.Native.Nat.{ℕ, zero, suc, _+_, _*_, _≤_, _<_}
 use native.Mathlib.Nat.{mul-suc, mul-zero, zero-add, le-refl}
 use native.Mathlib.Omega.{arith}
-use lib.ListN.{length, getD, take, drop, take-append-drop, length-drop}
+use lib.ListN.{length, getD, take, drop, length-drop}
 use lib.Seq.{length-take-le, getD-take, getD-drop}
-use lib.Dec.{leb, ltb}
+use lib.Dec.{ltb}
 use borrow.Author.Tests.{le-leb, lt-ltb, ltb-false, not-false}
 use Rattle.text.specs.Logic.{and-both}
 use Rattle.outcome.specs.Outcome.{answered, refused}
 use Rattle.outcome.specs.Laws.{ways}
 use Rattle.queue.specs.Queue.{Geometry, Sound, capacityOf, startIn, inBounds, ringPlace, recorded, lengthAt, recordGood, After, after, Arrival, recordBytes, arrivalOf, heldFrom, waiting}
-use Rattle.queue.specs.Laws.{start-some, bounds-room, bounds-count, ring-near, ring-below, record-in}
+use Rattle.queue.specs.Laws.{bounds-room, bounds-count, ring-near, ring-below, record-in}
 use Rattle.queue.specs.Waiting.{good-length, good-own, arrival-is, recorded-length, recorded-elsewhere, recorded-good, recorded-new}
 use Rattle.queue.specs.declared.Queue.{Queue}
 use Rattle.convert.specs.Convert.{heldGood, laid, converted, Outside}

@@ -1,19 +1,19 @@
--- The walk round the old ring, what it has seen and written, the ways out of the conversion, and that its promise determines it.
+-- The walk round the old ring, what it has seen and written, and the ways out of the conversion.
 use mathlib.Core.Path.{_≡_, refl, sym, ap, _∙_}
 use mathlib.Core.Logic.{⊎-elim}
 use mathlib.Core.Bool.{true, false, _&&_}
 use mathlib.Core.List.{List, [], _∷_}
-use Prim.Native.Nat.{ℕ, zero, suc, _+_, _-_, _*_, _≤_, _<_}
+use Prim.Native.Nat.{ℕ, suc, _+_, _-_, _*_, _≤_, _<_}
 use native.Mathlib.Omega.{arith}
 use lib.ListN.{length, getD, take, drop}
 use lib.Seq.{getD-take, getD-drop}
 use lib.Dec.{leb, ltb}
 use borrow.Author.Tests.{lt-ltb, le-ltb, ltb-true, eqb-true}
 use Rattle.text.specs.Logic.{and-both, order}
-use Rattle.text.specs.Text.{stands, partOf}
+use Rattle.text.specs.Text.{partOf}
 use Rattle.text.specs.Laws.{part-is}
 use Rattle.outcome.specs.Outcome.{answered, refused, if_then_else_}
-use Rattle.queue.specs.Queue.{ours, older, capacityOf, startIn, inBounds, ringPlace, recorded, lengthAt, recordGood, After, after, Arrival, recordBytes, arrivalOf, heldFrom, waiting}
+use Rattle.queue.specs.Queue.{ours, older, capacityOf, startIn, inBounds, ringPlace, recorded, lengthAt, recordGood, after, Arrival, heldFrom, waiting}
 use Rattle.queue.specs.Laws.{older-sound, start-none, start-some, bounds-count, ring-near, ring-far, ring-below, record-in}
 use Rattle.queue.specs.Waiting.{arrival-is, good-length}
 use Rattle.queue.specs.declared.Queue.{Queue}
@@ -22,7 +22,7 @@ use Rattle.convert.specs.declared.Converted.the-variants as converts
 use Rattle.convert.specs.Convert.{heldGood, laid, converted, outcome}
 
 -- two answers with the same outcome are equal
-outcome-one : (r q : Converted) → outcome r ≡ outcome q → r ≡ q
+pub outcome-one : (r q : Converted) → outcome r ≡ outcome q → r ≡ q
 outcome-one (converts.Is x) (converts.Is y) e = cc
 outcome-one (converts.Is x) converts.Bad e = let z : _≡_ {A = ℕ} 0 1 = cc in absurd (omega arith)
 outcome-one (converts.Is x) converts.TooFew e = let z : _≡_ {A = ℕ} 0 1 = cc in absurd (omega arith)
@@ -32,12 +32,6 @@ outcome-one converts.Bad converts.TooFew e = let z : _≡_ {A = ℕ} 3 13 = cc i
 outcome-one converts.TooFew (converts.Is y) e = let z : _≡_ {A = ℕ} 0 1 = cc in absurd (omega arith)
 outcome-one converts.TooFew converts.Bad e = let z : _≡_ {A = ℕ} 3 13 = cc in absurd (omega arith)
 outcome-one converts.TooFew converts.TooFew e = refl
-
--- and so are two answers of a conversion with the memories that they left
-pub after-one : (w : After) (r q : Converted) (m n : List ℕ) → after (outcome r) m ≡ w → after (outcome q) n ≡ w → (r ≡ q) × (m ≡ n)
-after-one w r q m n e f =
-    let g : after (outcome r) m ≡ after (outcome q) n = e ∙ sym f in
-    (outcome-one r q (ap (λ (x : After). x .said) g), ap (λ (x : After). x .memory) g)
 
 -- an old record's length is one byte
 pub old-length : (m : List ℕ) (base : ℕ) → getD m (base + 3) 0 ≡ lengthAt older m base

@@ -1,8 +1,8 @@
 -- The ways out of the queue's calls, each with the tests that led there, and that their promises determine them.
 use mathlib.Core.Path.{_≡_, refl, sym, ap, _∙_}
 use mathlib.Core.Bool.{true, false, _&&_}
-use mathlib.Core.List.{List, [], _∷_}
-use Prim.Native.Nat.{ℕ, zero, suc, _+_, _-_, _*_, _/_, _%_, _≤_, _<_}
+use mathlib.Core.List.{List, []}
+use Prim.Native.Nat.{ℕ, zero, suc, _+_, _-_, _*_, _/_, _≤_, _<_}
 use native.Mathlib.Nat.{mul-suc, mul-le-mul-left, mul-div-le}
 use native.Mathlib.Omega.{arith}
 use lib.ListN.{length, getD, take, drop}
@@ -13,7 +13,7 @@ use Rattle.text.specs.Logic.{and-both}
 use Rattle.text.specs.Text.{stands}
 use Rattle.moves.specs.Moves.{put, oneMore}
 use Rattle.moves.specs.Laws.{put-none}
-use Rattle.outcome.specs.Outcome.{answered, refused}
+use Rattle.outcome.specs.Outcome.{Outcome, answered, refused}
 use Rattle.outcome.specs.Laws.{ways}
 use Rattle.queue.specs.declared.Queue.{Queue}
 use Rattle.queue.specs.declared.Put.{Put}
@@ -34,11 +34,11 @@ outcome-one puts.Full (puts.Is y) e = let z : _≡_ {A = ℕ} 0 1 = cc in absurd
 outcome-one puts.Full puts.BadBounds e = let z : _≡_ {A = ℕ} 3 5 = cc in absurd (omega arith)
 outcome-one puts.Full puts.Full e = refl
 
--- and so are two answers of a put with the memories that they left
-pub after-one : (w : After) (r q : Put) (m n : List ℕ) → after (outcome r) m ≡ w → after (outcome q) n ≡ w → (r ≡ q) × (m ≡ n)
-after-one w r q m n e f =
+-- and where that is so of a call's answers, they are equal with the memories that they left
+pub after-one : {R : Type 0} (outcome : R → Outcome Queue) → ((r q : R) → outcome r ≡ outcome q → r ≡ q) → (w : After) (r q : R) (m n : List ℕ) → after (outcome r) m ≡ w → after (outcome q) n ≡ w → (r ≡ q) × (m ≡ n)
+after-one outcome one w r q m n e f =
     let g : after (outcome r) m ≡ after (outcome q) n = e ∙ sym f in
-    (outcome-one r q (ap (λ (x : After). x .said) g), ap (λ (x : After). x .memory) g)
+    (one r q (ap (λ (x : After). x .said) g), ap (λ (x : After). x .memory) g)
 
 pub taking-one : (r q : Taken) → taking r ≡ taking q → r ≡ q
 taking-one (takes.Is x n) (takes.Is y k) e = cc
