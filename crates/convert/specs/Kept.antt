@@ -58,38 +58,23 @@ module _ (g : Geometry) (sound : Sound g) where
       ∙ ap (λ (s : List ℕ). getD s 0 0) (recorded-elsewhere g sound (a .number) (a .payload) base m i 1 (⊎-elim (λ (q : i < base). inl (omega arith)) (λ (q : base + (g .head + length (a .payload)) ≤ i). inr q) (o .0)))
       ∙ byte m
 
-  -- are good
-  laid-good : (l : List Arrival) (j cap : ℕ) (m : List ℕ) → cap ≡ capacityOf g (length m) → j + length l ≤ cap → Sized (g .longest) l → heldGood g (laid g (g .size * j) l m) cap 0 j (length l) ≡ true
-  unfolding laid heldGood
-  laid-good [] j cap m c h s = refl
-  laid-good (a ∷ l) j cap m c h s =
-      let d : List ℕ = recorded g (a .number) (a .payload) (g .size * j) m in
-      let e : g .size * suc j ≡ g .size * j + g .size = mul-suc (g .size) j in
-      let near : ringPlace 0 j cap ≡ j = sym (ring-near 0 j cap (omega arith)) ∙ zero-add j in
-      let room = record-in g (length m) j (rw (sym c) (omega arith)) in
-      let long = recorded-length g sound (a .number) (a .payload) (g .size * j) m in
-      let k : List ℕ = laid g (g .size * j + g .size) l d in
-      let here : recordGood g k (g .size * j) ≡ true =
-      good-own g sound k (g .size * j) (omega (arith, laid-length l (g .size * j + g .size) d))
-      ∙ ap (λ (r : List ℕ). recordGood g r 0) (laid-before l (g .size * j + g .size) d (g .size * j) (g .size) (le-refl (g .size * j + g .size)))
-      ∙ sym (good-own g sound d (g .size * j) (omega arith))
-      ∙ recorded-good g sound (a .number) (a .payload) (g .size * j) m (omega (arith, s .0 .1, sound .fits)) (s .0 .1) (s .0 .0) in
-      let rest : heldGood g (laid g (g .size * suc j) l d) cap 0 (suc j) (length l) ≡ true = laid-good l (suc j) cap d (c ∙ ap (capacityOf g) (sym long)) (omega arith) (s .1) in
-      (λ i. recordGood g k (g .size * near i) && heldGood g (laid g (sym e i) l d) cap 0 (suc j) (length l)) ∙ rw (here, rest)
-
-  -- and read back
-  laid-held : (l : List Arrival) (j cap : ℕ) (m : List ℕ) → cap ≡ capacityOf g (length m) → j + length l ≤ cap → Sized (g .longest) l → heldFrom g (laid g (g .size * j) l m) cap 0 j (length l) ≡ l
-  unfolding laid heldFrom
-  laid-held [] j cap m c h s = refl
+  -- are read back, each from a good record
+  laid-held : (l : List Arrival) (j cap : ℕ) (m : List ℕ) → cap ≡ capacityOf g (length m) → j + length l ≤ cap → Sized (g .longest) l → (heldFrom g (laid g (g .size * j) l m) cap 0 j (length l) ≡ l) × (heldGood g (laid g (g .size * j) l m) cap 0 j (length l) ≡ true)
+  unfolding laid heldFrom heldGood
+  laid-held [] j cap m c h s = (refl, refl)
   laid-held (a ∷ l) j cap m c h s =
-      let d : List ℕ = recorded g (a .number) (a .payload) (g .size * j) m in
-      let e : g .size * suc j ≡ g .size * j + g .size = mul-suc (g .size) j in
+      let base = g .size * j in
+      let d : List ℕ = recorded g (a .number) (a .payload) base m in
+      let k : List ℕ = laid g (base + g .size) l d in
+      let e : g .size * suc j ≡ base + g .size = mul-suc (g .size) j in
       let near : ringPlace 0 j cap ≡ j = sym (ring-near 0 j cap (omega arith)) ∙ zero-add j in
       let room = record-in g (length m) j (rw (sym c) (omega arith)) in
-      let here : arrivalOf g (recordBytes g (laid g (g .size * j + g .size) l d) j) ≡ a = ap (arrivalOf g) (laid-before l (g .size * j + g .size) d (g .size * j) (g .size) (le-refl (g .size * j + g .size))) ∙ recorded-new g sound (a .number) (a .payload) j m room (s .0 .1) in
-      let rest : heldFrom g (laid g (g .size * suc j) l d) cap 0 (suc j) (length l) ≡ l = laid-held l (suc j) cap d (c ∙ ap (capacityOf g) (sym (recorded-length g sound (a .number) (a .payload) (g .size * j) m))) (omega arith) (s .1) in
-      (λ i. arrivalOf g (recordBytes g (laid g (g .size * j + g .size) l d) (near i)) ∷ heldFrom g (laid g (sym e i) l d) cap 0 (suc j) (length l))
-      ∙ (λ i. here i ∷ rest i)
+      let long = recorded-length g sound (a .number) (a .payload) base m in
+      let same : recordBytes g k j ≡ recordBytes g d j = laid-before l (base + g .size) d base (g .size) (le-refl (base + g .size)) in
+      let here : arrivalOf g (recordBytes g k j) ≡ a = ap (arrivalOf g) same ∙ recorded-new g sound (a .number) (a .payload) j m room (s .0 .1) in
+      let good : recordGood g k base ≡ true = good-own g sound k base (omega (arith, laid-length l (base + g .size) d)) ∙ ap (λ (r : List ℕ). recordGood g r 0) same ∙ sym (good-own g sound d base (omega arith)) ∙ recorded-good g sound (a .number) (a .payload) base m (omega (arith, s .0 .1, sound .fits)) (s .0 .1) (s .0 .0) in
+      let rest = laid-held l (suc j) cap d (c ∙ ap (capacityOf g) (sym long)) (omega arith) (s .1) in
+      ((λ i. arrivalOf g (recordBytes g k (near i)) ∷ heldFrom g (laid g (sym e i) l d) cap 0 (suc j) (length l)) ∙ (λ i. here i ∷ rest .0 i), (λ i. recordGood g k (g .size * near i) && heldGood g (laid g (sym e i) l d) cap 0 (suc j) (length l)) ∙ rw (good, rest .1))
 
 -- What a ring holds: so many notices, and where each record is good, each payload of its length.
 module _ (g : Geometry) (m : List ℕ) (start : ℕ) where
@@ -175,14 +160,17 @@ module _ (old new : Geometry) (from : Sound old) (to : Sound new) (longer : old 
         ∙ (λ i. f (w .memory i) (capacityOf new (convert-kept .0 i)) 0 (sym (waited .0) i))
         ∙ ap (λ (b : ℕ). f (laid new b (waiting old x m) k) (capacityOf new (length k)) 0 (length (waiting old x m))) (sym (mul-zero (new .size)))
 
+    read-back : (heldFrom new (laid new (new .size * 0) (waiting old x m) k) (capacityOf new (length k)) 0 0 (length (waiting old x m)) ≡ waiting old x m) × (heldGood new (laid new (new .size * 0) (waiting old x m) k) (capacityOf new (length k)) 0 0 (length (waiting old x m)) ≡ true)
+    read-back = laid-held new to (waiting old x m) 0 (capacityOf new (length k)) k refl (omega (arith, waited .0, convert-answers .room)) (waited .1)
+
     -- what waits in the new queue is what waited in the old one
     pub convert-waits : waiting new y d ≡ waiting old x m
     unfolding waiting
-    convert-waits = convert-as (λ s cap start n. heldFrom new s cap start 0 n) ∙ laid-held new to (waiting old x m) 0 (capacityOf new (length k)) k refl (omega (arith, waited .0, convert-answers .room)) (waited .1)
+    convert-waits = convert-as (λ s cap start n. heldFrom new s cap start 0 n) ∙ read-back .0
 
     -- and each of its records has the mark and a good length
     pub convert-good : heldGood new d (capacityOf new (length d)) (y .start) 0 (y .count) ≡ true
-    convert-good = convert-as (λ s cap start n. heldGood new s cap start 0 n) ∙ laid-good new to (waiting old x m) 0 (capacityOf new (length k)) k refl (omega (arith, waited .0, convert-answers .room)) (waited .1)
+    convert-good = convert-as (λ s cap start n. heldGood new s cap start 0 n) ∙ read-back .1
 
     -- each byte of the new memory outside a written head or payload is as it was
     pub convert-frame : (i : ℕ) → Outside new 0 (waiting old x m) i → getD d i 0 ≡ getD k i 0
