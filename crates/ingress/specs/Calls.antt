@@ -107,7 +107,7 @@ restarted w q m = world (withQueue (w .state) q) (w .buf) (w .slotMemory) m
 -- `told`: from there on every byte is in one of the three places, and no arrival is delivered twice, as ever;
 -- `notices`: what was handed out since, followed by what waits, is what waited in the old queue followed by the notices of the stretches consumed since:
 -- so each notice that waited over the restart was handed out once, in its order and before any new one, or waits still;
--- `good`: each record that waits in v has its mark and a good length, so that none of them is refused to a take.
+-- `good`: each record that waits in v has its mark and a good length, which is all that a take asks of one.
 pub record Restart (c : Choice) (l : List Call) (w v : World) : Type 0 where
   pub told : Told c l v
   pub notices : along c (handsBy c) l v ++ waitingIn (leftAfter c l v) ≡ waiting older (w .state .queue) (w .queueMemory) ++ flat deliveredBy (told .events)
