@@ -34,7 +34,7 @@ pub record Said : Type 0 where
 abbrev said : List ℕ → Answer → Said
 said s a = record { kind = a .kind; number = numberOf a; payload = partOf s (a .place) (a .len); consumed = a .consumed }
 
-abbrev saidOf : List ℕ → Outcome Answer → Outcome Said
+abbrev pub saidOf : List ℕ → Outcome Answer → Outcome Said
 saidOf s (answered a) = answered (said s a)
 saidOf s (refused n values) = refused n values
 

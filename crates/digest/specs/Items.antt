@@ -86,7 +86,7 @@ module _ (u : List ℕ) where
       go false true = omega arith
       go false false = omega arith
 
-  lf-not-broken : (x : List ℕ) → isText x ≡ true → (k j : ℕ) → k ≤ j → j < length u → getD u j 0 ≡ 10 → breaksOff x u k ≡ true → ⊥
+  pub lf-not-broken : (x : List ℕ) → isText x ≡ true → (k j : ℕ) → k ≤ j → j < length u → getD u j 0 ≡ 10 → breaksOff x u k ≡ true → ⊥
   unfolding breaksOff
   lf-not-broken x t k j h g e b =
       let d = drop k u in

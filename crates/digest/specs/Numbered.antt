@@ -27,7 +27,7 @@ use Rattle.items.specs.declared.Occurs.{Occurs}
 use Rattle.items.specs.declared.Occurs.the-variants as occurs
 use Rattle.items.specs.declared.Tried.{Tried}
 use Rattle.items.specs.declared.Tried.the-variants as tries
-use Rattle.items.specs.Rules.{skipped, heard, notices, firstCustom, kindOf, success, customSuccess, lineSuccess, connectAt, firstConnect, connected, connectSuccess, successes, promptTried, customPrompts, prompts, customError, heads, numericTried, numericErrors, errorLines, lineTried, lineErrors, notAllowed, errors, tried}
+use Rattle.items.specs.Rules.{orElse, skipped, heard, notices, firstCustom, kindOf, success, customSuccess, lineSuccess, connectAt, firstConnect, connected, connectSuccess, successes, promptTried, customPrompts, prompts, customError, heads, numericTried, numericErrors, errorLines, lineTried, lineErrors, notAllowed, errors, tried}
 use Rattle.digest.specs.Digest.{retries, again, after, digestIn}
 use Rattle.digest.specs.Step.{TriedHas, either-has, first-has, by-length, rest-shorter, digest-step}
 
@@ -113,11 +113,11 @@ module _ (k : ℕ) (s : List ℕ) (e : ℕ) where
   unfolding notAllowed
   na-below = ways (TriedHas (Below k)) (stands (fixedText fixed.Na) s e) (λ q. other false refl) (λ q. tt)
 
-  tried-below : (d : Digester) (ts : List Token) → NumbersBelow k (ofMark mark.Notice 0 ts) → TriedHas (Below k) (tried d ts s e)
-  unfolding tried successes prompts errors numericErrors lineErrors
-  tried-below d ts w =
-      either-has (Below k) (notices (ofMark mark.Notice 0 ts) s e) _ (notices-below (ofMark mark.Notice 0 ts) w)
-      (either-has (Below k) (successes d (ofMark mark.Success 0 ts) s e) _
+  -- of rules 3 to 5, which have no notice
+  pub others-below : (d : Digester) (ts : List Token) → TriedHas (Below k) (orElse (successes d (ofMark mark.Success 0 ts) s e) (orElse (prompts (ofMark mark.Prompt 0 ts) s e) (errors (ofMark mark.Error 0 ts) s e)))
+  unfolding successes prompts errors numericErrors lineErrors
+  others-below d ts =
+      either-has (Below k) (successes d (ofMark mark.Success 0 ts) s e) _
       (either-has (Below k) (customSuccess (firstCustom (ofMark mark.Success 0 ts) s e) s e) _ (custom-success-below (firstCustom (ofMark mark.Success 0 ts) s e))
       (either-has (Below k) (lineSuccess s e fixed.Ok (findIn (fixedText fixed.Ok) s e)) _ (line-success-below fixed.Ok (findIn (fixedText fixed.Ok) s e)) (connect-below d (firstConnect d s e))))
       (either-has (Below k) (prompts (ofMark mark.Prompt 0 ts) s e) _
@@ -125,7 +125,11 @@ module _ (k : ℕ) (s : List ℕ) (e : ℕ) where
       (either-has (Below k) (promptTried (promptFrom 62 s e) 62 s) _ (prompt-below (promptFrom 62 s e) 62) (prompt-below (promptFrom 64 s e) 64)))
       (either-has (Below k) (customError (firstCustom (ofMark mark.Error 0 ts) s e)) _ (custom-error-below (firstCustom (ofMark mark.Error 0 ts) s e))
       (either-has (Below k) (numericErrors s e) _ (first-has (Below k) (λ h. numericTried h (numericError (fixedText h) s e)) (λ h. numeric-below h (numericError (fixedText h) s e)) heads)
-      (either-has (Below k) (lineErrors s e) _ (first-has (Below k) (λ x. lineTried x (findIn (fixedText x) s e)) (λ x. line-below x (findIn (fixedText x) s e)) errorLines) na-below)))))
+      (either-has (Below k) (lineErrors s e) _ (first-has (Below k) (λ x. lineTried x (findIn (fixedText x) s e)) (λ x. line-below x (findIn (fixedText x) s e)) errorLines) na-below))))
+
+  tried-below : (d : Digester) (ts : List Token) → NumbersBelow k (ofMark mark.Notice 0 ts) → TriedHas (Below k) (tried d ts s e)
+  unfolding tried
+  tried-below d ts w = either-has (Below k) (notices (ofMark mark.Notice 0 ts) s e) _ (notices-below (ofMark mark.Notice 0 ts) w) (others-below d ts)
 
 -- the retry's answer is of the same kind and has the same number
 again-below : (k e : ℕ) (r : Answer) → Below k r → Below k (again e r)
