@@ -37,7 +37,8 @@
  *     AT+CGDCONT?\r\r\n+CGDCONT: 1,"IP","me@apn"\r\n\r\nOK\r\n
  * is an Ok with the payload +CGDCONT: 1,"IP","me@apn"; cut behind the @ it is a prompt @ and then an Ok with none. So hand over what a read gave, never single
  * bytes; where its last byte that is no blank is > or @, wait a moment for the line to go quiet, and hand it over with what still came. An error hangs on the cut
- * too: `ERROR` and an `OK` behind it in one piece are an Ok.
+ * too: `ERROR` and an `OK` behind it in one piece are an Ok. Two answers hang on nothing that comes behind them: an Ok by the line OK under a table with no CS record,
+ * and a notice with no CRLF before its own (docs/WAITING.md).
  * With WX_NUMERIC the cut between a CR and its LF changes what is heard, and only in an information line that is exactly one of the digits listed below:
  *     0\r, then \n       an Ok and a stray LF; 0\r\n in one piece is such a line, and nothing that is finished
  *     0\r, then \n0\r    an Ok, and the second is lost, since no line starts behind a stray LF; 0\r\n0\r in one piece is an Ok with the payload 0

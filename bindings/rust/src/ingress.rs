@@ -102,7 +102,8 @@ use crate::{Digester, MemoryError, NoticeQueue, Refusal, ResponseSlot, LONGEST_I
 ///
 /// So hand over what a read gave, never single bytes; where its last byte that is no blank is `>` or `@`, wait a moment for
 /// the line to go quiet and hand it over with what still came (`examples/listen.rs` does). An error, too, hangs on the cut:
-/// `ERROR` and an `OK` behind it in one piece are an Ok.
+/// `ERROR` and an `OK` behind it in one piece are an Ok. Two answers hang on nothing that comes behind them: an Ok by the
+/// line OK under a table with no custom success, and a notice with no CRLF before its own (docs/WAITING.md).
 ///
 /// # Going on after refusal 5
 ///

@@ -1,4 +1,5 @@
--- Where a notice begins: one that is heard where buf begins has its payload two bytes behind that, and no other notice has; an ended one there is heard.
+-- Where a notice begins: one that is heard where buf begins has its payload two bytes behind that, and no other notice has (`first-told`); an ended one there is heard
+-- (`ended-heard`), and as a notice (`notices-notice`).
 use mathlib.Core.Path.{_≡_, refl, sym, ap, _∙_}
 use mathlib.Core.Logic.{inl, inr}
 use mathlib.Core.Bool.{true, false, Bool}
@@ -28,6 +29,7 @@ use Rattle.answers.specs.Answer.{isFound, isNotice, nothing, placed, shift}
 use Rattle.answers.specs.Laws.{placed-some}
 use Rattle.answers.specs.declared.Kind.the-variants as kind
 use Rattle.answers.specs.declared.Answer.{Answer}
+use Rattle.items.specs.Laws.{next-both, done-next}
 use Rattle.items.specs.Rules.{orElse, skipped, heard, notices, successes, prompts, errors, tried}
 use Rattle.items.specs.declared.Tried.{Tried}
 use Rattle.items.specs.declared.Tried.the-variants as tries
@@ -132,10 +134,6 @@ notices-begun s [] w = tt
 notices-begun s (x ∷ l) w =
     either-has (IfNotice s) (heard (noticeAt (x .text) s (skipped s)) (x .number) s (skipped s)) (notices l s (skipped s)) (heard-begun s x (w .0) (noticeAt (x .text) s (skipped s)) refl) (notices-begun s l (w .1))
 
-abbrev pub Noticed : Tried → Type 0
-Noticed (tries.Done a) = a .kind ≡ kind.Notice
-Noticed tries.Next = ⊥
-
 has-map : (P Q : Answer → Type 0) → ((a : Answer) → P a → Q a) → (t : Tried) → TriedHas P t → TriedHas Q t
 has-map P Q f (tries.Done a) h = f a h
 has-map P Q f tries.Next h = tt
@@ -201,31 +199,38 @@ module _ (d : Digester) (ts : List Token) (good : Texts ts) where
       go (tries.Done b) q = ap tries.Done (sym (done-is d ts s b (noticed d ts s (skipped s) b q)) ∙ p)
       go tries.Next q = absurd (elsewhere s q (rw p z) (rw p l))
 
-  -- an ended notice where buf begins is what is answered: where a line ends, no notice is unfinished
-  module _ (s : List ℕ) (n : ℕ) (w : Line s (skipped s + n)) where
-    unbroken : (x : List ℕ) → isText x ≡ true → noticeAt x s (skipped s) ≡ notice.Unfinished → ⊥
-    unfolding shiftNotice
-    unbroken x t h = go (noticeAt x (drop (skipped s) s) 0) refl (sym (notice-moved x s (skipped s)) ∙ h)
-      where
-        go : (r : Notice) → noticeAt x (drop (skipped s) s) 0 ≡ r → shiftNotice (skipped s) r ≡ notice.Unfinished → ⊥
-        go (notice.Ended k) p g = let z : _≡_ {A = ℕ} 0 1 = cc in omega arith
-        go notice.Unfinished p g =
-            let e = skipped s in
-            let u = drop e s in
-            let f = stands-fits crlf s (w .q) (omega arith) (w .there) in
-            let i : e + (w .q + 1 - e) ≡ w .q + 1 = omega (arith, w .far) in
-            let v = unfinished-told x u p in
-            lf-not-broken u x t (lineEnding u 0) (w .q + 1 - e) (omega (arith, w .far, ending-two u 0 (sym (stands-here crlf s e) ∙ w .here))) (rw length-drop (omega (arith, w .far)))
-            (getD-drop e s (w .q + 1 - e) 0 ∙ ap (λ (j : ℕ). getD s j 0) i ∙ crlf-lf s (w .q) (w .there)) (v .broken)
-        go notice.Nothing p g = let z : _≡_ {A = ℕ} 0 1 = cc in omega arith
+-- where CRLF stands where buf begins and again behind it, no notice is unfinished
+module _ (s : List ℕ) (here : stands crlf s (skipped s) ≡ true) (q : ℕ) (far : skipped s + 2 ≤ q) (there : stands crlf s q ≡ true) where
+  unbroken : (x : List ℕ) → isText x ≡ true → noticeAt x s (skipped s) ≡ notice.Unfinished → ⊥
+  unfolding shiftNotice
+  unbroken x t h = go (noticeAt x (drop (skipped s) s) 0) refl (sym (notice-moved x s (skipped s)) ∙ h)
+    where
+      go : (r : Notice) → noticeAt x (drop (skipped s) s) 0 ≡ r → shiftNotice (skipped s) r ≡ notice.Unfinished → ⊥
+      go (notice.Ended k) p g = let z : _≡_ {A = ℕ} 0 1 = cc in omega arith
+      go notice.Unfinished p g =
+          let e = skipped s in
+          let u = drop e s in
+          let f = stands-fits crlf s q (omega arith) there in
+          let i : e + (q + 1 - e) ≡ q + 1 = omega arith in
+          lf-not-broken u x t (lineEnding u 0) (q + 1 - e) (omega (arith, ending-two u 0 (sym (stands-here crlf s e) ∙ here))) (rw length-drop (omega arith))
+          (getD-drop e s (q + 1 - e) 0 ∙ ap (λ (j : ℕ). getD s j 0) i ∙ crlf-lf s q there) (unfinished-told x u p .broken)
+      go notice.Nothing p g = let z : _≡_ {A = ℕ} 0 1 = cc in omega arith
 
-    pub held-first : (l : List Entry) → EntryTexts l → Some (λ x. NoticeEnded (x .text) (drop (skipped s) s) n) l → Noticed (notices l s (skipped s))
-    unfolding notices orElse heard
-    held-first [] g h = h
-    held-first (x ∷ l) g (inl h) = rw (notice-front d ts good s (skipped s) (x .text) n h)
-    held-first (x ∷ l) g (inr h) = go (noticeAt (x .text) s (skipped s)) refl (held-first l (g .1) h)
-      where
-        go : (r : Notice) → noticeAt (x .text) s (skipped s) ≡ r → Noticed (notices l s (skipped s)) → Noticed (orElse (heard r (x .number) s (skipped s)) (notices l s (skipped s)))
-        go (notice.Ended end) q v = refl
-        go notice.Unfinished q v = absurd (unbroken (x .text) (g .0) q)
-        go notice.Nothing q v = v
+  -- so what rule 2 answers is a notice
+  pub notices-notice : (l : List Entry) → EntryTexts l → TriedHas (λ a. a .kind ≡ kind.Notice) (notices l s (skipped s))
+  unfolding notices heard
+  notices-notice [] g = tt
+  notices-notice (x ∷ l) g =
+      either-has (λ a. a .kind ≡ kind.Notice) (heard (noticeAt (x .text) s (skipped s)) (x .number) s (skipped s)) (notices l s (skipped s)) (go (noticeAt (x .text) s (skipped s)) refl) (notices-notice l (g .1))
+    where
+      go : (r : Notice) → noticeAt (x .text) s (skipped s) ≡ r → TriedHas (λ a. a .kind ≡ kind.Notice) (heard r (x .number) s (skipped s))
+      go (notice.Ended end) p = refl
+      go notice.Unfinished p = absurd (unbroken (x .text) (g .0) p)
+      go notice.Nothing p = tt
+
+-- and an ended one is answered
+pub ended-heard : (d : Digester) (ts : List Token) (good : Texts ts) (s : List ℕ) (e n : ℕ) (l : List Entry) → Some (λ x. NoticeEnded (x .text) (drop e s) n) l → notices l s e ≡ tries.Next → ⊥
+unfolding notices heard
+ended-heard d ts good s e n [] h g = h
+ended-heard d ts good s e n (x ∷ l) (inl h) g = done-next _ (ap (λ (r : Notice). heard r (x .number) s e) (notice-front d ts good s e (x .text) n h)) (next-both (heard (noticeAt (x .text) s e) (x .number) s e) (notices l s e) g .0)
+ended-heard d ts good s e n (x ∷ l) (inr h) g = ended-heard d ts good s e n l h (next-both (heard (noticeAt (x .text) s e) (x .number) s e) (notices l s e) g .1)

@@ -154,6 +154,24 @@ module _ (s v : List ℕ) (e q : ℕ) (here : stands crlf s e ≡ true) (far : e
       ap (λ (r : Notice). orElse (heard r (x .number) (s ++ v) e) (notices l (s ++ v) e)) (notice-same (x .text) (w .0))
       ∙ (λ i. orElse (heard-same (x .text) (x .number) (noticeAt (x .text) s e) refl i) (notices-behind l (w .1) i))
 
+-- an OK line in the input: the first from where buf begins, with CRLF at both ends of it
+pub record FirstOk (s : List ℕ) : Type 0 where
+  pub k : ℕ
+  pub found : findIn (fixedText fixed.Ok) s (skipped s) ≡ At k
+  pub after : skipped s ≤ k
+  pub here : stands crlf s (skipped s) ≡ true
+  pub there : stands crlf s (k + 4) ≡ true
+
+pub first-ok : (s : List ℕ) (j : ℕ) → stands (fixedText fixed.Ok) s j ≡ true → FirstOk s
+first-ok s j h = go (findIn (fixedText fixed.Ok) s (skipped s)) refl (first-crlf s j (stands-front crlf (bytes "OK\r\n") s j h))
+  where
+    go : (r : Found) → findIn (fixedText fixed.Ok) s (skipped s) ≡ r → (skipped s ≤ j) × (stands crlf s (skipped s) ≡ true) → FirstOk s
+    go (At k) f c =
+        let w = found-at (fixedText fixed.Ok) s (skipped s) k f in
+        let b = and-both (stands (bytes "\r\nOK") s k) (stands crlf s (k + 4)) (sym (stands-append (bytes "\r\nOK") crlf s k) ∙ w .here) in
+        record { k = k; found = f; after = w .after; here = c .1; there = b .1 }
+    go Nothing f c = absurd (false-true h (found-none (fixedText fixed.Ok) s (skipped s) f j (c .0)))
+
 module _ (d : Digester) (ts : List Token) where
   -- what rules 2 to 5 answer where buf begins is the digest's answer
   pub done-is : (s : List ℕ) (a : Answer) → tried d ts s (skipped s) ≡ tries.Done a → digestIn d ts s ≡ a
@@ -164,9 +182,14 @@ module _ (d : Digester) (ts : List Token) where
   unfolding tried
   noticed s e a h = sym (hit (notices (ofMark mark.Notice 0 ts) s e) _ _ a refl h)
 
-module _ (d : Digester) (ts : List Token) (good : Texts ts) where
+  -- the first OK line at k, before which no `CS` text is looked for
+  pub ok-done : ofMark mark.Success 0 ts ≡ [] → (s : List ℕ) (e k : ℕ) → findIn (fixedText fixed.Ok) s e ≡ At k → notices (ofMark mark.Notice 0 ts) s e ≡ tries.Next → tried d ts s e ≡ tries.Done (withPayload kind.Ok 0 (trimmedPart s e k) (k + 6))
+  unfolding tried successes firstCustom customSuccess lineSuccess success orElse
+  ok-done none s e k f g = rw (g, none, f)
+
+module _ (d : Digester) (ts : List Token) (good : Texts ts) (s v : List ℕ) where
   -- with CRLF where buf begins and again behind it
-  module _ (s v : List ℕ) (here : stands crlf s (skipped s) ≡ true) (q : ℕ) (far : skipped s + 2 ≤ q) (there : stands crlf s q ≡ true) where
+  module _ (here : stands crlf s (skipped s) ≡ true) (q : ℕ) (far : skipped s + 2 ≤ q) (there : stands crlf s q ≡ true) where
     same-notices : notices (ofMark mark.Notice 0 ts) (s ++ v) (skipped s) ≡ notices (ofMark mark.Notice 0 ts) s (skipped s)
     same-notices = notices-behind s v (skipped s) q here far there (ofMark mark.Notice 0 ts) (mark-texts mark.Notice 0 ts good)
 
@@ -176,32 +199,15 @@ module _ (d : Digester) (ts : List Token) (good : Texts ts) where
     pub notice-stays : (a : Answer) → notices (ofMark mark.Notice 0 ts) s (skipped s) ≡ tries.Done a → digestIn d ts (s ++ v) ≡ digestIn d ts s
     notice-stays a h = stays a (noticed d ts s (skipped s) a h) (noticed d ts (s ++ v) (skipped s) a (same-notices ∙ h))
 
-    -- and with an OK line, the first at k, before which no `CS` text is looked for
-    module _ (none : ofMark mark.Success 0 ts ≡ []) (k : ℕ) (first : findIn (fixedText fixed.Ok) s (skipped s) ≡ At k) where
-      ok-done : (u : List ℕ) → findIn (fixedText fixed.Ok) u (skipped s) ≡ At k → notices (ofMark mark.Notice 0 ts) u (skipped s) ≡ tries.Next → tried d ts u (skipped s) ≡ tries.Done (withPayload kind.Ok 0 (trimmedPart u (skipped s) k) (k + 6))
-      unfolding tried successes firstCustom customSuccess lineSuccess success orElse
-      ok-done u f g = rw (g, none, f)
-
-      ok-stays : digestIn d ts (s ++ v) ≡ digestIn d ts s
-      ok-stays = go (notices (ofMark mark.Notice 0 ts) s (skipped s)) refl
-        where
-          go : (r : Tried) → notices (ofMark mark.Notice 0 ts) s (skipped s) ≡ r → digestIn d ts (s ++ v) ≡ digestIn d ts s
-          go (tries.Done a) p = notice-stays a p
-          go tries.Next p =
-              let w = found-at (fixedText fixed.Ok) s (skipped s) k first in
-              let f = stands-fits (fixedText fixed.Ok) s k (omega arith) (w .here) in
-              stays (withPayload kind.Ok 0 (trimmedPart s (skipped s) k) (k + 6)) (ok-done s first p)
-              (rw (trimmed-behind s v (skipped s) k (w .after) (omega arith)) at (ok-done (s ++ v) (find-behind (fixedText fixed.Ok) s v (skipped s) k f first) (same-notices ∙ p)))
-
-  pub line-stays : (s v : List ℕ) → ofMark mark.Success 0 ts ≡ [] → (j : ℕ) → stands (fixedText fixed.Ok) s j ≡ true → digestIn d ts (s ++ v) ≡ digestIn d ts s
-  line-stays s v none j h = go (findIn (fixedText fixed.Ok) s (skipped s)) refl
+  pub line-stays : ofMark mark.Success 0 ts ≡ [] → (j : ℕ) → stands (fixedText fixed.Ok) s j ≡ true → digestIn d ts (s ++ v) ≡ digestIn d ts s
+  line-stays none j h = go (first-ok s j h) (notices (ofMark mark.Notice 0 ts) s (skipped s)) refl
     where
-      go : (r : Found) → findIn (fixedText fixed.Ok) s (skipped s) ≡ r → digestIn d ts (s ++ v) ≡ digestIn d ts s
-      go (At k) f =
-          let w = found-at (fixedText fixed.Ok) s (skipped s) k f in
-          let c = first-crlf s j (stands-front crlf (bytes "OK\r\n") s j h) in
-          let b = and-both (stands (bytes "\r\nOK") s k) (stands crlf s (k + 4)) (sym (stands-append (bytes "\r\nOK") crlf s k) ∙ w .here) in
-          ok-stays s v (c .1) (k + 4) (omega (arith, w .after)) (b .1) none k f
-      go Nothing f =
-          let c = first-crlf s j (stands-front crlf (bytes "OK\r\n") s j h) in
-          absurd (false-true h (found-none (fixedText fixed.Ok) s (skipped s) f j (c .0)))
+      go : FirstOk s → (r : Tried) → notices (ofMark mark.Notice 0 ts) s (skipped s) ≡ r → digestIn d ts (s ++ v) ≡ digestIn d ts s
+      go w (tries.Done a) p = notice-stays (w .here) (w .k + 4) (omega (arith, w .after)) (w .there) a p
+      go w tries.Next p =
+          let e = skipped s in
+          let far : e + 2 ≤ w .k + 4 = omega (arith, w .after) in
+          let f = stands-fits crlf s (w .k + 4) (omega arith) (w .there) in
+          stays (w .here) (w .k + 4) far (w .there) (withPayload kind.Ok 0 (trimmedPart s e (w .k)) (w .k + 6)) (ok-done d ts none s e (w .k) (w .found) p)
+          (rw (trimmed-behind s v e (w .k) (w .after) (omega arith))
+          at (ok-done d ts none (s ++ v) e (w .k) (find-behind (fixedText fixed.Ok) s v e (w .k) (omega arith) (w .found)) (same-notices (w .here) (w .k + 4) far (w .there) ∙ p)))

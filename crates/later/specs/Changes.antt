@@ -49,19 +49,17 @@ said k n p c = record { kind = k; number = n; payload = bytes p; consumed = c }
 
 abbrev pub changes : List Change
 changes =
-    -- a `CS` record: SEND
+    -- `NoSuccess` left out: a `CS` record, SEND
     change (Verbal Verbose) (bytes "CS\u{4}SEND") "\r\nOK\r\n" (said Ok none "" 6) "\r\nSEND\r\n" (said Ok none "OK" 14)
-    -- a notice, +A, at a later start
+    -- `start` left out: a notice, +A, at a later start
     ∷ change (Verbal Verbose) (bytes "UR\u{2}+A") "\r\n\r\n+A\r\n" (said Notice (number 0) "+A" 8) ">" (said Prompt (number 62) "" 9)
-    -- CONNECT, bare and with a text
+    -- no OK line and no notice: CONNECT, bare and with a text; an error, with an OK line and with a prompt behind it; a prompt
     ∷ change (Verbal Verbose) [] "\r\nCONNECT\r\n" (said Ok none "" 11) "\r\nOK\r\n" (said Ok none "CONNECT" 17)
     ∷ change (Verbal Connect) [] "\r\nCONNECT 9600\r\n" (said Ok none "" 16) "\r\nOK\r\n" (said Ok none "CONNECT 9600" 22)
-    -- an error
     ∷ change (Verbal Verbose) [] "\r\nERROR\r\n" (said Error none "" 9) "\r\nOK\r\n" (said Ok none "ERROR" 15)
     ∷ change (Verbal Verbose) [] "\r\nERROR\r\n" (said Error none "" 9) ">" (said Prompt (number 62) "" 10)
-    -- a prompt
     ∷ change (Verbal Verbose) [] ">" (said Prompt (number 62) "" 1) "\r" (said Prompt (number 62) "" 2)
-    -- the numeric mode
+    -- another digester: the one for the numeric mode
     ∷ change Numeric [] "0\r" (said Ok none "" 2) "\n" (said None none "" 0)
     ∷ []
 
