@@ -340,10 +340,10 @@ module _ (d : Digester) (ts : List Token) (good : Texts ts) (s : List ℕ) (e : 
   unfolding shiftNotice
   broken-front x w = notice-moved x s e ∙ ap (shiftNotice e) (unfinished-is x (drop e s) w)
 
-  abbrev EndedBy : Answer → Entry → Type 0
+  abbrev pub EndedBy : Answer → Entry → Type 0
   EndedBy a x = NoticeEnded (x .text) (drop e s) (a .consumed - e) × ((e ≤ a .consumed) × Plain a)
 
-  abbrev BrokenBy : Answer → Entry → Type 0
+  abbrev pub BrokenBy : Answer → Entry → Type 0
   BrokenBy a x = Unfinished (x .text) (drop e s) × (a ≡ nothing e)
 
   one-heard : (x : Entry) (a : Answer) (r : Notice) → noticeAt (x .text) (drop e s) 0 ≡ r → heard (shiftNotice e r) (x .number) s e ≡ tries.Done a → EndedBy a x ⊎ BrokenBy a x
@@ -367,6 +367,11 @@ module _ (d : Digester) (ts : List Token) (good : Texts ts) (s : List ℕ) (e : 
       (λ (q : (heard (noticeAt (x .text) s e) (x .number) s e ≡ tries.Next) × (notices l s e ≡ tries.Done a)). inr (notices-some l a (q .1)))
       (done-one (heard (noticeAt (x .text) s e) (x .number) s e) (notices l s e) a h)
 
+  pub notices-told : (l : List Entry) (a : Answer) → notices l s e ≡ tries.Done a → Some (EndedBy a) l ⊎ Some (BrokenBy a) l
+  notices-told l a h =
+      some-either (λ x. heard (noticeAt (x .text) s e) (x .number) s e ≡ tries.Done a) (EndedBy a) (BrokenBy a)
+      (λ x v. one-heard x a (noticeAt (x .text) (drop e s) 0) refl (rw (notice-moved (x .text) s e) at v)) l (notices-some l a h)
+
   notices-sound : (a : Answer) → notices (ofMark mark.Notice 0 ts) s e ≡ tries.Done a → Sound d ts s e a
   notices-sound a h =
       let l = ofMark mark.Notice 0 ts in
@@ -389,8 +394,7 @@ module _ (d : Digester) (ts : List Token) (good : Texts ts) (s : List ℕ) (e : 
       }) l q))
       (λ (q : Some (BrokenBy a) l).
       inr (some-any (BrokenBy a) (a ≡ nothing e) (λ x v. v .1) l q, some-map (BrokenBy a) (λ x. Unfinished (x .text) (drop e s)) (λ x v. v .0) l q))
-      (some-either (λ x. heard (noticeAt (x .text) s e) (x .number) s e ≡ tries.Done a) (EndedBy a) (BrokenBy a)
-      (λ x v. one-heard x a (noticeAt (x .text) (drop e s) 0) refl (rw (notice-moved (x .text) s e) at v)) l (notices-some l a h))
+      (notices-told l a h)
 
   -- with no notice heard, none is unfinished either
   notices-quiet : (l : List Entry) → notices l s e ≡ tries.Next → Some (λ x. Unfinished (x .text) (drop e s)) l → ⊥

@@ -129,7 +129,7 @@ module _ (d : Digester) (t : List ℕ) (w v : World) (b : List ℕ) (g : Good (c
       }
 
   pub sooner : Sooner (choice (Verbal d) t) w b v
-  sooner = record { same = same-says; goes = turn-same; waits = waits-same }
+  sooner = record { came = a; same = same-says; goes = turn-same; waits = waits-same }
 
 -- an advance by n hears the same first as one by n and the m bytes behind them
 pub advance-sooner : (d : Digester) (t : List ℕ) (w : World) (n m : ℕ) → Passed (choice (Verbal d) t) w → n + m ≤ length (w .buf) - w .state .end → Settled t (held (committed w n)) (says (choice (Verbal d) t) (committed w n)) → AdvanceSooner (choice (Verbal d) t) w n m

@@ -50,9 +50,10 @@ pub data Settled (t s : List ℕ) (a : Answer) : Type 0 where
   byOk : NoSuccess t → ByOk s a → Settled t s a
   byNotice : NoticeFirst s a → Settled t s a
 
--- What that means for an advance. Had the bytes b come before the turn from w, as they have in v, then the turn would have heard the same (`same`): the same stretch
--- consumed and delivered, with b behind what it leaves (`goes`), or the same notice waiting for a full queue (`waits`).
+-- What that means for an advance. Had the bytes b come before the turn from w, as they have in v (`came`), then the turn would have heard the same (`same`): the same
+-- stretch consumed and delivered, with b behind what it leaves (`goes`), or the same notice waiting for a full queue (`waits`).
 pub record Sooner (c : Choice) (w : World) (b : List ℕ) (v : World) : Type 0 where
+  pub came : Arrives w b v
   pub same : says c v ≡ says c w
   pub goes : (x : Stretch) (u : World) → Consumes c w x u → Via (Consumes c v x) (Arrives u b)
   pub waits : Waits c w → Waits c v

@@ -27,11 +27,12 @@ use Rattle.answers.specs.declared.Answer.{Answer}
 use Rattle.items.specs.Rules.{skipped, notices}
 use Rattle.items.specs.declared.Tried.{Tried}
 use Rattle.items.specs.declared.Tried.the-variants as tries
-use Rattle.digest.specs.Items.{some-texts}
+use Rattle.digest.specs.Items.{some-map, some-any, some-texts}
 use Rattle.digest.specs.Digest.{digestIn, underTable}
 use Rattle.digest.specs.Digest as verbose
 use Rattle.digest.specs.Calls.{digest-is}
 use Rattle.digest.specs.Finished.{Some, LineStart, atCrlf, onlyOne, NoticeEnded}
+use Rattle.digest.specs.Sound.{EndedBy, BrokenBy, notices-told}
 use Rattle.digest.specs.Step.{digest-within}
 use Rattle.digest.specs.Starts.{start-is}
 use Rattle.selector.specs.Selector.{digest}
@@ -76,12 +77,25 @@ module _ (d : Digester) (t s : List ℕ) (a : Answer) (h : digest (Verbal d) t s
   begun : notices (ofMark mark.Notice 0 (tokens t)) s (skipped s) ≡ tries.Done a → IfNotice s a
   begun q = rw q at (notices-begun s (ofMark mark.Notice 0 (tokens t)) (mark-texts mark.Notice 0 (tokens t) good))
 
-  notice-final : NoticeFirst s a → Final (Verbal d) t s a
-  notice-final w =
-      let z : isNotice (a .kind) ≡ true = ap isNotice (w .notice) in
-      let q = first-told d (tokens t) good s a (told .is) z (w .begins ∙ ap (λ (k : ℕ). k + 2) (start-skip s (w .p) (w .start))) in
-      let b = begun q z .line in
-      final (λ v. notice-stays d (tokens t) good s v (b .here) (b .q) (omega (arith, b .far)) (b .there) a q)
+  module _ (w : NoticeFirst s a) where
+    rule-two : notices (ofMark mark.Notice 0 (tokens t)) s (skipped s) ≡ tries.Done a
+    rule-two = first-told d (tokens t) good s a (told .is) (ap isNotice (w .notice)) (w .begins ∙ ap (λ (k : ℕ). k + 2) (start-skip s (w .p) (w .start)))
+
+    notice-final : Final (Verbal d) t s a
+    notice-final =
+        let b = begun rule-two (ap isNotice (w .notice)) .line in
+        final (λ v. notice-stays d (tokens t) good s v (b .here) (b .q) (omega (arith, b .far)) (b .there) a rule-two)
+
+    -- A notice of demand 3 stands there, and ends at the consumed count.
+    pub notice-held : Some (λ x. NoticeEnded (x .text) (drop (w .p) s) (a .consumed - w .p)) (ofMark mark.Notice 0 (tokens t))
+    notice-held =
+        let l = ofMark mark.Notice 0 (tokens t) in
+        ⊎-elim
+        (λ (h : Some (EndedBy d (tokens t) good s (skipped s) a) l).
+        some-map (EndedBy d (tokens t) good s (skipped s) a) (λ x. NoticeEnded (x .text) (drop (w .p) s) (a .consumed - w .p)) (λ x v. rw (start-skip s (w .p) (w .start)) (v .0)) l h)
+        (λ (h : Some (BrokenBy d (tokens t) good s (skipped s) a) l).
+        absurd (some-any (BrokenBy d (tokens t) good s (skipped s) a) ⊥ (λ x v. false-true (ap isNotice (w .notice)) (ap (λ (y : Answer). isNotice (y .kind)) (v .1))) l h))
+        (notices-told d (tokens t) good s (skipped s) l a rule-two)
 
   -- R-13: an Ok by an OK line with no `CS` record, and a notice at the first line start.
   pub settled-final : Settled t s a → Final (Verbal d) t s a
