@@ -44,7 +44,7 @@ use Rattle.digest.specs.Starts.{first-crlf}
 use Rattle.later.specs.Behind.{ending-two, done-is, noticed}
 
 -- An ended notice where buf begins: CRLF stands there and where the line ends, and the text right behind the first.
-pub record Line (s : List ℕ) (end : ℕ) : Type 0 where
+pub record NoticeLine (s : List ℕ) (end : ℕ) : Type 0 where
   pub here : stands crlf s (skipped s) ≡ true
   pub q : ℕ
   pub far : skipped s + 2 < q
@@ -60,7 +60,7 @@ text-front x t =
     rw (ne-eqb (getD x 0 0) 32 (w .1 .0 .0), ne-eqb (getD x 0 0) 9 (λ q. omega (arith, b .0)), ne-eqb (getD x 0 0) 10 (λ q. omega (arith, b .0)), ne-eqb (getD x 0 0) 12 (λ q. omega (arith, b .0)), ne-eqb (getD x 0 0) 13 (λ q. omega (arith, b .0)))
 
 module _ (s x : List ℕ) (t : isText x ≡ true) where
-  line-at : (n j : ℕ) → NoticeEnded x (drop (skipped s) s) n → stands crlf (drop (skipped s) s) j ≡ true → lineEnding (drop (skipped s) s) 0 + length x ≤ j → n ≡ j + 2 → Line s (skipped s + n)
+  line-at : (n j : ℕ) → NoticeEnded x (drop (skipped s) s) n → stands crlf (drop (skipped s) s) j ≡ true → lineEnding (drop (skipped s) s) 0 + length x ≤ j → n ≡ j + 2 → NoticeLine s (skipped s + n)
   line-at n j w c l z =
       let e = skipped s in
       let u = drop e s in
@@ -71,18 +71,18 @@ module _ (s x : List ℕ) (t : isText x ≡ true) where
       let f : getD s (e + 2) 0 ≡ getD x 0 0 = sym (getD-drop e s 2 0) ∙ stands-getD x u 2 0 y (text-some x t) in
       record { here = h; q = e + j; far = omega (arith, text-some x t); there = k; ends = omega arith; text = ap (isBlank sets.Trim) f ∙ text-front x t }
 
-  pub line-of : (n : ℕ) → NoticeEnded x (drop (skipped s) s) n → Line s (skipped s + n)
+  pub line-of : (n : ℕ) → NoticeEnded x (drop (skipped s) s) n → NoticeLine s (skipped s + n)
   line-of n w = go (w .ended)
     where
-      go : NoticeEnd (drop (skipped s) s) (lineEnding (drop (skipped s) s) 0 + length x) n → Line s (skipped s + n)
+      go : NoticeEnd (drop (skipped s) s) (lineEnding (drop (skipped s) s) 0 + length x) n → NoticeLine s (skipped s + n)
       go (crlfEnd c z) = line-at n (lineEnding (drop (skipped s) s) 0 + length x) w c (omega arith) z
       go (colon b q l c f z) = line-at n q w c (omega arith) z
 
-  ended-line : (end : ℕ) → noticeAt x s (skipped s) ≡ notice.Ended end → Line s end
+  ended-line : (end : ℕ) → noticeAt x s (skipped s) ≡ notice.Ended end → NoticeLine s end
   unfolding shiftNotice
   ended-line end h = go (noticeAt x (drop (skipped s) s) 0) refl (sym (notice-moved x s (skipped s)) ∙ h)
     where
-      go : (r : Notice) → noticeAt x (drop (skipped s) s) 0 ≡ r → shiftNotice (skipped s) r ≡ notice.Ended end → Line s end
+      go : (r : Notice) → noticeAt x (drop (skipped s) s) 0 ≡ r → shiftNotice (skipped s) r ≡ notice.Ended end → NoticeLine s end
       go (notice.Ended n) p g = let z : skipped s + n ≡ end = cc in rw (sym z) (line-of n (ended-told x (drop (skipped s) s) n p))
       go notice.Unfinished p g = let z : _≡_ {A = ℕ} 0 1 = cc in absurd (omega arith)
       go notice.Nothing p g = let z : _≡_ {A = ℕ} 0 1 = cc in absurd (omega arith)
@@ -112,7 +112,7 @@ module _ (s : List ℕ) (i k : ℕ) (h : stands crlf s i ≡ true) (f : isBlank 
 
 -- So a notice that is heard where buf begins has its payload two bytes behind that.
 pub record Begun (s : List ℕ) (a : Answer) : Type 0 where
-  pub line : Line s (a .consumed)
+  pub line : NoticeLine s (a .consumed)
   pub place : a .place ≡ skipped s + 2
 
 abbrev pub IfNotice : List ℕ → Answer → Type 0

@@ -38,7 +38,7 @@ use Rattle.digest.specs.Starts.{start-is}
 use Rattle.selector.specs.Selector.{digest}
 use Rattle.selector.specs.declared.Selector.the-variants.{Verbal}
 use Rattle.later.specs.Behind.{FirstOk, first-ok, done-is, noticed, ok-done, notice-stays, line-stays}
-use Rattle.later.specs.Begun.{Line, line-of, IfNotice, notices-begun, first-told, notices-notice, ended-heard}
+use Rattle.later.specs.Begun.{NoticeLine, line-of, IfNotice, notices-begun, first-told, notices-notice, ended-heard}
 use Rattle.later.specs.Later.{Final, NoSuccess, FirstStart, NoticeFirst, Settled, byOk, byNotice}
 
 -- the first line start is where buf begins
@@ -117,7 +117,7 @@ module _ (d : Digester) (t s : List ℕ) (a : Answer) (h : digest (Verbal d) t s
       go : (r : Tried) → notices (ofMark mark.Notice 0 (tokens t)) s (skipped s) ≡ r → NoticeFirst s a
       go (tries.Done b) q =
           let i : Some (λ x. NoticeEnded (x .text) (drop (skipped s) s) n) (ofMark mark.Notice 0 (tokens t)) = rw (start-skip s p w) at h in
-          let m = some-texts (λ x. NoticeEnded (x .text) (drop (skipped s) s) n) (Line s (skipped s + n)) (λ x y v. line-of s (x .text) y n v) (ofMark mark.Notice 0 (tokens t)) (mark-texts mark.Notice 0 (tokens t) good) i in
+          let m = some-texts (λ x. NoticeEnded (x .text) (drop (skipped s) s) n) (NoticeLine s (skipped s + n)) (λ x y v. line-of s (x .text) y n v) (ofMark mark.Notice 0 (tokens t)) (mark-texts mark.Notice 0 (tokens t) good) i in
           noticed-first (m .q) (m .here) (omega (arith, m .far)) (m .there) b q
       go tries.Next q = absurd (ended-heard d (tokens t) good s (skipped s) n (ofMark mark.Notice 0 (tokens t)) (rw (start-skip s p w) at h) q)
 
