@@ -3,8 +3,8 @@
 use mathlib.Core.Path.{_≡_, refl, sym, ap, _∙_}
 use mathlib.Core.Logic.{inl, inr}
 use mathlib.Core.Bool.{Bool, true, not, _&&_}
-use mathlib.Core.List.{List, [], _∷_, _++_, append-nil, map}
-use Prim.Native.Nat.{ℕ, _+_, _≤_, _<_}
+use mathlib.Core.List.{List, [], _∷_, _++_, map}
+use Prim.Native.Nat.{ℕ, _+_, _<_}
 use Prim.Native.String.{String}
 use native.Mathlib.Omega.{arith}
 use lib.ListN.{length, length-append}
@@ -31,6 +31,7 @@ use Rattle.selector.specs.Selector.{digest}
 use Rattle.selector.specs.declared.Selector.{Selector}
 use Rattle.selector.specs.declared.Selector.the-variants.{Verbal, Numeric}
 use Rattle.later.specs.Later.{Final}
+use Rattle.later.specs.Stays.{final-now}
 
 -- an input, bytes behind it, and what is heard of each
 pub record Change : Type 0 where
@@ -91,9 +92,6 @@ all-differ : allDiffer changes ≡ true
 unfolding verbose.digest numeric.digest trimmedPart isBlank past keep trimmed stands findIn partOf ruling tokens ofMark numericError promptFrom customPrompt noticeAt
 all-differ = refl
 
-final-same : (x : Selector) (t s v : List ℕ) (a : Answer) → Final x t s a → length s + length v ≤ 4096 → digest x t s ≡ digest x t (s ++ v)
-final-same x t s v a f l = ap (digest x t) (sym (append-nil s)) ∙ f [] (omega arith) ∙ sym (f v l)
-
 none-final : (l : List Change) → allDiffer l ≡ true → (a : Answer) → Some (λ x. Final (x .selector) (x .table) (bytes (x .input)) a) l → ⊥
 none-final [] h a g = g
 none-final (x ∷ l) h a (inl g) =
@@ -102,7 +100,8 @@ none-final (x ∷ l) h a (inl g) =
     let m = countOf (digest (x .selector) (x .table) s) in
     let n = countOf (digest (x .selector) (x .table) (s ++ v)) in
     let w = and-both (leb (length s + length v) 4096) (not (eqb m n)) (and-both (differs x) (allDiffer l) h .0) in
-    let z : m ≡ n = ap countOf (final-same (x .selector) (x .table) s v a g (leb-true (length s + length v) 4096 (w .0))) in
+    let l = leb-true (length s + length v) 4096 (w .0) in
+    let z : m ≡ n = ap countOf (final-now (x .selector) (x .table) s a g (omega arith) ∙ sym (g v l)) in
     false-true (w .1) (ap not (eq-eqb m n z))
 none-final (x ∷ l) h a (inr g) = none-final l (and-both (differs x) (allDiffer l) h .1) a g
 

@@ -36,6 +36,7 @@ use Rattle.digest.specs.Sound.{EndedBy, BrokenBy, notices-told}
 use Rattle.digest.specs.Step.{digest-within}
 use Rattle.digest.specs.Starts.{start-is}
 use Rattle.selector.specs.Selector.{digest}
+use Rattle.selector.specs.declared.Selector.{Selector}
 use Rattle.selector.specs.declared.Selector.the-variants.{Verbal}
 use Rattle.later.specs.Behind.{FirstOk, first-ok, done-is, noticed, ok-done, notice-stays, line-stays}
 use Rattle.later.specs.Begun.{NoticeLine, line-of, IfNotice, notices-begun, first-told, notices-notice, ended-heard}
@@ -132,6 +133,10 @@ module _ (d : Digester) (t s : List ℕ) (a : Answer) (h : digest (Verbal d) t s
           let i : w .k + 6 - 6 ≡ w .k = omega arith in
           byOk none (rw (sym (told .is) ∙ z) (record { ok = refl; room = omega arith; line = ap (stands (fixedText fixed.Ok) s) i ∙ found-at (fixedText fixed.Ok) s (skipped s) (w .k) (w .found) .here }))
 
+-- a final answer is the digest's now
+pub final-now : (x : Selector) (t s : List ℕ) (a : Answer) → Final x t s a → length s ≤ 4096 → digest x t s ≡ answered a
+final-now x t s a f l = ap (digest x t) (sym (append-nil s)) ∙ f [] (omega arith)
+
 -- The other way: with an OK line behind it an answer that isn't one of the two is another.
 module _ (s : List ℕ) where
   ok-behind : stands (fixedText fixed.Ok) (s ++ fixedText fixed.Ok) (length s) ≡ true
@@ -158,6 +163,6 @@ module _ (s : List ℕ) where
 -- With no `CS` record and room for an OK line, an answer that is final is one of the two.
 pub final-settled : (d : Digester) (t s : List ℕ) (a : Answer) → NoSuccess t → length s ≤ 4090 → Final (Verbal d) t s a → Settled t s a
 final-settled d t s a none l f =
-    let h : digest (Verbal d) t s ≡ answered a = ap (digest (Verbal d) t) (sym (append-nil s)) ∙ f [] (omega arith) in
+    let h = final-now (Verbal d) t s a f (omega arith) in
     let w : Within (length s) a = rw (told d t s a h .is) at (digest-within d (tokens t) s) in
     front-settled s t a (w .payload) (w .all) (line-settled d t (s ++ fixedText fixed.Ok) a (f (fixedText fixed.Ok) (omega arith)) none (length s) (ok-behind s))
