@@ -33,15 +33,15 @@ use Rattle.items.specs.Laws.{next-both, done-next}
 use Rattle.items.specs.Rules.{orElse, skipped, heard, notices, successes, prompts, errors, tried}
 use Rattle.items.specs.declared.Tried.{Tried}
 use Rattle.items.specs.declared.Tried.the-variants as tries
-use Rattle.digest.specs.Items.{lf-not-broken, crlf-lf, stands-here}
+use Rattle.digest.specs.Items.{crlf-lf, stands-here}
 use Rattle.digest.specs.Digest.{retries, again, after, digestIn}
 use Rattle.digest.specs.Finished.{Some, NoticeEnd, crlfEnd, colon, NoticeEnded}
 use Rattle.digest.specs.Numbered.{Below, others-below}
-use Rattle.digest.specs.Position.{ended-told, unfinished-told}
+use Rattle.digest.specs.Position.{ended-told}
 use Rattle.digest.specs.Step.{TriedHas, either-has, digest-step}
 use Rattle.digest.specs.Sound.{notice-front}
 use Rattle.digest.specs.Starts.{first-crlf}
-use Rattle.later.specs.Behind.{ending-two, done-is, noticed}
+use Rattle.later.specs.Behind.{ending-two, finished, done-is, noticed}
 
 -- An ended notice where buf begins: CRLF stands there and where the line ends, and the text right behind the first.
 pub record NoticeLine (s : List ℕ) (end : ℕ) : Type 0 where
@@ -199,24 +199,8 @@ module _ (d : Digester) (ts : List Token) (good : Texts ts) where
       go (tries.Done b) q = ap tries.Done (sym (done-is d ts s b (noticed d ts s (skipped s) b q)) ∙ p)
       go tries.Next q = absurd (elsewhere s q (rw p z) (rw p l))
 
--- where CRLF stands where buf begins and again behind it, no notice is unfinished
+-- Where CRLF stands where buf begins and again behind it, what rule 2 answers is a notice.
 module _ (s : List ℕ) (here : stands crlf s (skipped s) ≡ true) (q : ℕ) (far : skipped s + 2 ≤ q) (there : stands crlf s q ≡ true) where
-  unbroken : (x : List ℕ) → isText x ≡ true → noticeAt x s (skipped s) ≡ notice.Unfinished → ⊥
-  unfolding shiftNotice
-  unbroken x t h = go (noticeAt x (drop (skipped s) s) 0) refl (sym (notice-moved x s (skipped s)) ∙ h)
-    where
-      go : (r : Notice) → noticeAt x (drop (skipped s) s) 0 ≡ r → shiftNotice (skipped s) r ≡ notice.Unfinished → ⊥
-      go (notice.Ended k) p g = let z : _≡_ {A = ℕ} 0 1 = cc in omega arith
-      go notice.Unfinished p g =
-          let e = skipped s in
-          let u = drop e s in
-          let f = stands-fits crlf s q (omega arith) there in
-          let i : e + (q + 1 - e) ≡ q + 1 = omega arith in
-          lf-not-broken u x t (lineEnding u 0) (q + 1 - e) (omega (arith, ending-two u 0 (sym (stands-here crlf s e) ∙ here))) (rw length-drop (omega arith))
-          (getD-drop e s (q + 1 - e) 0 ∙ ap (λ (j : ℕ). getD s j 0) i ∙ crlf-lf s q there) (unfinished-told x u p .broken)
-      go notice.Nothing p g = let z : _≡_ {A = ℕ} 0 1 = cc in omega arith
-
-  -- so what rule 2 answers is a notice
   pub notices-notice : (l : List Entry) → EntryTexts l → TriedHas (λ a. a .kind ≡ kind.Notice) (notices l s (skipped s))
   unfolding notices heard
   notices-notice [] g = tt
@@ -225,7 +209,7 @@ module _ (s : List ℕ) (here : stands crlf s (skipped s) ≡ true) (q : ℕ) (f
     where
       go : (r : Notice) → noticeAt (x .text) s (skipped s) ≡ r → TriedHas (λ a. a .kind ≡ kind.Notice) (heard r (x .number) s (skipped s))
       go (notice.Ended end) p = refl
-      go notice.Unfinished p = absurd (unbroken (x .text) (g .0) p)
+      go notice.Unfinished p = absurd (finished s (skipped s) q here far there (x .text) (g .0) p)
       go notice.Nothing p = tt
 
 -- and an ended one is answered

@@ -2,7 +2,7 @@
 -- or where an OK line stands and no `CS` text is looked for (`line-stays`).
 use mathlib.Core.Path.{_≡_, refl, sym, ap, _∙_}
 use mathlib.Core.Logic.{⊎-elim}
-use mathlib.Core.Bool.{true, false}
+use mathlib.Core.Bool.{Bool, true, false}
 use mathlib.Core.List.{List, [], _∷_, _++_}
 use Prim.Native.Nat.{ℕ, _+_, _-_, _≤_, _<_}
 use native.Mathlib.Omega.{arith}
@@ -67,49 +67,56 @@ module _ (s v : List ℕ) where
 pub ending-two : (u : List ℕ) (e : ℕ) → stands crlf u e ≡ true → 2 ≡ lineEnding u e
 ending-two u e h = ending-crlf u e (not-true-false (stands (bytes "\n") u e) (λ g. omega (arith, stands-byte 10 [] u e g .1 .0, stands-byte 13 (10 ∷ []) u e h .1 .0))) h
 
--- rule 2 at e, with CRLF there and at q
+-- rule 2 at e for one record of a good table, with CRLF at e and at q: its text holds neither CR nor LF, so it ends before q, and the notice is not unfinished
+module _ (u : List ℕ) (e q : ℕ) (opened : stands crlf u e ≡ true) (far : e + 2 ≤ q) (closed : stands crlf u q ≡ true) (x : List ℕ) (t : isText x ≡ true) where
+  at-text : noticeText x u (e + 2) ≡ noticeAt x u e
+  at-text = notice-is x u e 2 (ending-two u e opened) (λ z. omega arith)
+
+  unbroken : breaksOff x u (e + 2) ≡ false
+  unbroken = not-true-false (breaksOff x u (e + 2)) (lf-not-broken u x t (e + 2) (q + 1) (omega arith) (omega (arith, stands-fits crlf u q (omega arith) closed)) (crlf-lf u q closed))
+
+  pub finished : noticeAt x u e ≡ notice.Unfinished → ⊥
+  unfolding noticeText through
+  finished h = go (stands (x ++ crlf) u (e + 2)) (stands (x ++ bytes ":") u (e + 2)) (findIn crlf u (e + 2 + length x + 1)) (rw unbroken at (at-text ∙ h))
+    where
+      go : (b c : Bool) (r : Found) → (if b then notice.Ended (e + 2 + length x + 2) else if c then through r else notice.Nothing) ≡ notice.Unfinished → ⊥
+      go true c r g = let z : _≡_ {A = ℕ} 0 1 = cc in omega arith
+      go false true (At k) g = let z : _≡_ {A = ℕ} 0 1 = cc in omega arith
+      go false true Nothing g = let z : _≡_ {A = ℕ} 0 1 = cc in omega arith
+      go false false r g = let z : _≡_ {A = ℕ} 0 1 = cc in omega arith
+
+  text-before : stands x u (e + 2) ≡ true → e + 2 + length x ≤ q
+  text-before h =
+      ⊎-elim
+      (λ (l : q < e + 2 + length x).
+      let i : e + 2 + (q - (e + 2)) ≡ q = omega arith in
+      let b = text-byte x t (q - (e + 2)) (omega arith) in
+      absurd (omega (arith, b .0, stands-getD x u (e + 2) (q - (e + 2)) h (omega arith), ap (λ (n : ℕ). getD u n 0) i, stands-byte 13 (10 ∷ []) u q closed .1 .0)))
+      (λ (l : e + 2 + length x ≤ q). l)
+      (order q (e + 2 + length x))
+
+-- so with bytes behind it is the same
 module _ (s v : List ℕ) (e q : ℕ) (here : stands crlf s e ≡ true) (far : e + 2 ≤ q) (there : stands crlf s q ≡ true) where
   long : q + 2 ≤ length s
   long = stands-fits crlf s q (omega arith) there
 
-  -- a list that begins with s
-  record Begins (u : List ℕ) : Type 0 where
-    opened : stands crlf u e ≡ true
-    closed : stands crlf u q ≡ true
+  still-here : stands crlf (s ++ v) e ≡ true
+  still-here = stands-behind crlf s v e (omega (arith, long)) ∙ here
 
-  front : Begins s
-  front = record { opened = here; closed = there }
-
-  whole : Begins (s ++ v)
-  whole = record { opened = stands-behind crlf s v e (omega (arith, long)) ∙ here; closed = stands-behind crlf s v q long ∙ there }
+  still-there : stands crlf (s ++ v) q ≡ true
+  still-there = stands-behind crlf s v q long ∙ there
 
   module _ (x : List ℕ) (t : isText x ≡ true) where
-    unbroken : (u : List ℕ) → Begins u → breaksOff x u (e + 2) ≡ false
-    unbroken u w =
-        not-true-false (breaksOff x u (e + 2))
-        (lf-not-broken u x t (e + 2) (q + 1) (omega arith) (omega (arith, stands-fits crlf u q (omega arith) (w .closed))) (crlf-lf u q (w .closed)))
-
-    -- a text holds no CR
-    text-before : (u : List ℕ) → Begins u → stands x u (e + 2) ≡ true → e + 2 + length x ≤ q
-    text-before u w h =
-        ⊎-elim
-        (λ (l : q < e + 2 + length x).
-        let i : e + 2 + (q - (e + 2)) ≡ q = omega arith in
-        let b = text-byte x t (q - (e + 2)) (omega arith) in
-        absurd (omega (arith, b .0, stands-getD x u (e + 2) (q - (e + 2)) h (omega arith), ap (λ (n : ℕ). getD u n 0) i, stands-byte 13 (10 ∷ []) u q (w .closed) .1 .0)))
-        (λ (l : e + 2 + length x ≤ q). l)
-        (order q (e + 2 + length x))
-
-    -- so what ends it stands in s, or nowhere
+    -- what ends the text stands in s, or nowhere
     ended-same : (y : List ℕ) → length y ≤ 2 → stands (x ++ y) (s ++ v) (e + 2) ≡ stands (x ++ y) s (e + 2)
     ended-same y h =
         ⊎-elim
-        (λ (l : length s < e + 2 + length (x ++ y)). none (s ++ v) whole l ∙ sym (none s front l))
+        (λ (l : length s < e + 2 + length (x ++ y)). none (s ++ v) (text-before (s ++ v) e q still-here far still-there x t) l ∙ sym (none s (text-before s e q here far there x t) l))
         (λ (l : e + 2 + length (x ++ y) ≤ length s). stands-behind (x ++ y) s v (e + 2) l)
         (order (length s) (e + 2 + length (x ++ y)))
       where
-        none : (u : List ℕ) → Begins u → length s < e + 2 + length (x ++ y) → stands (x ++ y) u (e + 2) ≡ false
-        none u w l = not-true-false (stands (x ++ y) u (e + 2)) (λ g. omega (arith, text-before u w (stands-front x y u (e + 2) g), long, length-append x y))
+        none : (u : List ℕ) → (stands x u (e + 2) ≡ true → e + 2 + length x ≤ q) → length s < e + 2 + length (x ++ y) → stands (x ++ y) u (e + 2) ≡ false
+        none u w l = not-true-false (stands (x ++ y) u (e + 2)) (λ g. omega (arith, w (stands-front x y u (e + 2) g), long, length-append x y))
 
     through-same : stands (x ++ bytes ":") s (e + 2) ≡ true → findIn crlf (s ++ v) (e + 2 + length x + 1) ≡ findIn crlf s (e + 2 + length x + 1)
     through-same h = go (findIn crlf s (e + 2 + length x + 1)) refl
@@ -118,7 +125,7 @@ module _ (s v : List ℕ) (e q : ℕ) (here : stands crlf s e ≡ true) (far : e
         go (At k) f = find-behind crlf s v (e + 2 + length x + 1) k (stands-fits crlf s k (omega arith) (found-at crlf s (e + 2 + length x + 1) k f .here)) f
         go Nothing f =
             let w = and-both (stands x s (e + 2)) (stands (bytes ":") s (e + 2 + length x)) (sym (stands-append x (bytes ":") s (e + 2)) ∙ h) in
-            let l = text-before s front (w .0) in
+            let l = text-before s e q here far there x t (w .0) in
             ⊎-elim
             (λ (g : e + 2 + length x < q). absurd (false-true there (found-none crlf s (e + 2 + length x + 1) f q (omega arith))))
             (λ (g : q ≤ e + 2 + length x).
@@ -129,15 +136,12 @@ module _ (s v : List ℕ) (e q : ℕ) (here : stands crlf s e ≡ true) (far : e
     text-same : noticeText x (s ++ v) (e + 2) ≡ noticeText x s (e + 2)
     unfolding noticeText
     text-same =
-        rw (unbroken (s ++ v) whole, unbroken s front, ended-same crlf (omega arith), ended-same (bytes ":") (omega arith))
+        rw (unbroken (s ++ v) e q still-here far still-there x t, unbroken s e q here far there x t, ended-same crlf (omega arith), ended-same (bytes ":") (omega arith))
         (ap (λ (r : Notice). if stands (x ++ crlf) s (e + 2) then notice.Ended (e + 2 + length x + 2) else r)
         (same-way notice.Nothing (stands (x ++ bytes ":") s (e + 2)) (λ g. ap through (through-same g))))
 
-    at-text : (u : List ℕ) → Begins u → noticeText x u (e + 2) ≡ noticeAt x u e
-    at-text u w = notice-is x u e 2 (ending-two u e (w .opened)) (λ z. omega arith)
-
     notice-same : noticeAt x (s ++ v) e ≡ noticeAt x s e
-    notice-same = sym (at-text (s ++ v) whole) ∙ text-same ∙ at-text s front
+    notice-same = sym (at-text (s ++ v) e q still-here far still-there x t) ∙ text-same ∙ at-text s e q here far there x t
 
   heard-same : (x : List ℕ) (n : ℕ) (r : Notice) → noticeAt x s e ≡ r → heard r n (s ++ v) e ≡ heard r n s e
   unfolding heard

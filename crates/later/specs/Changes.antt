@@ -1,5 +1,5 @@
--- Without its conditions `settled-final` doesn't hold: for each an input, bytes behind it, and what is heard of the first alone and of both (`both-heard`, by computation);
--- the first answer is not final (`not-final`).
+-- What isn't final: eight inputs, the bytes behind each, and what is heard of the first alone and of both (`both-heard`, by computation); the first answer is not final
+-- (`not-final`). So the theorem's conditions are needed (`needs-table`, `needs-line`, `needs-first`, `needs-verbal`, `beyond`).
 use mathlib.Core.Path.{_≡_, refl, sym, ap, _∙_}
 use mathlib.Core.Logic.{inl, inr}
 use mathlib.Core.Bool.{Bool, true, not, _&&_}
@@ -18,19 +18,19 @@ use Rattle.table.specs.Table.{ruling, tokens, ofMark}
 use Rattle.lines.specs.declared.Digester.{Digester}
 use Rattle.lines.specs.declared.Digester.the-variants.{Verbose, Connect}
 use Rattle.parser.specs.Parser.{numericError, promptFrom, customPrompt, noticeAt}
-use Rattle.answers.specs.Answer.{Number, none, number}
+use Rattle.answers.specs.Answer.{Number, none, number, bare, withPayload}
 use Rattle.answers.specs.declared.Kind.{Kind}
 use Rattle.answers.specs.declared.Kind.the-variants.{None, Ok, Prompt, Error, Notice}
 use Rattle.answers.specs.declared.Answer.{Answer}
 use Rattle.digest.specs.Digest as verbose
 use Rattle.digest.specs.Calls.{digest-long}
-use Rattle.digest.specs.Finished.{Some}
+use Rattle.digest.specs.Finished.{Some, LineStart, atCrlf}
 use Rattle.digest.specs.Examples.{Said, saidOf}
 use Rattle.numeric.specs.Numeric as numeric
 use Rattle.selector.specs.Selector.{digest}
 use Rattle.selector.specs.declared.Selector.{Selector}
 use Rattle.selector.specs.declared.Selector.the-variants.{Verbal, Numeric}
-use Rattle.later.specs.Later.{Final}
+use Rattle.later.specs.Later.{Final, NoSuccess, ByOk}
 use Rattle.later.specs.Stays.{final-now}
 
 -- an input, bytes behind it, and what is heard of each
@@ -108,6 +108,27 @@ none-final (x ∷ l) h a (inr g) = none-final l (and-both (differs x) (allDiffer
 pub not-final : (a : Answer) → Some (λ x. Final (x .selector) (x .table) (bytes (x .input)) a) changes → ⊥
 not-final = none-final changes all-differ
 
--- beyond 4,096 bytes nothing is heard
+-- The theorem with one condition left out: false each time. That the answer is an Ok is no such condition: with an OK line in the input any answer is final (`line-settled`).
+-- No `CS` record:
+pub needs-table : ((t s : List ℕ) (a : Answer) → digest (Verbal Verbose) t s ≡ answered a → ByOk s a → Final (Verbal Verbose) t s a) → ⊥
+unfolding verbose.digest trimmedPart isBlank past keep trimmed stands findIn partOf ruling tokens ofMark numericError promptFrom customPrompt noticeAt
+needs-table f = not-final (bare Ok 6) (inl (f (bytes "CS\u{4}SEND") (bytes "\r\nOK\r\n") (bare Ok 6) refl (record { ok = refl; room = omega arith; line = refl })))
+
+-- by an OK line:
+pub needs-line : ((t s : List ℕ) (a : Answer) → NoSuccess t → digest (Verbal Verbose) t s ≡ answered a → a .kind ≡ Ok → Final (Verbal Verbose) t s a) → ⊥
+unfolding verbose.digest trimmedPart isBlank past keep trimmed stands findIn partOf ruling tokens ofMark numericError promptFrom customPrompt noticeAt
+needs-line f = not-final (bare Ok 11) (inr (inr (inl (f [] (bytes "\r\nCONNECT\r\n") (bare Ok 11) refl refl refl))))
+
+-- the first of the line starts:
+pub needs-first : ((t s : List ℕ) (a : Answer) (p : ℕ) → digest (Verbal Verbose) t s ≡ answered a → a .kind ≡ Notice → LineStart s p → a .place ≡ p + 2 → Final (Verbal Verbose) t s a) → ⊥
+unfolding verbose.digest trimmedPart isBlank past keep trimmed stands findIn partOf ruling tokens ofMark numericError promptFrom customPrompt noticeAt
+needs-first f = let a = withPayload Notice 0 (record { start = 4; len = 2 }) 8 in not-final a (inr (inl (f (bytes "UR\u{2}+A") (bytes "\r\n\r\n+A\r\n") a 2 refl refl (atCrlf refl) refl)))
+
+-- `verbose` or `connect`:
+pub needs-verbal : ((t s : List ℕ) (a : Answer) → digest Numeric t s ≡ answered a → a .kind ≡ Ok → Final Numeric t s a) → ⊥
+unfolding numeric.digest trimmedPart isBlank past keep trimmed
+needs-verbal f = not-final (bare Ok 2) (inr (inr (inr (inr (inr (inr (inr (inl (f [] (bytes "0\r") (bare Ok 2) refl refl)))))))))
+
+-- and up to 4,096 bytes: beyond them nothing is heard
 pub beyond : (d : Digester) (t s v : List ℕ) → 4096 < length s + length v → digest (Verbal d) t (s ++ v) ≡ refused 1 []
 beyond d t s v h = sym (digest-long d t (s ++ v) (rw length-append h))

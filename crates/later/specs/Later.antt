@@ -19,7 +19,8 @@ use Rattle.turn.specs.Turn.{World, says}
 use Rattle.ingress.specs.Story.{Stretch, Arrives, Consumes, Via, Waits, committedBytes}
 use Rattle.ingress.specs.Ingress.{run, committed, advanced}
 
--- An answer is final: it is the digest's, and stays so, consumed count included, with any bytes added behind, up to 4,096 in all. Under the same table no refusal comes.
+-- An answer to an input of at most 4,096 bytes is final: it is the digest's, and stays so, consumed count included, with any bytes added behind, up to 4,096 in all.
+-- Under the same table no refusal comes.
 abbrev pub Final : Selector → List ℕ → List ℕ → Answer → Type 0
 Final x t s a = (v : List ℕ) → length s + length v ≤ 4096 → digest x t (s ++ v) ≡ answered a
 

@@ -54,17 +54,17 @@ skip-first : (s : List ℕ) → stands crlf s (skipped s) ≡ true → FirstStar
 skip-first s h = record { start = atCrlf h; first = λ q w. ⊎-elim (λ (e : q ≡ skipped s). omega arith) (λ (e : (skipped s + 2 ≤ q) × ((stands crlf s q ≡ true) × (stands crlf s (skipped s) ≡ true))). omega (arith, e .0)) (start-is s q w) }
 
 -- with the refusals: an answered digest has a good table and at most 4,096 bytes
-record Told (d : Digester) (t s : List ℕ) (a : Answer) : Type 0 where
+record Ruled (d : Digester) (t s : List ℕ) (a : Answer) : Type 0 where
   records : ℕ
   ruled : ruling t ≡ answered records
   is : digestIn d (tokens t) s ≡ a
 
 module _ (d : Digester) (t s : List ℕ) (a : Answer) (h : digest (Verbal d) t s ≡ answered a) where
-  told : Told d t s a
+  told : Ruled d t s a
   unfolding verbose.digest underTable
   told = go (ltb 4096 (length s)) (ruling t) refl h
     where
-      go : (b : Bool) (r : Outcome ℕ) → ruling t ≡ r → (if b then refused 1 [] else underTable r d t s) ≡ answered a → Told d t s a
+      go : (b : Bool) (r : Outcome ℕ) → ruling t ≡ r → (if b then refused 1 [] else underTable r d t s) ≡ answered a → Ruled d t s a
       go true r p g = let z : _≡_ {A = ℕ} 0 1 = cc in absurd (omega arith)
       go false (answered n) p g = record { records = n; ruled = p; is = let z : digestIn d (tokens t) s ≡ a = cc in z }
       go false (refused n v) p g = let z : _≡_ {A = ℕ} 0 1 = cc in absurd (omega arith)
