@@ -1,4 +1,5 @@
--- What a final answer means for an advance: had the later bytes come with the first ones, the first turn would have heard, delivered and consumed the same (`sooner`, `advance-sooner`).
+-- What a final answer means for an advance: had the later bytes come with the first ones, the first turn would have heard, delivered and consumed the same (`sooner`);
+-- so for the answers that R-13 names (`advance-sooner`).
 use mathlib.Core.Path.{_≡_, refl, sym, ap, _∙_}
 use mathlib.Core.Bool.{Bool, true, false}
 use mathlib.Core.List.{List, _++_}
@@ -30,7 +31,7 @@ use Rattle.ingress.specs.Ingress.{committed}
 use Rattle.ingress.specs.Laws.{passed, passes, at-run}
 use Rattle.ingress.specs.Conserved.{commit-good}
 use Rattle.ingress.specs.Story.{Stretch, Passed, Arrives, Consumes, Via, Waits, committedBytes}
-use Rattle.later.specs.Later.{Settled, Sooner, AdvanceSooner}
+use Rattle.later.specs.Later.{Final, Settled, Sooner, AdvanceSooner}
 use Rattle.later.specs.Stays.{settled-final}
 
 -- a delivery doesn't look at the end
@@ -63,13 +64,12 @@ next-left c w g r =
     let l : length (take k (held w)) ≡ k = length-take-le k (held w) (says-within c w) in
     sym (drop-append-seam (take k (held w)) (held (next c w))) ∙ ap (λ (n : ℕ). drop n (take k (held w) ++ held (next c w))) l ∙ ap (drop k) (sym (next-held c w g r))
 
-module _ (d : Digester) (t : List ℕ) (w v : World) (b : List ℕ) (g : Good (choice (Verbal d) t) w) (h : Passed (choice (Verbal d) t) v) (a : Arrives w b v) (z : Settled t (held w) (says (choice (Verbal d) t) w)) where
+module _ (d : Digester) (t : List ℕ) (w v : World) (b : List ℕ) (g : Good (choice (Verbal d) t) w) (h : Passed (choice (Verbal d) t) v) (a : Arrives w b v) (z : Final (Verbal d) t (held w) (says (choice (Verbal d) t) w)) where
   same-says : says (choice (Verbal d) t) v ≡ says (choice (Verbal d) t) w
   same-says =
       let k = passed (choice (Verbal d) t) v h in
       let l : length (held w) + length b ≡ length (held v) = sym (length-append (held w) b) ∙ ap length (sym (a .behind)) in
-      let m = settled-final d t (held w) (says (choice (Verbal d) t) w) (answers-so d t w g) z b (omega (arith, held-long v, k .inside, k .long)) in
-      let q : answered (says (choice (Verbal d) t) v) ≡ answered (says (choice (Verbal d) t) w) = sym (answers-so d t v k) ∙ ap (digest (Verbal d) t) (a .behind) ∙ m in
+      let q : answered (says (choice (Verbal d) t) v) ≡ answered (says (choice (Verbal d) t) w) = sym (answers-so d t v k) ∙ ap (digest (Verbal d) t) (a .behind) ∙ z b (omega (arith, held-long v, k .inside, k .long)) in
       cc
 
   inside : Within (length (held w)) (says (choice (Verbal d) t) w)
@@ -137,10 +137,12 @@ advance-sooner d t w n m h l z =
     let c = choice (Verbal d) t in
     let g = passed c w h in
     let e : w .state .end + (n + m) ≡ w .state .end + n + m = omega arith in
+    let f = commit-good c w g n (omega arith) in
     record {
       first = at-run c n w h (omega arith);
       both = at-run c (n + m) w h l;
       sooner =
-          sooner d t (committed w n) (committed w (n + m)) (committedBytes (committed w n) m) (commit-good c w g n (omega arith)) (passes c (committed w (n + m)) (commit-good c w g (n + m) l))
-          (record { behind = ap (λ (k : ℕ). take k (w .buf)) e ∙ take-add (w .state .end + n) m (w .buf); others = refl }) z;
+          sooner d t (committed w n) (committed w (n + m)) (committedBytes (committed w n) m) f (passes c (committed w (n + m)) (commit-good c w g (n + m) l))
+          (record { behind = ap (λ (k : ℕ). take k (w .buf)) e ∙ take-add (w .state .end + n) m (w .buf); others = refl })
+          (settled-final d t (held (committed w n)) (says c (committed w n)) (answers-so d t (committed w n) f) z);
     }
