@@ -7,6 +7,7 @@ It reads the lines that the program compare reads and prints what it must print:
 Comments cite 01 and the requests. The readings that 01 leaves open are those of docs/DECISIONS.md; each is marked `reading`.
 The notation of the lines stands in the head comment of crates/notation/src/lib.rt.
 """
+import re
 import sys
 from functools import partial
 from typing import NamedTuple
@@ -305,11 +306,11 @@ def heard(mode, records, s):
 # ---- refusals ----
 
 class Refused(Exception):
-    """A number of refusal, with the record at 2 and the bytes taken at a write's 5."""
+    """A number of refusal, with the record at 2, the bytes taken at a write's 5 and the place at 6 to 9 (R-4)."""
 
-    def __init__(self, number, record=None, taken=None):
+    def __init__(self, number, record=None, taken=None, place=None):
         super().__init__(number)
-        self.number, self.record, self.taken = number, record, taken
+        self.number, self.record, self.taken, self.place = number, record, taken, place
 
 
 # ---- the queue's memory, in either form ----
@@ -512,6 +513,103 @@ class World:
         return taken
 
 
+# ---- R-4: parameter lists with brackets ----
+
+DEEPEST = 4
+ELEMENTS = 256
+DIGIT = b"0123456789"
+HEX = b"0123456789ABCDEFabcdef"  # reading: letters in either case
+CHAR = bytes(b for b in range(0x20, 0x7F) if b not in b'"\\')
+# R-4's grammar, "written from V.250 and TS 27.007", with the depth kept apart:
+#     list    = element *( "," element )
+#     element = *SP ( "" / number [ "-" number ] / string / "(" list ")" )
+#     number  = 1*DIGIT
+#     string  = DQUOTE *( char / "\" HEX HEX ) DQUOTE
+# A line for each point at which a byte may stand: the bytes that go on there, and the point behind each. From every point there is a way to a word's end, so that
+# the grammar goes on as long as a line has the byte and no bracket closes that wasn't open.
+CLOSED = ((b",", "element"), (b")", "closed"))  # an element, an empty one too, is closed by what stands behind it
+POINTS = {
+    "element": ((b" ", "element"), (DIGIT, "number"), (b'"', "string"), (b"(", "element")) + CLOSED,
+    "number": ((DIGIT, "number"), (b"-", "range")) + CLOSED,
+    "range": ((DIGIT, "second"),),
+    "second": ((DIGIT, "second"),) + CLOSED,
+    "string": ((CHAR, "string"), (b"\\", "escape"), (b'"', "closed")),
+    "escape": ((HEX, "half"),),
+    "half": ((HEX, "string"),),
+    "closed": CLOSED,
+}
+NEXT = {point: {byte: then for some, then in line for byte in some} for point, line in POINTS.items()}
+CLOSABLE = [point for point, line in POINTS.items() if line[-2:] == CLOSED]
+
+
+class Element(NamedTuple):
+    """"each with its place, kind and depth"; end is one past its last byte; values are a number's one, a range's two."""
+
+    place: int
+    end: int
+    kind: str
+    depth: int
+    values: tuple
+
+
+def points_of(s):
+    """The grammar's point at each place of s, with its depth, how many brackets are open there; the last is at the first byte that can't stand there, or the end.
+    No limit is looked at here."""
+    points = [("element", 0)]
+    for byte in s:
+        point, depth = points[-1]
+        then = NEXT[point].get(byte)
+        if (point, byte) == ("element", ord("(")):
+            depth += 1
+        if (then, byte) == ("closed", ord(")")):
+            depth -= 1
+        if then is None or depth < 0:
+            break
+        points.append((then, depth))
+    return points
+
+
+def number_at(s, at):
+    """The number whose first digit stands there, MOST + 1 for any over the limit; "unsigned, at most 4,294,967,295". Reading: by value, zeros in front are free."""
+    digits = re.compile(b"[0-9]+").match(s, at)[0].lstrip(b"0")
+    return MOST + 1 if len(digits) > len(str(MOST)) else min(int(digits or b"0"), MOST + 1)
+
+
+def end_of(s, points, at):
+    """The end of a word's element: the first place from its own on, as deep as it, where it may be closed and a comma, a bracket or s's end does so."""
+    depth = points[at][1]
+    return next(p for p in range(at, len(points)) if points[p][0] in CLOSABLE and points[p][1] == depth and s[p:p + 1] in (b",", b")", b""))
+
+
+def read_list(s):
+    """The elements of s in order, or the refusal "at the leftmost fault": all faults up to where the grammar can't go on are gathered, by place and number, and the
+    least is told. Readings: an element's place is its first byte behind its spaces, an empty one's the byte that closes it, or the end; `()` and no bytes at all
+    hold an empty one; a list counts as an element and comes before its members; a range is one element, and its second number may be the lower. Where an element
+    should begin and the grammar can't go on, one is counted as well: it may be over, but the 6 of that place is told before its 9."""
+    points = points_of(s)
+    stop = len(points) - 1
+    starts = [p for p, (point, _) in enumerate(points) if point == "element" and s[p:p + 1] != b" "]
+    numbers = [p for p, (point, _) in enumerate(points) if point in ("element", "range") and s[p:p + 1].isdigit()]
+    faults = []
+    if stop < len(s) or points[stop][0] not in CLOSABLE or points[stop][1] > 0:
+        faults.append((stop, 6))  # "malformed, with its place, the first byte (or the end) at which the grammar can't go on"
+    faults += [(p, 7) for p in starts if s[p:p + 1] == b"(" and points[p][1] >= DEEPEST]  # "too deep, at the bracket"
+    faults += [(p, 8) for p in numbers if number_at(s, p) > MOST]  # "number too large, at its first digit"
+    faults += [(p, 9) for p in starts[ELEMENTS:]]  # "too many elements, at the first over"
+    if faults:
+        place, number = min(faults)  # "in this order at the leftmost fault"
+        raise Refused(number, place=place)
+    elements = []
+    for p in starts:
+        end = end_of(s, points, p)
+        kind, values = {b"(": "list", b'"': "string"}.get(s[p:p + 1], "empty"), ()
+        if p in numbers:
+            values = tuple(number_at(s, n) for n in numbers if p <= n < end)
+            kind = "number" if len(values) == 1 else "range"
+        elements.append(Element(p, end, kind, points[p][1], values))
+    return elements
+
+
 # ---- the notation of a line ----
 
 class BadLine(Exception):
@@ -631,6 +729,8 @@ def refusal(r):
         said += " %d" % r.record
     if r.taken is not None:
         said += " took %d" % r.taken
+    if r.place is not None:
+        said += " %d" % r.place
     return said
 
 
@@ -685,14 +785,27 @@ def conversion(fields):
     return "converted %d %d %d memory %s" % (start, count, lost, shown(new))
 
 
+def listed(fields):
+    """INPUT: refusal 6, 7, 8 or 9 with its place, or the elements (R-4), each PLACE,END,KIND,DEPTH and a number's value or a range's two."""
+    if len(fields) != 1:
+        raise BadLine
+    try:
+        elements = read_list(data_of(fields[0]))
+    except Refused as r:
+        return refusal(r)
+    return ";".join(",".join(str(part) for part in e[:4] + e.values) for e in elements)
+
+
 def answer(line):
-    """The answer to a line. A first field `convert` is a conversion (R-9), in which no digester has a part. Else one that is a mode's word names it, none is
-    `verbose`; behind it a comma in the first field tells the form, else the number of fields."""
+    """The answer to a line. A first field `convert` is a conversion (R-9), `list` a list's reading (R-4), in which no digester has a part. Else one that is a
+    mode's word names it, none is `verbose`; behind it a comma in the first field tells the form, else the number of fields."""
     if len(line) > LINE:
         raise BadLine
     fields = line.split(" ")
     if fields[0] == "convert":
         return conversion(fields[1:])
+    if fields[0] == "list":
+        return listed(fields[1:])
     mode = fields.pop(0) if fields[0] in MODES else "verbose"
     if fields and "," in fields[0]:
         if len(fields) != 6:

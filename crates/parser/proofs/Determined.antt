@@ -6,6 +6,9 @@ use Rattle.parser.proofs as calls
 pub line-ending-one : One calls.line_ending.Reads.Post
 line-ending-one κs a x y s t = determined
 
+pub is-digit-one : One calls.is_digit.Reads.Post
+is-digit-one κs a x y s t = determined
+
 pub tail-at-one : One calls.tail_at.Reads.Post
 tail-at-one κs a x y s t = determined
 

@@ -67,19 +67,19 @@ unfolding isDigit
 digit-bounds b e = let w = and-both (leb 48 b) (leb b 57) e in (leb-true 48 b (w .0), leb-true b 57 (w .1))
 
 module _ (s : List ℕ) (i a : ℕ) where
-  value-more : i < length s → isDigit (getD s i 0) ≡ true → value a (drop i s) ≡ value (a * 10 + (getD s i 0 - 48)) (drop (i + 1) s)
+  pub value-more : i < length s → isDigit (getD s i 0) ≡ true → value a (drop i s) ≡ value (a * 10 + (getD s i 0 - 48)) (drop (i + 1) s)
   unfolding value
   value-more h e = rw (add-one, drop-cons s i 0 h, e)
 
-  value-stop : i < length s → isDigit (getD s i 0) ≡ false → value a (drop i s) ≡ a
+  pub value-stop : i < length s → isDigit (getD s i 0) ≡ false → value a (drop i s) ≡ a
   unfolding value
   value-stop h e = rw (drop-cons s i 0 h, e)
 
-  value-end : length s ≤ i → value a (drop i s) ≡ a
+  pub value-end : length s ≤ i → value a (drop i s) ≡ a
   unfolding value
   value-end h = rw (drop-of-length-le s h)
 
-value-grows : (a : ℕ) (s : List ℕ) → a ≤ value a s
+pub value-grows : (a : ℕ) (s : List ℕ) → a ≤ value a s
 unfolding value
 value-grows a [] = omega arith
 value-grows a (x ∷ s) = ways (λ n. a ≤ n) (isDigit x) (λ e. omega (arith, value-grows (a * 10 + (x - 48)) s)) (λ e. omega arith)

@@ -24,7 +24,8 @@ pub fn line_ending(buf: &[u8], place: usize) -> usize
     0
 }
 
-fn is_digit(b: u8) -> bool
+// Is b one of the ten digits?
+pub fn is_digit(b: u8) -> bool
     ensures { λ r. ⌜ r ≡ isDigit b ⌝ }
 {
     if b < b'0' {

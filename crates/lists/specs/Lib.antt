@@ -1,0 +1,15 @@
+pub mod Grammar
+pub mod Scan
+pub mod Places
+pub mod Ends
+pub mod Shows
+pub mod Onward
+pub mod Unique
+pub mod Refusal
+pub mod Strings
+pub mod Reader
+pub mod Join
+pub mod Told
+pub mod Exactly
+pub mod Calls
+pub mod Cycle

@@ -1,0 +1,19 @@
+-- `byte_at` meets its contract.
+use Rattle.pieces.specs.Laws.{zero-past}
+use borrow.Author.Needs.{needs}
+use Rattle.pieces.proofs.byte_at.Statement.{statement}
+use Rattle.pieces.proofs.byte_at.Tie as tie
+
+returns : tie.Need-returns
+returns c =
+    let args = c .before .args in
+    zero-past (args .s .now) (args .at) (c .if1 .taken)
+
+shared-slice-read-result : tie.Need-shared-slice-read-result
+shared-slice-read-result c = search needs
+
+returns-2 : tie.Need-returns-2
+returns-2 c = search needs
+
+pub byte-at-spec : {M : Type 1} → statement M
+byte-at-spec = tie.close (tie.spec returns shared-slice-read-result returns-2)
