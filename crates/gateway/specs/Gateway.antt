@@ -1,10 +1,14 @@
 -- The calls of document 01 as numbers: what an export returns and leaves.
+use mathlib.Core.Path.{_≡_}
 use mathlib.Core.List.{List, [], _∷_}
 use Prim.Native.Nat.{ℕ}
 use lib.ListN.{length}
 use lib.Dec.{eqb}
 use Rattle.text.specs.Text.{partOf, partAt}
 use Rattle.outcome.specs.Outcome.{Outcome, answered, refused, if_then_else_}
+use Rattle.lists.specs.Grammar as lists
+use Rattle.lists.specs.declared.Listed.{Listed}
+use Rattle.lists.specs.declared.Listed.the-variants.{Elements, Refused}
 use Rattle.slot.specs.Slot.{Reading}
 use Rattle.slot.specs.Slot as slots
 use Rattle.slot.specs.declared.Slot.{Slot}
@@ -38,6 +42,17 @@ said f o out = call (numberOf o) (laid (valuesOf f o) out)
 -- an answer that is a count: a good table's records, the bytes that a write took
 abbrev pub countValues : ℕ → List ℕ
 countValues n = n ∷ []
+
+-- a reading of R-4: how many elements, or the refusal with its place
+abbrev pub listing : Listed → Outcome ℕ
+listing (Elements n) = answered n
+listing (Refused k p) = refused k (p ∷ [])
+
+-- and what is left of the memory and of the lent array
+pub record Listing (s m o : List ℕ) (r : ℕ) (after left : List ℕ) : Type 0 where
+  pub listed : Listed
+  pub reads : lists.Reading s m listed after
+  pub says : call r left ≡ said countValues (listing listed) o
 
 -- a part of the caller's memory: its place there and its length
 abbrev pub partValues : List ℕ → ℕ → ℕ → List ℕ

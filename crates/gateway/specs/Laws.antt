@@ -1,5 +1,5 @@
 -- The ways out of the exports, each with what led there.
-use mathlib.Core.Path.{_≡_, refl, sym, ap, _∙_}
+use mathlib.Core.Path.{_≡_, refl, sym, ap, _∙_, subst}
 use mathlib.Core.Bool.{true, false}
 use mathlib.Core.List.{List, [], _∷_}
 use Prim.Native.Nat.{ℕ, _+_, _≤_, _<_}
@@ -12,6 +12,9 @@ use Rattle.outcome.specs.Laws.{ways}
 use Rattle.answers.specs.declared.Answer.{Answer}
 use Rattle.selector.specs.Selector.{choice, digest}
 use Rattle.selector.specs.declared.Selector.{Selector}
+use Rattle.lists.specs.Grammar.{Reading}
+use Rattle.lists.specs.Exactly.{one-reading}
+use Rattle.lists.specs.declared.Listed.{Listed}
 use Rattle.slot.specs.Slot as slots
 use Rattle.slot.specs.Laws as slot-laws
 use Rattle.slot.specs.declared.Slot.{Slot}
@@ -28,11 +31,16 @@ use Rattle.ingress.specs.declared.Advanced.{Advanced}
 use Rattle.ingress.specs.declared.Written.{Written}
 use Rattle.numbers.specs.Numbers.{selectorOf, word, heldNumber, answerOf, slotOf, queueOf, stateOf, withSlot, withQueue, laid}
 use Rattle.numbers.specs.Laws.{ten, slot-stays, freed-stays}
-use Rattle.gateway.specs.Gateway.{numberOf, valuesOf, Call, call, said, partValues, numbersBy, resetSaid, Turn, turn, signalSaid, putSaid, readValues, gotValues, withGot, Take, took, takeSaid, Whole, whole, leftSaid, wholeSaid, countValues, noValues}
+use Rattle.gateway.specs.Gateway.{numberOf, valuesOf, Call, call, said, listing, Listing, partValues, numbersBy, resetSaid, Turn, turn, signalSaid, putSaid, readValues, gotValues, withGot, Take, took, takeSaid, Whole, whole, leftSaid, wholeSaid, countValues, noValues}
 
 -- an export returns its call's number, with the values at the front of the array
 pub says : {A : Type 0} (f : A → List ℕ) (o : List ℕ) (x y : Outcome A) → x ≡ y → (q : List ℕ) → q ≡ laid (valuesOf f x) o → call (numberOf x) q ≡ said f y o
 says f o x y e q h = ap (call (numberOf x)) h ∙ ap (λ (z : Outcome _). said f z o) e
+
+-- a reading of R-4, by what it was
+module _ (s m o after : List ℕ) (r : Listed) (w : Reading s m r after) where
+  pub reading-says : (x : Listed) → r ≡ x → {left : List ℕ} → left ≡ laid (valuesOf countValues (listing x)) o → Listing s m o (numberOf (listing x)) after left
+  reading-says x e f = record { listed = x; reads = subst (λ (y : Listed). Reading s m y after) e w; says = ap (call (numberOf (listing x))) f }
 
 -- a digest by the digester that was chosen
 pub chosen : (t s : List ℕ) (d x : Selector) → d ≡ x → (r : Outcome Answer) → r ≡ digest d t s → r ≡ digest x t s
@@ -120,6 +128,12 @@ module _ (a b c d e f g h i k : ℕ) (m : List ℕ) (l : e ≤ length m) where
 -- Each export's promise determines the number that it returns and all that it leaves.
 pub call-one : (w : Call) (r q : ℕ) (o p : List ℕ) → call r o ≡ w → call q p ≡ w → (r ≡ q) × (o ≡ p)
 call-one w r q o p e f = let g : call r o ≡ call q p = e ∙ sym f in (ap (λ (x : Call). x .number) g, ap (λ (x : Call). x .out) g)
+
+pub listing-one : (s m o : List ℕ) (r q : ℕ) (a b u v : List ℕ) → Listing s m o r a u → Listing s m o q b v → (r ≡ q) × ((a ≡ b) × (u ≡ v))
+listing-one s m o r q a b u v x y =
+    let e = one-reading s m (x .listed) (y .listed) a b (x .reads) (y .reads) in
+    let f = call-one (said countValues (listing (x .listed)) o) r q u v (x .says) (y .says ∙ ap (λ (z : Listed). said countValues (listing z) o) (sym (e .0))) in
+    (f .0, (e .1, f .1))
 
 pub turn-one : (w : Turn) (r q : ℕ) (v u m n : List ℕ) → turn r v m ≡ w → turn q u n ≡ w → (r ≡ q) × ((v ≡ u) × (m ≡ n))
 turn-one w r q v u m n e f =

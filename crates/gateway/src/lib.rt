@@ -1,4 +1,4 @@
-// Document 01's calls for C and Rust: numbers and byte slices go in, the refusal's number comes out (0: not refused).
+// Document 01's calls, and R-4's reader, for C and Rust: numbers and byte slices go in, the refusal's number comes out (0: not refused).
 // What a call answers stands at the front of a lent array of nine numbers, whose other numbers stay as they were.
 // Each export promises that it equals the call behind it; none has a condition on its arguments. It changes no number of the state but
 // those that the call gives another meaning.
@@ -13,11 +13,12 @@ ghost use Rattle.convert.specs.Convert.{converted};
 ghost use Rattle.turn.specs.Turn.{world};
 ghost use Rattle.ingress.specs.Ingress.{advanceSays, advanced, writeSays, written, cleared};
 ghost use Rattle.numbers.specs.Numbers.{selectorOf, answerOf, slotOf, queueOf, stateOf, withEnd, withSlot, withQueue, laid, answerValues};
-ghost use Rattle.gateway.specs.Gateway.{call, said, countValues, partValues, resetSaid, turn, signalSaid, putSaid, readValues, took, takeSaid, leftSaid, whole, wholeSaid, noValues};
+ghost use Rattle.gateway.specs.Gateway.{call, said, countValues, Listing, partValues, resetSaid, turn, signalSaid, putSaid, readValues, took, takeSaid, leftSaid, whole, wholeSaid, noValues};
 use convert::Converted;
 use digest::Digested;
 use ingress::Advanced;
 use ingress::Written;
+use lists::Listed;
 use numbers::NUMBERS;
 use numbers::OUT;
 use queue::Put;
@@ -362,6 +363,28 @@ pub extern "C" fn wx_ingress_clear(state: &mut [u64; NUMBERS])
     let old = state[numbers::END] as usize;
     let end = ingress::clear(old);
     state[numbers::END] = end as u64;
+}
+
+// Reads the payload of an answer behind its colon as a parameter list (R-4). Answers how many elements it has; they stand at the front of the memory, six numbers
+// each: place, end, kind (0 empty, 1 number, 2 range, 3 string, 4 list), depth, low, high. A refusal answers its place, and the memory stays as it was.
+#[no_mangle]
+pub extern "C" fn wx_list_read(
+    payload: &[u8],
+    elements: &mut [u64; pieces::NUMBERS],
+    out: &mut [u64; OUT],
+) -> u32
+    ensures { λ r. ⌜ Listing (now (payload .entry)) (now (elements .entry)) (now (out .entry)) r (now (elements .exit)) (now (out .exit)) ⌝ }
+{
+    match lists::read(payload, elements) {
+        Listed::Elements(n) => {
+            out[0] = n as u64;
+            0
+        }
+        Listed::Refused(k, p) => {
+            out[0] = p as u64;
+            k
+        }
+    }
 }
 
 // The version of these exports, for a caller to compare with the one it was written for: one more whenever a call's parameters, a lent array's length or the
