@@ -19,7 +19,7 @@ use Rattle.table.specs.Table.{isText}
 use Rattle.table.specs.Laws.{text-some, text-end}
 use Rattle.lines.specs.Lines.{crlf}
 use Rattle.outcome.specs.Outcome.{if_then_else_}
-use Rattle.parser.specs.Parser.{onlyBlanks, promptFrom, customPrompt, isDigit, value, digitsAt, endedRun, tailAt, numericAt, lineEnding, breaksOff, through, noticeText, noticeAt}
+use Rattle.parser.specs.Parser.{onlyBlanks, promptFrom, customPrompt, isDigit, value, runAt, endedRun, tailAt, numericAt, lineEnding, breaksOff, through, noticeText, noticeAt}
 use Rattle.parser.specs.Laws.{text-broken, text-bare, text-through, notice-none, notice-is, digit-bounds, ending-fits}
 use Rattle.parser.specs.declared.Digits.{Digits}
 use Rattle.parser.specs.declared.Run.{Run}
@@ -181,7 +181,7 @@ digit-blank b e =
 
 module _ (h u : List ℕ) where
   pub numeric-is : (n : ℕ) (w : NumericEnded h u n) → numericAt h u 0 ≡ numeric.Is (record { code = value 0 (drop (w .a) u); start = w .a; stop = w .b; end = n })
-  unfolding numericAt tailAt endedRun digitsAt
+  unfolding numericAt tailAt endedRun runAt
   numeric-is n w =
       let f = ending-fits u (w .b) (w .ended .0) in
       let g : 0 + length h ≡ length h = omega arith in
@@ -227,7 +227,7 @@ module _ (h u : List ℕ) where
   told-run a e f false g = tt
 
   told-head : (b : Bool) → stands h u 0 ≡ b → ToldNumeric (if b then tailAt u (0 + length h) else numeric.Nothing)
-  unfolding tailAt digitsAt
+  unfolding tailAt runAt
   told-head true e = let a = past (isBlank blanks.Run) u (0 + length h) in told-run a e refl (leb (value 0 (drop a u)) 65535) refl
   told-head false e = tt
 

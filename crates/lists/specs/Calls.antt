@@ -1,10 +1,9 @@
 -- From a place of the payload to the laws: what the tests of the readers say of the bytes from there on.
 use mathlib.Core.Path.{_≡_, refl, sym, ap, _∙_, subst}
 use mathlib.Core.Logic.{⊎-elim}
-use mathlib.Core.Bool.{Bool, true, false, not, _&&_, _||_}
-use mathlib.Core.List.{List, [], _∷_, _++_}
+use mathlib.Core.Bool.{Bool, true, false, not, _&&_}
+use mathlib.Core.List.{List, _∷_}
 use Prim.Native.Nat.{ℕ, zero, suc, _+_, _≤_, _<_}
-use native.Mathlib.Numerals.{add-one}
 use native.Mathlib.Omega.{arith}
 use lib.ListN.{length, getD, drop, drop-of-length-le, List·getD-eq-default}
 use lib.Seq.{drop-cons, drop-drop, getD-drop}
@@ -13,7 +12,7 @@ use borrow.Author.Tests.{ne-eqb, leb-true, leb-false}
 use Rattle.outcome.specs.Outcome.{if_then_else_}
 use Rattle.text.specs.Logic.{false-true, order}
 use Rattle.text.specs.Text.{lead, past}
-use Rattle.parser.specs.Parser.{isDigit, value}
+use Rattle.parser.specs.Parser.{isDigit, value, runAt}
 use Rattle.pieces.specs.Pieces.{stringEnd, numberAt}
 use Rattle.pieces.specs.declared.Digits.{Digits}
 use Rattle.pieces.specs.declared.Digits.the-variants.{Value, TooLarge}
@@ -24,7 +23,8 @@ use Rattle.lists.specs.declared.Plain.the-variants as plain
 use Rattle.lists.specs.Grammar.{made}
 use Rattle.lists.specs.Scan.{outside}
 use Rattle.lists.specs.Strings.{Strung, strung}
-use Rattle.lists.specs.Reader.{Bodied, endsAt, Bare, string-late, string-is, string-broken, Run, runs, number-large, number-late, number-is, range-malformed, range-large, range-is}
+use Rattle.lists.specs.Reader.{Bodied, endsAt, Bare}
+use Rattle.lists.specs.Bodies.{string-late, string-is, string-broken, Run, runs, number-large, number-late, number-is, range-malformed, range-large, range-is}
 
 -- the first byte still to come
 pub first-byte : (s : List ℕ) (at : ℕ) → getD (drop at s) 0 0 ≡ getD s at 0
@@ -124,11 +124,11 @@ module _ (s : List ℕ) (p : ℕ) where
       is-value TooLarge = 0
 
   valued : (v e : ℕ) → Value v e ≡ numberAt s p → Valued s p v e
-  unfolding numberAt
+  unfolding runAt
   valued v e = split (leb (value 0 (drop p s)) 4294967295) refl v e
 
   too-large : TooLarge ≡ numberAt s p → 4294967295 < value 0 (drop p s)
-  unfolding numberAt
+  unfolding runAt
   too-large = go (leb (value 0 (drop p s)) 4294967295) refl
     where
       go : (b : Bool) → leb (value 0 (drop p s)) 4294967295 ≡ b → TooLarge ≡ (if b then Value (value 0 (drop p s)) (past isDigit s p) else TooLarge) → 4294967295 < value 0 (drop p s)

@@ -7,7 +7,7 @@ use native.Mathlib.Omega.{arith}
 use lib.ListN.{length, getD, drop, replicate, length-append, length-drop}
 use lib.Seq.{drop-drop, drop-at}
 use lib.Dec.{eqb}
-use borrow.Author.Tests.{eqb-true, eq-eqb, ne-eqb}
+use borrow.Author.Tests.{eqb-true, ne-eqb}
 use Rattle.outcome.specs.Outcome.{if_then_else_}
 use Rattle.text.specs.Logic.{false-true}
 use Rattle.text.specs.Text.{among, blanks, isBlank, lead, past}
@@ -20,14 +20,15 @@ use Rattle.lists.specs.declared.Plain.the-variants as plain
 use Rattle.lists.specs.declared.Step.{Step}
 use Rattle.lists.specs.declared.Step.the-variants as steps
 use Rattle.lists.specs.Grammar.{Symbol, body, element, list, word, made}
-use Rattle.lists.specs.Reader.{Read, Refused, Bodied, endsAt, lead-over}
+use Rattle.lists.specs.Reader.{Read, Halted, Bodied, endsAt}
+use Rattle.lists.specs.Bodies.{lead-over}
 use Rattle.lists.specs.Join.{spaced-read, spaced-refused, bracket-deep, bracket-late, bracket-refused, bracket-unclosed, bracket-read, first-refused, list-ends, list-reads, list-refused}
 use Rattle.lists.specs.Told.{written, Nexts, Told, written-more, written-before}
 use Rattle.lists.specs.Calls.{first-byte, opens-with}
 
 -- what is left where a reader stands
 module _ {c : Symbol} {d n at e k : ℕ} {es : List Element} (s : List ℕ) (r : Read c d n at (drop at s) es e k) where
-  pub rest-there : r .rest ≡ drop e s
+  rest-there : r .rest ≡ drop e s
   rest-there =
       sym (drop-at (word (r .tree)) (r .rest) (length (word (r .tree))) refl)
       ∙ ap (drop (length (word (r .tree)))) (sym (r .parts))
@@ -93,10 +94,10 @@ module _ (s : List ℕ) (at place : ℕ) (q : place ≡ past (isBlank Space) s a
         spaced-read d n at (lead (isBlank Space) (drop at s)) (drop at s) (drop place s) before-place es e k
         (subst (λ (i : ℕ). Read body d n i (drop place s) es e k) place-is r)
 
-    as-refused : (k p : ℕ) → Refused body d n place (drop place s) k p → Refused element d n at (drop at s) k p
+    as-refused : (k p : ℕ) → Halted body d n place (drop place s) k p → Halted element d n at (drop at s) k p
     as-refused k p r =
         spaced-refused d n at (lead (isBlank Space) (drop at s)) (drop at s) (drop place s) before-place k p
-        (subst (λ (i : ℕ). Refused body d n i (drop place s) k p) place-is r)
+        (subst (λ (i : ℕ). Halted body d n i (drop place s) k p) place-is r)
 
     module _ (w : Bool) (m : List ℕ) where
       pub plain-element : (r : Step) (after : List ℕ) → Told body d n place (drop place s) w m r after → Told element d n at (drop at s) w m r after
@@ -107,15 +108,15 @@ module _ (s : List ℕ) (at place : ℕ) (q : place ≡ past (isBlank Space) s a
         opened : drop place s ≡ 40 ∷ drop (suc place) s
         opened = let c : place + 1 ≡ suc place = omega arith in opens-with s place 39 o ∙ ap (λ (i : ℕ). 40 ∷ drop i s) c
 
-        refused-there : (k p : ℕ) → Refused body d n place (40 ∷ drop (suc place) s) k p → Refused element d n at (drop at s) k p
-        refused-there k p r = as-refused k p (subst (λ (x : List ℕ). Refused body d n place x k p) (sym opened) r)
+        halted-in : (k p : ℕ) → Halted body d n place (40 ∷ drop (suc place) s) k p → Halted element d n at (drop at s) k p
+        halted-in k p r = as-refused k p (subst (λ (x : List ℕ). Halted body d n place x k p) (sym opened) r)
 
         pub too-deep : 4 ≤ d → Told element d n at (drop at s) w m (steps.Refused 7 place) m
-        too-deep h = (refused-there 7 place (bracket-deep d n place (drop (suc place) s) h), λ e. refl)
+        too-deep h = (halted-in 7 place (bracket-deep d n place (drop (suc place) s) h), λ e. refl)
 
         module _ (h : d < 4) where
           pub too-late : 256 ≤ n → Told element d n at (drop at s) w m (steps.Refused 9 place) m
-          too-late g = (refused-there 9 place (bracket-late d n place (drop (suc place) s) h g), λ e. refl)
+          too-late g = (halted-in 9 place (bracket-late d n place (drop (suc place) s) h g), λ e. refl)
 
           module _ (g : n < 256) (r : Step) (after : List ℕ) (t : Told list (d + 1) (n + 1) (place + 1) (drop (place + 1) s) w m r after) where
             inner : Told list (suc d) (suc n) (suc place) (drop (suc place) s) w m r after
@@ -131,7 +132,7 @@ module _ (s : List ℕ) (at place : ℕ) (q : place ≡ past (isBlank Space) s a
             pub inner-refused : (k p : ℕ) → r ≡ steps.Refused k p → Told element d n at (drop at s) w m (steps.Refused k p) after
             inner-refused k p e =
                 let u : Told list (suc d) (suc n) (suc place) (drop (suc place) s) w m (steps.Refused k p) after = subst (λ (q : Step). Told list (suc d) (suc n) (suc place) (drop (suc place) s) w m q after) e inner in
-                (refused-there k p (bracket-refused d n place (drop (suc place) s) h g k p (u .0)), u .1)
+                (halted-in k p (bracket-refused d n place (drop (suc place) s) h g k p (u .0)), u .1)
 
             -- it was read as far as e
             module _ (e k : ℕ) (f : r ≡ steps.Next e k) where
@@ -143,7 +144,7 @@ module _ (s : List ℕ) (at place : ℕ) (q : place ≡ past (isBlank Space) s a
 
               pub inner-unclosed : (getD s e 0 ≡ 41 → ⊥) → Told element d n at (drop at s) w m (steps.Refused 6 e) after
               inner-unclosed l = (
-                refused-there 6 e (bracket-unclosed d n place (drop (suc place) s) h g (members .found) e k (members .read) (not-ended d (members .read .rest) (members .read .ended refl) (ap (λ (y : List ℕ). eqb (getD y 0 0) 41) left-there ∙ ap (λ (b : ℕ). eqb b 41) (first-byte s e) ∙ ne-eqb (getD s e 0) 41 l))),
+                halted-in 6 e (bracket-unclosed d n place (drop (suc place) s) h g (members .found) e k (members .read) (not-ended d (members .read .rest) (members .read .ended refl) (ap (λ (y : List ℕ). eqb (getD y 0 0) 41) left-there ∙ ap (λ (b : ℕ). eqb b 41) (first-byte s e) ∙ ne-eqb (getD s e 0) 41 l))),
                 λ q. members .left ∙ ap (λ (b : Bool). written b m (suc n) (members .found)) q,
               )
 
@@ -192,7 +193,7 @@ module _ (s : List ℕ) (at d n : ℕ) (w : Bool) (m : List ℕ) (r : Step) (aft
         }
     list-on l (steps.Refused j p) last u =
         let c : e + 1 ≡ suc e = omega arith in (
-          list-refused d n at (drop at s) (first .found) e k (first .read) (drop (e + 1) s) (rest-there s (first .read) ∙ opens-with s e 43 l) j p (subst (λ (i : ℕ). Refused list d k i (drop (e + 1) s) j p) c (u .0)),
+          list-refused d n at (drop at s) (first .found) e k (first .read) (drop (e + 1) s) (rest-there s (first .read) ∙ opens-with s e 43 l) j p (subst (λ (i : ℕ). Halted list d k i (drop (e + 1) s) j p) c (u .0)),
           λ q. u .1 q ∙ first .left ∙ ap (λ (b : Bool). written b m n (first .found)) q,
         )
 

@@ -1,18 +1,16 @@
 -- What has a derivation is read to its end, limits or not: the state behind it takes a comma, a closing bracket or the end as the grammar does.
 use mathlib.Core.Path.{_≡_, refl, sym, ap, _∙_}
-use mathlib.Core.Bool.{Bool, true, false, _&&_}
-use mathlib.Core.List.{List, [], _∷_, _++_}
-use Prim.Native.Nat.{ℕ, zero, suc, _+_, _≤_, _<_}
+use mathlib.Core.Bool.{true, false}
+use mathlib.Core.List.{List, [], _∷_}
+use Prim.Native.Nat.{ℕ, zero, suc, _+_}
 use native.Mathlib.Omega.{arith}
 use lib.ListN.{length, replicate, length-append}
-use borrow.Author.Tests.{ltb-true}
-use Rattle.outcome.specs.Outcome.{if_then_else_}
 use Rattle.text.specs.Logic.{false-true, and-both}
 use Rattle.parser.specs.Parser.{isDigit}
 use Rattle.pieces.specs.Pieces.{isChar, isHex, heard}
-use Rattle.lists.specs.Grammar.{digits, isNumber, Piece, char, escape, Symbol, Derivation, body, element, list, empty, number, range, string, bracket, spaced, one, more, pieceWord, word, elements}
-use Rattle.lists.specs.Scan.{Mode, State, at, dead, start, low, dash, high, done, text, closed, behind, within, step, run, isDead, rests, final, outside}
-use Rattle.lists.specs.Places.{run-append, run-dead}
+use Rattle.lists.specs.Grammar.{digits, isNumber, Piece, char, escape, Symbol, Derivation, empty, number, range, string, bracket, spaced, one, more, pieceWord, word, elements}
+use Rattle.lists.specs.Scan.{State, at, dead, start, low, dash, high, done, text, closed, behind, inString, step, run, isDead, rests, final, outside}
+use Rattle.lists.specs.Places.{run-append}
 
 -- behind an element within d brackets, with n elements begun
 pub record Ends (d n : ℕ) (σ : State) : Type 0 where
@@ -96,15 +94,15 @@ module _ (d : ℕ) where
   run-spaces n (suc m) = run-spaces n m
 
   pub text-char : (n b : ℕ) → isChar b ≡ true → step (at (text 0) d n) b ≡ at (text 0) d n
-  unfolding step heard within
+  unfolding step heard inString
   text-char n b e = rw e
 
   pub text-hex : (n k b : ℕ) → isHex b ≡ true → step (at (text (suc k)) d n) b ≡ at (text k) d n
-  unfolding step heard within
+  unfolding step heard inString
   text-hex n k b e = rw e
 
   run-pieces : (n : ℕ) (ps : List Piece) → run (at (text 0) d n) (pieceWord ps) ≡ at (text 0) d n
-  unfolding run step heard within pieceWord isChar
+  unfolding run step heard inString pieceWord isChar
   run-pieces n [] = refl
   run-pieces n (char b h ∷ ps) = ap (λ (τ : State). run τ (pieceWord ps)) (text-char n b h) ∙ run-pieces n ps
   run-pieces n (escape h i p q ∷ ps) =
@@ -122,7 +120,7 @@ ends-as {d} {m} {n} {σ} {τ} e f h =
 
 -- the bytes of a derivation are read to its end
 pub ends : {c : Symbol} (t : Derivation c) (d p n : ℕ) → Ends d (n + length (elements t d p)) (run (at start d n) (word t))
-unfolding word elements run step behind isDigit heard within isChar closed
+unfolding word elements run step behind isDigit heard inString isChar closed
 ends empty d p n = ends-as (omega arith) refl (start-ends d n)
 ends (number w h) d p n = ends-as (omega arith) (run-number d n w h) (low-ends d (suc n))
 ends (range w x h g) d p n =

@@ -1,10 +1,10 @@
 -- The promise leaves one result: a payload is accepted with these elements exactly where it has a derivation within the limits that gives them, and refused
 -- exactly at its first fault.
 use mathlib.Core.Path.{_≡_, refl, sym, ap, _∙_, subst}
-use mathlib.Core.Logic.{_⊎_, inl, inr, ⊎-elim}
+use mathlib.Core.Logic.{_⊎_, ⊎-elim}
 use mathlib.Core.Bool.{true, false}
-use mathlib.Core.List.{List, [], _++_, append-nil}
-use Prim.Native.Nat.{ℕ, suc, _+_, _≤_, _<_}
+use mathlib.Core.List.{List, [], append-nil}
+use Prim.Native.Nat.{ℕ, suc}
 use native.Mathlib.Omega.{arith}
 use lib.ListN.{length, take}
 use lib.Seq.{sets}
@@ -13,8 +13,8 @@ use Rattle.lists.specs.declared.Listed.{Listed}
 use Rattle.lists.specs.declared.Listed.the-variants.{Elements, Refused}
 use Rattle.lists.specs.declared.Step.{Step}
 use Rattle.lists.specs.declared.Step.the-variants as steps
-use Rattle.lists.specs.Grammar.{Derivation, list, word, elements, numbers, over, Fault, malformed, passed, First, Accepted, Reading}
-use Rattle.lists.specs.Scan.{at, start, done, rests, final, limit, faultIn, told, fine, scan}
+use Rattle.lists.specs.Grammar.{Derivation, list, word, elements, numbers, Fault, malformed, passed, First, Accepted, Reading}
+use Rattle.lists.specs.Scan.{at, start, rests, final, limit, faultIn, told, fine, scan}
 use Rattle.lists.specs.Places.{not-fine}
 use Rattle.lists.specs.Shows.{nothing}
 use Rattle.lists.specs.Onward.{reads}

@@ -1,32 +1,30 @@
 -- From bodies to lists: what is read, or refused, with what stands around it, and what is left in the memory.
 use mathlib.Core.Path.{_≡_, refl, sym, ap, _∙_, subst}
 use mathlib.Core.Logic.{_⊎_, inl, inr, ⊎-elim}
-use mathlib.Core.Bool.{Bool, true, false}
+use mathlib.Core.Bool.{false}
 use mathlib.Core.List.{List, [], _∷_, _++_, Memᴰ·append-left, Memᴰ·append-right, append-assoc, append-nil}
-use Prim.Native.Nat.{ℕ, zero, suc, _+_, _*_, _≤_, _<_}
+use Prim.Native.Nat.{ℕ, suc, _+_, _≤_, _<_}
 use native.Mathlib.Omega.{arith}
-use lib.ListN.{length, getD, set, replicate, length-append, length-replicate}
-use lib.Seq.{sets, set-comm}
+use lib.ListN.{length, getD, replicate, length-append, length-replicate}
 use lib.Dec.{eqb}
-use Rattle.outcome.specs.Outcome.{if_then_else_}
 use Rattle.text.specs.Logic.{false-true}
-use Rattle.pieces.specs.Pieces.{numbersOf}
 use Rattle.pieces.specs.declared.Kind.the-variants as kinds
 use Rattle.pieces.specs.declared.Element.{Element}
-use Rattle.lists.specs.Grammar.{Symbol, body, element, list, Derivation, empty, bracket, spaced, one, more, word, made, elements, numbers, tooDeep, tooMany, over}
-use Rattle.lists.specs.Scan.{at, start, done, faultIn, stop, scan}
+use Rattle.lists.specs.Grammar.{Symbol, body, element, list, Derivation, empty, bracket, spaced, one, more, word, made, elements, tooDeep, tooMany, over}
+use Rattle.lists.specs.Scan.{at, start, done, scan}
 use Rattle.lists.specs.Places.{here-stops}
 use Rattle.lists.specs.Shows.{deep-fault}
 use Rattle.lists.specs.Onward.{scan-open, scan-comma, scan-close, scan-spaces}
-use Rattle.lists.specs.Reader.{Read, Refused, Limited, After, unknown, comma, close, following, endsAt, done-fault, open-fault, late-listed, few-unlisted, deep-listed, shallow-unlisted}
+use Rattle.lists.specs.Bodies.{open-fault}
+use Rattle.lists.specs.Reader.{Read, Halted, Limited, After, unknown, comma, close, following, endsAt, done-fault, late-listed, few-unlisted, deep-listed, shallow-unlisted}
 
 -- counts, places and bytes, however they are written
 module _ {c : Symbol} {d n m p q : ℕ} {x y : List ℕ} (e : n ≡ m) (f : p ≡ q) (g : x ≡ y) where
   read-at : {es : List Element} {z k : ℕ} → Read c d n p x es z k → Read c d m q y es z k
   read-at {es} {z} {k} w = subst (λ (l : List ℕ). Read c d m q l es z k) g (subst (λ (i : ℕ). Read c d m i x es z k) f (subst (λ (i : ℕ). Read c d i p x es z k) e w))
 
-  refused-at : {z k : ℕ} → Refused c d n p x k z → Refused c d m q y k z
-  refused-at {z} {k} w = subst (λ (l : List ℕ). Refused c d m q l k z) g (subst (λ (i : ℕ). Refused c d m i x k z) f (subst (λ (i : ℕ). Refused c d i p x k z) e w))
+  refused-at : {z k : ℕ} → Halted c d n p x k z → Halted c d m q y k z
+  refused-at {z} {k} w = subst (λ (l : List ℕ). Halted c d m q l k z) g (subst (λ (i : ℕ). Halted c d m i x k z) f (subst (λ (i : ℕ). Halted c d i p x k z) e w))
 
 -- an element is a body behind spaces
 module _ (d n p m : ℕ) (x y : List ℕ) (f : x ≡ replicate m 32 ++ y) where
@@ -57,7 +55,7 @@ module _ (d n p m : ℕ) (x y : List ℕ) (f : x ≡ replicate m 32 ++ y) where
   same-following (comma h) = refl
   same-following (close h) = refl
 
-  pub spaced-refused : (k q : ℕ) → Refused body d n (p + m) y k q → Refused element d n p x k q
+  pub spaced-refused : (k q : ℕ) → Halted body d n (p + m) y k q → Halted element d n p x k q
   unfolding word over
   spaced-refused k q w =
       let l : length (replicate m 32 ++ w .seen) ≡ m + length (w .seen) = length-append (replicate m 32) (w .seen) ∙ ap (λ (i : ℕ). i + length (w .seen)) (length-replicate m 32) in
@@ -79,7 +77,7 @@ module _ (d n p m : ℕ) (x y : List ℕ) (f : x ≡ replicate m 32 ++ y) where
 
 -- a bracket that opens at p, with x behind it
 module _ (d n p : ℕ) (x : List ℕ) where
-  pub bracket-deep : 4 ≤ d → Refused body d n p (40 ∷ x) 7 p
+  pub bracket-deep : 4 ≤ d → Halted body d n p (40 ∷ x) 7 p
   unfolding word over
   bracket-deep h =
       record {
@@ -95,7 +93,7 @@ module _ (d n p : ℕ) (x : List ℕ) where
       }
 
   module _ (h : d < 4) where
-    pub bracket-late : 256 ≤ n → Refused body d n p (40 ∷ x) 9 p
+    pub bracket-late : 256 ≤ n → Halted body d n p (40 ∷ x) 9 p
     unfolding word over
     bracket-late g =
         record {
@@ -111,7 +109,7 @@ module _ (d n p : ℕ) (x : List ℕ) where
         }
 
     module _ (g : n < 256) where
-      pub bracket-refused : (k q : ℕ) → Refused list (suc d) (suc n) (suc p) x k q → Refused body d n p (40 ∷ x) k q
+      pub bracket-refused : (k q : ℕ) → Halted list (suc d) (suc n) (suc p) x k q → Halted body d n p (40 ∷ x) k q
       unfolding word over
       bracket-refused k q w =
           record {
@@ -141,7 +139,7 @@ module _ (d n p : ℕ) (x : List ℕ) where
           closes l u o (close f) e = e
 
       module _ (es : List Element) (e k : ℕ) (w : Read list (suc d) (suc n) (suc p) x es e k) where
-        pub bracket-unclosed : endsAt (suc d) (w .rest) ≡ false → Refused body d n p (40 ∷ x) 6 e
+        pub bracket-unclosed : endsAt (suc d) (w .rest) ≡ false → Halted body d n p (40 ∷ x) 6 e
         unfolding word over
         bracket-unclosed f =
             record {
@@ -175,7 +173,7 @@ module _ (d n p : ℕ) (x : List ℕ) where
 
 -- a list begins with an element
 module _ (d n p : ℕ) (x : List ℕ) where
-  pub first-refused : (k q : ℕ) → Refused element d n p x k q → Refused list d n p x k q
+  pub first-refused : (k q : ℕ) → Halted element d n p x k q → Halted list d n p x k q
   unfolding word over
   first-refused k q w = go (w .after) (w .there)
     where
@@ -188,7 +186,7 @@ module _ (d n p : ℕ) (x : List ℕ) where
       not-alone : Limited element d n p (w .tree) (w .seen) (w .rest) (w .other) k q → Limited list d n p (more (w .tree) (one (spaced 0 empty))) (w .seen) (w .rest) (w .other) k q
       not-alone h = record { shown = h .shown; among = Memᴰ·append-left (over (one (spaced 0 empty)) d (suc (p + length (word (w .tree)))) (n + length (elements (w .tree) d p))) (h .among); enough = h .enough }
 
-      go : (a : After element d) → word (w .tree) ++ following a ≡ w .seen ++ w .other → Refused list d n p x k q
+      go : (a : After element d) → word (w .tree) ++ following a ≡ w .seen ++ w .other → Halted list d n p x k q
       go unknown e = record { tree = one (w .tree); after = unknown; seen = w .seen; rest = w .rest; other = w .other; here = w .here; there = e; why = limits (one (w .tree)) alone; verdict = w .verdict }
       go (close f) e = record { tree = one (w .tree); after = close f; seen = w .seen; rest = w .rest; other = w .other; here = w .here; there = e; why = limits (one (w .tree)) alone; verdict = w .verdict }
       go (comma f) e = record { tree = more (w .tree) (one (spaced 0 empty)); after = unknown; seen = w .seen; rest = w .rest; other = w .other; here = w .here; there = append-nil (word (w .tree) ++ 44 ∷ []) ∙ e; why = limits (more (w .tree) (one (spaced 0 empty))) not-alone; verdict = w .verdict }
@@ -227,7 +225,7 @@ module _ (d n p : ℕ) (x : List ℕ) where
             ended = v .ended;
           }
 
-      pub list-refused : (k q : ℕ) → Refused list d m (suc e) y k q → Refused list d n p x k q
+      pub list-refused : (k q : ℕ) → Halted list d m (suc e) y k q → Halted list d n p x k q
       unfolding word over
       list-refused k q u =
           let v = refused-at counted (ap suc (w .end)) refl u in

@@ -8,6 +8,7 @@ pub mod Unique
 pub mod Refusal
 pub mod Strings
 pub mod Reader
+pub mod Bodies
 pub mod Join
 pub mod Told
 pub mod Exactly

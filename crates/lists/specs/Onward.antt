@@ -6,15 +6,15 @@ use Prim.Native.Nat.{ℕ, zero, suc, _+_, _*_, _-_, _≤_, _<_}
 use native.Mathlib.Omega.{arith}
 use lib.ListN.{length, getD, replicate, length-append, length-replicate}
 use lib.Dec.{eqb, leb, ltb}
-use borrow.Author.Tests.{le-leb, lt-leb, le-ltb, ltb-true, leb-false, ltb-false}
+use borrow.Author.Tests.{le-leb, lt-leb, leb-false, ltb-false}
 use Rattle.outcome.specs.Outcome.{if_then_else_}
-use Rattle.text.specs.Logic.{false-true, and-both}
+use Rattle.text.specs.Logic.{and-both}
 use Rattle.parser.specs.Parser.{isDigit, value}
 use Rattle.pieces.specs.Pieces.{isChar, isHex, heard}
 use Rattle.lists.specs.Grammar.{digits, isNumber, Piece, char, escape, Symbol, Derivation, empty, number, range, string, bracket, spaced, one, more, pieceWord, word, elements, Over, tooDeep, tooLarge, tooMany, over}
-use Rattle.lists.specs.Scan.{State, at, dead, start, low, dash, high, done, text, closed, behind, within, step, run, isDead, rests, final, many, limit, faultIn, Verdict, fine, stop, told, scan}
+use Rattle.lists.specs.Scan.{State, at, start, low, dash, high, done, text, closed, behind, inString, step, isDead, rests, final, many, limit, faultIn, told, scan}
 use Rattle.lists.specs.Ends.{is-number, number-digits, text-char, text-hex}
-use Rattle.lists.specs.Shows.{Follow, nothing, comma, close}
+use Rattle.lists.specs.Shows.{Follow, comma, close}
 
 -- a number's digits are over where no digit follows
 pub value-stops : (a : ℕ) (w x : List ℕ) → digits w ≡ true → isDigit (getD x 0 0) ≡ false → value a (w ++ x) ≡ value a w
@@ -26,7 +26,7 @@ value-stops a (b ∷ w) x e f =
     rw (h .0) (value-stops (a * 10 + (b - 48)) w x (h .1) f)
 
 module _ (d n p : ℕ) (x : List ℕ) where
-  pub scan-space : scan (at start d n) p (32 ∷ x) ≡ scan (at start d n) (suc p) x
+  scan-space : scan (at start d n) p (32 ∷ x) ≡ scan (at start d n) (suc p) x
   unfolding scan faultIn step isDigit isDead limit told
   scan-space = refl
 
@@ -51,7 +51,7 @@ module _ (d n p : ℕ) (x : List ℕ) where
   scan-dash = refl
 
   pub scan-unquote : scan (at (text 0) d n) p (34 ∷ x) ≡ scan (at done d n) (suc p) x
-  unfolding scan faultIn step heard isChar within isDead limit told
+  unfolding scan faultIn step heard isChar inString isDead limit told
   scan-unquote = refl
 
 module _ (d n p b : ℕ) (x : List ℕ) (e : isDigit b ≡ true) where
@@ -122,10 +122,10 @@ module _ (d n : ℕ) where
   scan-hex p k b x e = rw (text-hex d n k b e)
 
   pub scan-back : (p : ℕ) (x : List ℕ) → scan (at (text 0) d n) p (92 ∷ x) ≡ scan (at (text 2) d n) (suc p) x
-  unfolding scan faultIn step heard isChar within isDead limit told
+  unfolding scan faultIn step heard isChar inString isDead limit told
   scan-back p x = refl
 
-  pub scan-pieces : (p : ℕ) (ps : List Piece) (x : List ℕ) → scan (at (text 0) d n) p (pieceWord ps ++ x) ≡ scan (at (text 0) d n) (p + length (pieceWord ps)) x
+  scan-pieces : (p : ℕ) (ps : List Piece) (x : List ℕ) → scan (at (text 0) d n) p (pieceWord ps ++ x) ≡ scan (at (text 0) d n) (p + length (pieceWord ps)) x
   unfolding pieceWord
   scan-pieces p [] x = on-none (at (text 0) d n) p x
   scan-pieces p (char b h ∷ ps) x = scan-char p b (pieceWord ps ++ x) h ∙ scan-pieces (suc p) ps x ∙ on-one (at (text 0) d n) p (length (pieceWord ps)) x

@@ -1,14 +1,11 @@
 -- From a place to the verdict: what was read before a place decides the state there, and the first fault is at the place where it is told.
 use mathlib.Core.Path.{_≡_, refl, sym, ap, _∙_}
 use mathlib.Core.Logic.{_⊎_, inl, inr, ⊎-elim}
-use mathlib.Core.Bool.{Bool, true, false}
 use mathlib.Core.List.{List, [], _∷_, _++_}
-use Prim.Native.Nat.{ℕ, zero, suc, _+_, _≤_, _<_}
+use Prim.Native.Nat.{ℕ, zero, suc, _+_, _<_}
 use native.Mathlib.Omega.{arith}
 use lib.ListN.{length}
-use Rattle.outcome.specs.Laws.{ways}
-use Rattle.text.specs.Logic.{false-true}
-use Rattle.lists.specs.Scan.{Mode, State, at, dead, start, low, dash, high, done, text, step, run, isDead, final, many, limit, faultIn, Verdict, fine, stop, told, scan}
+use Rattle.lists.specs.Scan.{State, dead, step, run, faultIn, Verdict, fine, stop, told, scan}
 
 pub run-append : (σ : State) (u v : List ℕ) → run σ (u ++ v) ≡ run (run σ u) v
 unfolding run

@@ -3,7 +3,7 @@ use mathlib.Core.Path.{_≡_, refl, sym, ap, _∙_, subst}
 use mathlib.Core.Logic.{_⊎_, inl, inr, ⊎-elim}
 use mathlib.Core.Bool.{Bool, true, false}
 use mathlib.Core.List.{List, [], _∷_, _++_, List·Memᴰ, append-assoc, append-nil}
-use Prim.Native.Nat.{ℕ, zero, suc, _+_, _≤_, _<_}
+use Prim.Native.Nat.{ℕ, suc, _+_, _≤_, _<_}
 use native.Mathlib.Omega.{arith}
 use lib.ListN.{length, take, drop, length-append, take-append-drop}
 use lib.Seq.{length-take-le, take-all, take-take, take-append-seam, take-append-add, drop-append-seam}
@@ -13,8 +13,8 @@ use Rattle.outcome.specs.Laws.{ways}
 use Rattle.text.specs.Logic.{false-true, order}
 use Rattle.parser.specs.Parser.{isDigit, value}
 use Rattle.lists.specs.Grammar.{Derivation, list, word, Over, over, Begins}
-use Rattle.lists.specs.Scan.{State, at, dead, start, low, dash, high, done, text, step, run, isDead, final, many, limit, faultIn, Verdict, fine, stop, told, scan}
-use Rattle.lists.specs.Places.{run-append, run-dead, Stopped, stopped, Comes, there, before, comes, scan-stops}
+use Rattle.lists.specs.Scan.{State, at, dead, start, low, dash, high, done, text, step, run, isDead, final, many, limit, faultIn, stop, told, scan}
+use Rattle.lists.specs.Places.{run-append, run-dead, stopped, Comes, there, before, comes, scan-stops}
 use Rattle.lists.specs.Ends.{ends, alive}
 use Rattle.lists.specs.Shows.{nothing, Shown, shown, UpTo, same-front, refused-there}
 

@@ -27,13 +27,13 @@ unfoldable pub behind : ℕ → ℕ → ℕ → State
 unfolding closed
 behind d n b = if eqb b 44 then at start d n else if eqb b 41 then closed d n else dead
 
-unfoldable pub within : Heard → ℕ → ℕ → State
-within (Owes k) d n = at (text k) d n
-within Closes d n = at done d n
-within Breaks d n = dead
+unfoldable pub inString : Heard → ℕ → ℕ → State
+inString (Owes k) d n = at (text k) d n
+inString Closes d n = at done d n
+inString Breaks d n = dead
 
 unfoldable pub step : State → ℕ → State
-unfolding behind within
+unfolding behind inString
 step (at start d n) b =
     if isDigit b then at low d (suc n)
     else if eqb b 32 then at start d n
@@ -44,7 +44,7 @@ step (at low d n) b = if isDigit b then at low d n else if eqb b 45 then at dash
 step (at dash d n) b = if isDigit b then at high d n else dead
 step (at high d n) b = if isDigit b then at high d n else behind d n b
 step (at done d n) b = behind d n b
-step (at (text k) d n) b = within (heard k b) d n
+step (at (text k) d n) b = inString (heard k b) d n
 step dead b = dead
 
 unfoldable pub run : State → List ℕ → State

@@ -1,23 +1,23 @@
 -- A limit that a derivation passes shows in the state at its place and in the bytes that follow there: any bytes that show as much are refused there too.
 use mathlib.Core.Path.{_≡_, refl, sym, ap, _∙_, subst}
 use mathlib.Core.Logic.{_⊎_, inl, inr, ⊎-elim}
-use mathlib.Core.Bool.{Bool, true, false, _&&_}
-use mathlib.Core.List.{List, [], _∷_, _++_, List·Memᴰ, List·Memᴰ·head, List·Memᴰ·tail, List·Memᴰ·not-nil, List·Memᴰ·cases-cons, List·Memᴰ·append-cases, append-assoc}
-use Prim.Native.Nat.{ℕ, zero, suc, _+_, _*_, _-_, _≤_, _<_}
+use mathlib.Core.Bool.{Bool, true, false}
+use mathlib.Core.List.{List, [], _∷_, _++_, List·Memᴰ, List·Memᴰ·not-nil, List·Memᴰ·cases-cons, List·Memᴰ·append-cases, append-assoc}
+use Prim.Native.Nat.{ℕ, suc, _+_, _*_, _-_, _≤_, _<_}
 use native.Mathlib.Omega.{arith}
 use lib.ListN.{length, getD, take, drop, replicate, length-append, length-replicate, take-append-drop}
 use lib.Seq.{take-append-seam}
 use lib.Dec.{eqb, leb, ltb}
-use borrow.Author.Tests.{le-leb, lt-leb, leb-true, ltb-true, eqb-true, ne-eqb}
+use borrow.Author.Tests.{le-leb, lt-leb, leb-true, ltb-true, ne-eqb}
 use Rattle.outcome.specs.Outcome.{if_then_else_}
 use Rattle.outcome.specs.Laws.{ways}
 use Rattle.text.specs.Logic.{false-true, and-both}
 use Rattle.parser.specs.Parser.{isDigit, value}
 use Rattle.parser.specs.Laws.{digit-bounds, value-grows}
-use Rattle.lists.specs.Grammar.{digits, isNumber, Piece, Symbol, Derivation, body, element, list, empty, number, range, string, bracket, spaced, one, more, pieceWord, word, elements, Over, tooDeep, tooLarge, tooMany, over}
-use Rattle.lists.specs.Scan.{Mode, State, at, dead, start, low, dash, high, done, text, closed, behind, within, step, run, isDead, rests, final, many, limit, faultIn}
+use Rattle.lists.specs.Grammar.{digits, isNumber, Symbol, Derivation, empty, number, range, string, bracket, spaced, one, more, word, elements, Over, tooDeep, tooLarge, tooMany, over}
+use Rattle.lists.specs.Scan.{State, at, start, dash, behind, step, run, isDead, final, many, limit, faultIn}
 use Rattle.lists.specs.Places.{run-append}
-use Rattle.lists.specs.Ends.{is-number, number-digits, Ends, ends, run-number, run-spaces}
+use Rattle.lists.specs.Ends.{is-number, number-digits, ends, run-number, run-spaces}
 
 -- what may follow an element: nothing, a comma, a closing bracket
 pub data Follow : List ℕ → Type 0 where

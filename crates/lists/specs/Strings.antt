@@ -1,5 +1,5 @@
 -- How a string goes on, where hexadecimal digits may be owed: closed, with what stands between, or broken off where no string goes on.
-use mathlib.Core.Path.{_≡_, refl, sym, ap, _∙_, subst}
+use mathlib.Core.Path.{_≡_, refl, sym, ap, _∙_}
 use mathlib.Core.Bool.{Bool, true, false, _&&_}
 use mathlib.Core.List.{List, [], _∷_, _++_}
 use Prim.Native.Nat.{ℕ, zero, suc, _+_}
@@ -15,7 +15,7 @@ use Rattle.pieces.specs.declared.Heard.the-variants.{Owes, Closes, Breaks}
 use Rattle.pieces.specs.declared.Ended.{Ended}
 use Rattle.pieces.specs.declared.Ended.the-variants.{At, Broken}
 use Rattle.lists.specs.Grammar.{Piece, char, escape, pieceWord}
-use Rattle.lists.specs.Scan.{State, at, dead, done, text, within, step, isDead, rests, final, limit, faultIn, fine, stop, told, scan}
+use Rattle.lists.specs.Scan.{at, done, text, inString, step, isDead, rests, final, faultIn, stop, scan}
 use Rattle.lists.specs.Places.{here-stops}
 use Rattle.lists.specs.Onward.{scan-char, scan-hex, scan-back, scan-unquote}
 
@@ -201,7 +201,7 @@ module _ (d n p b : ℕ) (x : List ℕ) where
   goes-on zero f = go (isChar b) refl (eqb b 92) refl (eqb b 34) refl
     where
       broken : isChar b ≡ false → eqb b 92 ≡ false → eqb b 34 ≡ false → faultIn (at (text 0) d n) (b ∷ x) ≡ 6
-      broken e q r = unfold faultIn in unfold step in unfold within in unfold isDead in rw (e, q, r)
+      broken e q r = unfold faultIn in unfold step in unfold inString in unfold isDead in rw (e, q, r)
 
       go : (c : Bool) → isChar b ≡ c → (k : Bool) → eqb b 92 ≡ k → (z : Bool) → eqb b 34 ≡ z → Strung d n 0 p (b ∷ x) (goesOn (if c then Owes 0 else if k then Owes 2 else if z then Closes else Breaks) p (λ k. stringEnd k (suc p) x))
       go true e k q z r = on-char (stringEnd 0 (suc p) x) e (f 0)
@@ -211,7 +211,7 @@ module _ (d n p b : ℕ) (x : List ℕ) where
   goes-on (suc k) f = go (isHex b) refl
     where
       broken : isHex b ≡ false → faultIn (at (text (suc k)) d n) (b ∷ x) ≡ 6
-      broken e = unfold faultIn in unfold step in unfold within in unfold isDead in rw e
+      broken e = unfold faultIn in unfold step in unfold inString in unfold isDead in rw e
 
       go : (c : Bool) → isHex b ≡ c → Strung d n (suc k) p (b ∷ x) (goesOn (if c then Owes k else Breaks) p (λ i. stringEnd i (suc p) x))
       go true e = on-hex k (stringEnd k (suc p) x) e (f k)

@@ -3,7 +3,7 @@ use mathlib.Core.Path.{_≡_, refl, sym, ap, _∙_, subst}
 use mathlib.Core.Logic.{_⊎_, inl, inr, ⊎-elim}
 use mathlib.Core.Bool.{Bool, true, false, _&&_}
 use mathlib.Core.List.{List, [], _∷_, _++_, List·Memᴰ, append-nil}
-use Prim.Native.Nat.{ℕ, zero, suc, _+_, _*_, _≤_, _<_}
+use Prim.Native.Nat.{ℕ, suc, _+_, _*_, _≤_, _<_}
 use native.Mathlib.Omega.{arith}
 use lib.ListN.{length, getD, set, take, length-append}
 use lib.Seq.{sets, set-comm, take-take, take-append-le}
@@ -14,13 +14,13 @@ use Rattle.pieces.specs.Pieces.{numbersOf}
 use Rattle.pieces.specs.declared.Element.{Element}
 use Rattle.lists.specs.declared.Step.{Step}
 use Rattle.lists.specs.declared.Step.the-variants as steps
-use Rattle.lists.specs.Grammar.{Symbol, list, Derivation, word, elements, numbers, Over, over, Begins, Fault, malformed, passed, First, Accepted}
-use Rattle.lists.specs.Scan.{State, at, start, done, scan, stop, fine}
+use Rattle.lists.specs.Grammar.{Symbol, list, Derivation, word, numbers, Over, over, Begins, Fault, malformed, passed, First, Accepted}
+use Rattle.lists.specs.Scan.{State, at, done, stop}
 use Rattle.lists.specs.Places.{told-one, here-stops}
 use Rattle.lists.specs.Ends.{is-number}
-use Rattle.lists.specs.Shows.{Shows, deep, large, late, Shown, shown, nothing}
-use Rattle.lists.specs.Refusal.{none-goes-on, Earlier, passes}
-use Rattle.lists.specs.Reader.{Read, Refused, Limited, After, unknown, comma, close, following, endsAt, done-fault}
+use Rattle.lists.specs.Shows.{Shows, deep, large, late, shown, nothing}
+use Rattle.lists.specs.Refusal.{none-goes-on, passes}
+use Rattle.lists.specs.Reader.{Read, Halted, Limited, After, unknown, comma, close, following, endsAt, done-fault}
 
 -- the memory with the elements from the number n on, where they are to be written
 abbrev pub written : Bool → List ℕ → ℕ → List Element → List ℕ
@@ -33,7 +33,7 @@ pub record Nexts (c : Symbol) (d n p : ℕ) (x : List ℕ) (w : Bool) (m after :
 
 abbrev pub Told : Symbol → ℕ → ℕ → ℕ → List ℕ → Bool → List ℕ → Step → List ℕ → Type 0
 Told c d n p x w m (steps.Next e k) after = Nexts c d n p x w m after e k
-Told c d n p x w m (steps.Refused k q) after = Refused c d n p x k q × (w ≡ false → after ≡ m)
+Told c d n p x w m (steps.Refused k q) after = Halted c d n p x k q × (w ≡ false → after ≡ m)
 
 -- elements one behind another in the memory
 sets-append : (xs ys m : List ℕ) (i : ℕ) → sets (sets m i xs) (i + length xs) ys ≡ sets m i (xs ++ ys)
@@ -92,11 +92,11 @@ some-shows k j v σ (deep d n x e f g h i) = omega arith
 some-shows k j v σ (large d n w x e f g h i l) = let b = is-number w g in omega (arith, l, ap length (b .parts))
 some-shows k j v σ (late d n e f g h i) = omega arith
 
-shown-behind : (t : Derivation list) (o : Over) → List·Memᴰ o (over t 0 0 0) → o .place < o .shown
-shown-behind t o m = let h = shown t 0 0 0 [] nothing o m in omega (arith, h .end, some-shows (o .refusal) (h .seen) (h .behind) _ (h .shows))
+shown-after : (t : Derivation list) (o : Over) → List·Memᴰ o (over t 0 0 0) → o .place < o .shown
+shown-after t o m = let h = shown t 0 0 0 [] nothing o m in omega (arith, h .end, some-shows (o .refusal) (h .seen) (h .behind) _ (h .shows))
 
 -- what a refusal of the whole rests on
-module _ (s : List ℕ) (k q : ℕ) (w : Refused list 0 0 0 s k q) where
+module _ (s : List ℕ) (k q : ℕ) (w : Halted list 0 0 0 s k q) where
   alone : word (w .tree) ≡ w .seen ++ w .other
   alone = go (w .after) (w .there)
     where
@@ -132,7 +132,7 @@ module _ (s : List ℕ) (k q : ℕ) (w : Refused list 0 0 0 s k q) where
   further : Limited list 0 0 0 (w .tree) (w .seen) (w .rest) (w .other) k q → Begins s (suc q)
   further g =
       ⊎-elim
-      (λ e. goes-on (suc q) (omega (arith, e, shown-behind (w .tree) _ (g .among))))
+      (λ e. goes-on (suc q) (omega (arith, e, shown-after (w .tree) _ (g .among))))
       (λ e. record { tree = w .tree; same = ap (take (suc q)) (same-whole (e .0) (e .1 .0)) })
       (g .enough)
 
@@ -165,7 +165,7 @@ module _ (s : List ℕ) (es : List Element) (e k : ℕ) (r : Read list 0 0 0 s e
   reach : length s ≡ e + length (r .rest)
   reach = ap length (r .parts) ∙ length-append (word (r .tree)) (r .rest) ∙ ap (λ (i : ℕ). i + length (r .rest)) (omega (arith, r .end))
 
-  pub whole-accepted : length s ≤ e → Accepted s es
+  whole-accepted : length s ≤ e → Accepted s es
   whole-accepted h =
       let n : r .rest ≡ [] = no-more (r .rest) (omega (arith, reach)) in
       record { tree = r .tree; derives = sym (r .parts ∙ ap (λ (l : List ℕ). word (r .tree) ++ l) n ∙ append-nil (word (r .tree))); within = r .within; gives = r .gives }
@@ -174,7 +174,7 @@ module _ (s : List ℕ) (es : List Element) (e k : ℕ) (r : Read list 0 0 0 s e
       no-more [] f = refl
       no-more (b ∷ l) f = absurd (omega arith)
 
-  pub whole-longer : e < length s → Refused list 0 0 0 s 6 e
+  whole-longer : e < length s → Halted list 0 0 0 s 6 e
   whole-longer h =
       record {
         tree = r .tree;
@@ -197,7 +197,7 @@ module _ (s : List ℕ) (es : List Element) (e k : ℕ) (r : Read list 0 0 0 s e
           no-and false = refl
 
 -- the count of a whole list's elements
-pub whole-count : (s : List ℕ) (es : List Element) (e k : ℕ) → Read list 0 0 0 s es e k → k ≡ length es
+whole-count : (s : List ℕ) (es : List Element) (e k : ℕ) → Read list 0 0 0 s es e k → k ≡ length es
 whole-count s es e k r = omega (arith, r .count)
 
 -- what a reading of the whole promises, written or not

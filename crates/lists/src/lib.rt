@@ -2,13 +2,13 @@
 // A list reader and an element reader call each other; with each call the bytes that are left fall, and within a bracket the depth that is left. Each judges all
 // that stands at its place before anything behind it is looked at, so the first fault that is met is the leftmost.
 ghost use mathlib.Core.Path.{_≡_};
-ghost use mathlib.Core.Bool.{true, false};
+ghost use mathlib.Core.Bool.{true};
 ghost use mathlib.Core.List.{[], _∷_};
 ghost use Prim.Native.Nat.{_≤_, _<_};
 ghost use lib.ListN.{length, drop, getD};
 ghost use Rattle.parser.specs.Parser.{isDigit};
 ghost use Rattle.lists.specs.Grammar.{body, element, list, Reading};
-ghost use Rattle.lists.specs.Reader.{Bodied, Bare, Refused, endsAt};
+ghost use Rattle.lists.specs.Reader.{Bodied, Bare, endsAt};
 ghost use Rattle.lists.specs.Told.{Told, Whole, written};
 use pieces::Digits;
 use pieces::Element;
@@ -79,7 +79,7 @@ fn string_at(s: &[u8], at: usize, depth: usize, n: usize) -> Plain
     requires { ⌜ (at < length (now s)) × (getD (now s) at 0 ≡ 34) ⌝ }
     ensures { λ r. ⌜ Bodied depth n at (drop at (now (s .entry))) r ⌝ }
 {
-    if pieces::MOST <= n {
+    if n >= pieces::MOST {
         return Plain::Refused(9, at);
     }
     match pieces::string_end(s, at + 1) {

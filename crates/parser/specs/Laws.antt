@@ -26,7 +26,7 @@ use Rattle.parser.specs.declared.Notice.the-variants as notice
 use Rattle.lines.specs.Lines.{crlf}
 use Rattle.outcome.specs.Outcome.{if_then_else_}
 use Rattle.outcome.specs.Laws.{ways}
-use Rattle.parser.specs.Parser.{lineEnding, isDigit, value, digitsAt, endedRun, tailAt, numericAt, atFound, numericError, customPrompt, wrapped, breaksOff, through, noticeText, afterEnding, noticeAt}
+use Rattle.parser.specs.Parser.{lineEnding, isDigit, value, runAt, digitsAt, endedRun, tailAt, numericAt, atFound, numericError, customPrompt, wrapped, breaksOff, through, noticeText, afterEnding, noticeAt}
 
 -- `lineEnding`
 module _ (s : List ℕ) (p : ℕ) where
@@ -67,15 +67,15 @@ unfolding isDigit
 digit-bounds b e = let w = and-both (leb 48 b) (leb b 57) e in (leb-true 48 b (w .0), leb-true b 57 (w .1))
 
 module _ (s : List ℕ) (i a : ℕ) where
-  pub value-more : i < length s → isDigit (getD s i 0) ≡ true → value a (drop i s) ≡ value (a * 10 + (getD s i 0 - 48)) (drop (i + 1) s)
+  value-more : i < length s → isDigit (getD s i 0) ≡ true → value a (drop i s) ≡ value (a * 10 + (getD s i 0 - 48)) (drop (i + 1) s)
   unfolding value
   value-more h e = rw (add-one, drop-cons s i 0 h, e)
 
-  pub value-stop : i < length s → isDigit (getD s i 0) ≡ false → value a (drop i s) ≡ a
+  value-stop : i < length s → isDigit (getD s i 0) ≡ false → value a (drop i s) ≡ a
   unfolding value
   value-stop h e = rw (drop-cons s i 0 h, e)
 
-  pub value-end : length s ≤ i → value a (drop i s) ≡ a
+  value-end : length s ≤ i → value a (drop i s) ≡ a
   unfolding value
   value-end h = rw (drop-of-length-le s h)
 
@@ -84,36 +84,36 @@ unfolding value
 value-grows a [] = omega arith
 value-grows a (x ∷ s) = ways (λ n. a ≤ n) (isDigit x) (λ e. omega (arith, value-grows (a * 10 + (x - 48)) s)) (λ e. omega arith)
 
--- the loop of `digits_at`: the digits from p up to i have the value a
-pub record Sofar (s : List ℕ) (p i a : ℕ) : Type 0 where
-  pub small : a ≤ 65535
+-- a loop over a run of digits of at most `most`: those from p up to i have the value a
+pub record Sofar (most : ℕ) (s : List ℕ) (p i a : ℕ) : Type 0 where
+  pub small : a ≤ most
   pub digits : past isDigit s p ≡ past isDigit s i
   pub is : value 0 (drop p s) ≡ value a (drop i s)
 
-pub sofar-none : (s : List ℕ) (p : ℕ) → Sofar s p p 0
-sofar-none s p = record { small = omega arith; digits = refl; is = refl }
+pub sofar-none : (most : ℕ) (s : List ℕ) (p : ℕ) → Sofar most s p p 0
+sofar-none most s p = record { small = omega arith; digits = refl; is = refl }
 
-module _ (s : List ℕ) (p i a : ℕ) (w : Sofar s p i a) where
-  run-is : past isDigit s i ≡ i → value a (drop i s) ≡ a → Value a i ≡ digitsAt s p
-  unfolding digitsAt
-  run-is h g = rw (w .is ∙ g, w .digits ∙ h, le-leb a 65535 (w .small))
+module _ {A : Type 0} (is : ℕ → ℕ → A) (larger : A) (most : ℕ) (s : List ℕ) (p i a : ℕ) (w : Sofar most s p i a) where
+  run-is : past isDigit s i ≡ i → value a (drop i s) ≡ a → is a i ≡ runAt is larger most s p
+  unfolding runAt
+  run-is h g = rw (w .is ∙ g, w .digits ∙ h, le-leb a most (w .small))
 
-  pub run-end : length s ≤ i → Value a i ≡ digitsAt s p
+  pub run-end : length s ≤ i → is a i ≡ runAt is larger most s p
   run-end h = run-is (past-end isDigit s i h) (value-end s i a h)
 
   module _ (h : i < length s) where
-    pub run-stop : isDigit (getD s i 0) ≡ false → Value a i ≡ digitsAt s p
+    pub run-stop : isDigit (getD s i 0) ≡ false → is a i ≡ runAt is larger most s p
     run-stop e = run-is (past-stop isDigit s i h e) (value-stop s i a h e)
 
     module _ (d : isDigit (getD s i 0) ≡ true) (x : ℕ) (v : x ≡ getD s i 0) where
       value-on : value 0 (drop p s) ≡ value (a * 10 + (x - 48)) (drop (i + 1) s)
       value-on = rw v (w .is ∙ value-more s i a h d)
 
-      pub run-large : 65535 < a * 10 + (x - 48) → TooLarge ≡ digitsAt s p
-      unfolding digitsAt
-      run-large g = rw (lt-leb (value 0 (drop p s)) 65535 (omega (arith, value-on, value-grows (a * 10 + (x - 48)) (drop (i + 1) s))))
+      pub run-large : most < a * 10 + (x - 48) → larger ≡ runAt is larger most s p
+      unfolding runAt
+      run-large g = rw (lt-leb (value 0 (drop p s)) most (omega (arith, value-on, value-grows (a * 10 + (x - 48)) (drop (i + 1) s))))
 
-      pub run-more : a * 10 + (x - 48) ≤ 65535 → Sofar s p (i + 1) (a * 10 + (x - 48))
+      pub run-more : a * 10 + (x - 48) ≤ most → Sofar most s p (i + 1) (a * 10 + (x - 48))
       run-more g = record { small = g; digits = w .digits ∙ past-more isDigit s i h d; is = value-on }
 
 -- the ways out of `tail_at`

@@ -19,7 +19,7 @@ use Rattle.text.specs.declared.Found.{Found}
 use Rattle.text.specs.declared.Found.the-variants.{At, Nothing}
 use Rattle.lines.specs.Lines.{crlf}
 use Rattle.outcome.specs.Outcome.{if_then_else_}
-use Rattle.parser.specs.Parser.{onlyBlanks, promptFrom, customPrompt, isDigit, value, digitsAt, endedRun, tailAt, numericAt, lineEnding, breaksOff, through, noticeText, afterEnding, noticeAt}
+use Rattle.parser.specs.Parser.{onlyBlanks, promptFrom, customPrompt, isDigit, value, runAt, digitsAt, endedRun, tailAt, numericAt, lineEnding, breaksOff, through, noticeText, afterEnding, noticeAt}
 use Rattle.parser.specs.declared.Digits.{Digits}
 use Rattle.parser.specs.declared.Run.{Run}
 use Rattle.parser.specs.declared.Run.the-variants.{Value, TooLarge}
@@ -136,7 +136,7 @@ most-moved d true v b = refl
 most-moved d false v b = refl
 
 digits-moved : (s : List ℕ) (d a : ℕ) → digitsAt s (d + a) ≡ shiftRun d (digitsAt (drop d s) a)
-unfolding digitsAt
+unfolding runAt
 digits-moved s d a = rw (drop-drop a d s, past-drop isDigit s d a) (most-moved d (leb (value 0 (drop (d + a) s)) 65535) (value 0 (drop (d + a) s)) (past isDigit (drop d s) a))
 
 tail-moved : (s : List ℕ) (d p : ℕ) → tailAt s (d + p) ≡ shiftNumeric d (tailAt (drop d s) p)

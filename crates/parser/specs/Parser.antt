@@ -77,10 +77,14 @@ unfolding isDigit
 value a [] = a
 value a (x ∷ s) = let r = value (a * 10 + (x - 48)) s in if isDigit x then r else a
 
--- a longest run of digits of at most 65,535 (leading zeros are fine), from the place p on
-unfoldable pub digitsAt : List ℕ → ℕ → Run
+-- a longest run of digits of at most `most` (leading zeros are fine), from the place p on: what is made of its value and its end, or of its being larger
+unfoldable pub runAt : {A : Type 0} → (ℕ → ℕ → A) → A → ℕ → List ℕ → ℕ → A
 unfolding value
-digitsAt s p = let v = value 0 (drop p s) in if leb v 65535 then Value v (past isDigit s p) else TooLarge
+runAt is larger most s p = let v = value 0 (drop p s) in if leb v most then is v (past isDigit s p) else larger
+
+-- rule 5: of at most 65,535
+abbrev pub digitsAt : List ℕ → ℕ → Run
+digitsAt s p = runAt Value TooLarge 65535 s p
 
 -- the run of digits starts at a; then LF or CRLF
 unfoldable pub endedRun : List ℕ → ℕ → Run → Numeric
@@ -92,7 +96,7 @@ endedRun s a TooLarge = numeric.Nothing
 
 -- rule 5, behind a head: run blanks, then the digits, then LF or CRLF
 unfoldable pub tailAt : List ℕ → ℕ → Numeric
-unfolding endedRun digitsAt
+unfolding endedRun runAt
 tailAt s p = let a = past (isBlank blanks.Run) s p in endedRun s a (digitsAt s a)
 
 -- a numeric error with the head h that begins at the place p

@@ -9,17 +9,13 @@ use lib.ListN.{length, getD, drop, drop-of-length-le, List·getD-eq-default}
 use lib.Seq.{drop-cons, sets, set-out}
 use lib.Dec.{leb}
 use borrow.Author.Tests.{le-leb, lt-leb, ne-eqb}
-use Rattle.text.specs.Text.{past}
-use Rattle.text.specs.Steps.{past-more, past-stop, past-end}
-use Rattle.parser.specs.Parser.{isDigit, value}
-use Rattle.parser.specs.Laws.{value-more, value-stop, value-end, value-grows}
+use Rattle.parser.specs.Parser.{isDigit}
 use Rattle.pieces.specs.declared.Heard.{Heard}
 use Rattle.pieces.specs.declared.Heard.the-variants.{Owes, Closes, Breaks}
 use Rattle.pieces.specs.declared.Ended.the-variants as ended
-use Rattle.pieces.specs.declared.Digits.the-variants.{Value, TooLarge}
 use Rattle.pieces.specs.declared.Kind.the-variants as kinds
 use Rattle.pieces.specs.declared.Element.{Element}
-use Rattle.pieces.specs.Pieces.{isHex, isChar, heard, goesOn, stringEnd, numberAt, kindOf, elementAt}
+use Rattle.pieces.specs.Pieces.{isHex, isChar, heard, goesOn, stringEnd, kindOf, elementAt}
 
 -- past the end a list reads as 0
 pub zero-past : (s : List ℕ) (i : ℕ) → length s ≤ i → 0 ≡ getD s i 0
@@ -121,38 +117,6 @@ module _ (s : List ℕ) (p i n : ℕ) (w : SameEnd s p i n) where
     pub string-broken : r ≡ Breaks → ended.Broken i ≡ stringEnd 0 p (drop p s)
     unfolding goesOn
     string-broken e = sym (rw e at string-on)
-
--- the loop of `number_at`: the digits from p up to i have the value a
-pub record Sofar (s : List ℕ) (p i a : ℕ) : Type 0 where
-  pub small : a ≤ 4294967295
-  pub digits : past isDigit s p ≡ past isDigit s i
-  pub is : value 0 (drop p s) ≡ value a (drop i s)
-
-pub sofar-none : (s : List ℕ) (p : ℕ) → Sofar s p p 0
-sofar-none s p = record { small = omega arith; digits = refl; is = refl }
-
-module _ (s : List ℕ) (p i a : ℕ) (w : Sofar s p i a) where
-  number-is : past isDigit s i ≡ i → value a (drop i s) ≡ a → Value a i ≡ numberAt s p
-  unfolding numberAt
-  number-is h g = rw (w .is ∙ g, w .digits ∙ h, le-leb a 4294967295 (w .small))
-
-  pub number-end : length s ≤ i → Value a i ≡ numberAt s p
-  number-end h = number-is (past-end isDigit s i h) (value-end s i a h)
-
-  module _ (h : i < length s) where
-    pub number-stop : isDigit (getD s i 0) ≡ false → Value a i ≡ numberAt s p
-    number-stop e = number-is (past-stop isDigit s i h e) (value-stop s i a h e)
-
-    module _ (d : isDigit (getD s i 0) ≡ true) (x : ℕ) (v : x ≡ getD s i 0) where
-      value-on : value 0 (drop p s) ≡ value (a * 10 + (x - 48)) (drop (i + 1) s)
-      value-on = rw v (w .is ∙ value-more s i a h d)
-
-      pub number-large : 4294967295 < a * 10 + (x - 48) → TooLarge ≡ numberAt s p
-      unfolding numberAt
-      number-large g = rw (lt-leb (value 0 (drop p s)) 4294967295 (omega (arith, value-on, value-grows (a * 10 + (x - 48)) (drop (i + 1) s))))
-
-      pub number-more : a * 10 + (x - 48) ≤ 4294967295 → Sofar s p (i + 1) (a * 10 + (x - 48))
-      number-more g = record { small = g; digits = w .digits ∙ past-more isDigit s i h d; is = value-on }
 
 -- a number that is no other kind's is that of an empty element
 pub kind-other : (n : ℕ) → (n ≡ 1 → ⊥) → (n ≡ 2 → ⊥) → (n ≡ 3 → ⊥) → (n ≡ 4 → ⊥) → kinds.Empty ≡ kindOf n

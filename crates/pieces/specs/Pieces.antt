@@ -2,11 +2,10 @@
 use mathlib.Core.Bool.{Bool, _&&_, _||_, not}
 use mathlib.Core.List.{List, [], _∷_}
 use Prim.Native.Nat.{ℕ, zero, suc, _+_, _*_}
-use lib.ListN.{getD, drop}
+use lib.ListN.{getD}
 use lib.Dec.{eqb, leb}
 use Rattle.outcome.specs.Outcome.{if_then_else_}
-use Rattle.text.specs.Text.{past}
-use Rattle.parser.specs.Parser.{isDigit, value}
+use Rattle.parser.specs.Parser.{isDigit, runAt}
 use Rattle.pieces.specs.declared.Heard.{Heard}
 use Rattle.pieces.specs.declared.Heard.the-variants.{Owes, Closes, Breaks}
 use Rattle.pieces.specs.declared.Ended.{Ended}
@@ -43,8 +42,8 @@ stringEnd owed p [] = ended.Broken p
 stringEnd owed p (b ∷ x) = goesOn (heard owed b) p (λ n. stringEnd n (suc p) x)
 
 -- the longest run of digits from the place p on, of at most 4,294,967,295
-unfoldable pub numberAt : List ℕ → ℕ → Digits
-numberAt s p = let v = value 0 (drop p s) in if leb v 4294967295 then Value v (past isDigit s p) else TooLarge
+abbrev pub numberAt : List ℕ → ℕ → Digits
+numberAt s p = runAt Value TooLarge 4294967295 s p
 
 abbrev pub kindNumber : Kind → ℕ
 kindNumber kinds.Empty = 0

@@ -1,7 +1,7 @@
 -- `empty_at` meets its contract: form and count are judged in this order.
 use mathlib.Core.Path.{sym, _∙_}
 use borrow.Author.Tests.{not-true, not-false}
-use Rattle.lists.specs.Reader.{empty-malformed, empty-late, empty-is}
+use Rattle.lists.specs.Bodies.{empty-malformed, empty-late, empty-is}
 use borrow.Author.Needs.{needs}
 use Rattle.lists.proofs.empty_at.Statement.{statement}
 use Rattle.lists.proofs.empty_at.Tie as tie

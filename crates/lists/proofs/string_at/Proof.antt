@@ -1,6 +1,5 @@
 -- `string_at` meets its contract: the count is judged at the quote, before what stands behind it.
 use borrow.Author.Needs.{needs}
-use native.Mathlib.Omega.{arith}
 use Rattle.lists.specs.Calls.{string-over, string-closed, string-open}
 use Rattle.lists.proofs.string_at.Statement.{statement}
 use Rattle.lists.proofs.string_at.Tie as tie

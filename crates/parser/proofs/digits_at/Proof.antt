@@ -3,6 +3,7 @@ use mathlib.Core.Path.{_≡_, refl, sym, _∙_}
 use Prim.Native.Nat.{_*_, _-_}
 use lib.ListN.{length}
 use borrow.Author.Tests.{not-true, not-false}
+use Rattle.parser.specs.declared.Run.the-variants.{Value, TooLarge}
 use Rattle.parser.specs.Laws.{Sofar, sofar-none, run-end, run-stop, run-large, run-more, digit-bounds}
 use borrow.Author.Needs.{needs}
 use native.Mathlib.Omega.{arith}
@@ -10,13 +11,13 @@ use Rattle.parser.proofs.digits_at.Statement.{statement}
 use Rattle.parser.proofs.digits_at.Tie as tie
 
 abbrev Inv-loop : tie.InvT-loop
-Inv-loop buf from i₀ code₀ twice₀ i code twice = Sofar buf from i code × (twice ≡ code * 2)
+Inv-loop buf from i₀ code₀ twice₀ i code twice = Sofar 65535 buf from i code × (twice ≡ code * 2)
 
 abbrev μ-loop : tie.MeasureT-loop
 μ-loop buf from i₀ code₀ twice₀ i code twice = length buf - i
 
 loop-holds : tie.Need-loop-holds Inv-loop μ-loop
-loop-holds c = (sofar-none _ _, refl)
+loop-holds c = (sofar-none _ _ _, refl)
 
 shared-slice-read-b : tie.Need-shared-slice-read-b Inv-loop μ-loop
 shared-slice-read-b c = omega arith
@@ -28,7 +29,7 @@ returns : tie.Need-returns Inv-loop μ-loop
 returns c =
     let loop = c .before .before .before .before .loop in
     let loop-test = c .before .before .before .loop-test in
-    run-stop _ _ _ _ (loop .inv .0) (loop-test .taken) (sym (c .before .is-digit .ensures) ∙ not-true _ (c .if1 .taken))
+    run-stop Value TooLarge _ _ _ _ _ (loop .inv .0) (loop-test .taken) (sym (c .before .is-digit .ensures) ∙ not-true _ (c .if1 .taken))
 
 wide-requires : tie.Need-wide-requires Inv-loop μ-loop
 wide-requires c κs = search needs
@@ -50,7 +51,7 @@ returns-2 c =
     let loop-test = c .before .before .before .before .before .before .loop-test in
     let is-digit = c .before .before .before .before .is-digit in
     let if1 = c .before .before .before .if1 in
-    run-large _ _ _ _ (loop .inv .0) (loop-test .taken) (sym (is-digit .ensures) ∙ not-false _ (if1 .left)) _ (c .before .before .wide .ensures) (omega (arith, c .before .appended .ensures))
+    run-large Value TooLarge _ _ _ _ _ (loop .inv .0) (loop-test .taken) (sym (is-digit .ensures) ∙ not-false _ (if1 .left)) _ (c .before .before .wide .ensures) (omega (arith, c .before .appended .ensures))
 
 add-i : tie.Need-add-i Inv-loop μ-loop
 add-i c = omega arith
@@ -64,10 +65,10 @@ loop-again c =
     let loop-test = c .before .before .before .before .before .before .loop-test in
     let is-digit = c .before .before .before .before .is-digit in
     let if1 = c .before .before .before .if1 in
-    (rw (c .before .appended .ensures) (run-more _ _ _ _ (loop .inv .0) (loop-test .taken) (sym (is-digit .ensures) ∙ not-false _ (if1 .left)) _ (c .before .before .wide .ensures) (omega (arith, c .before .appended .ensures))), omega arith)
+    (rw (c .before .appended .ensures) (run-more Value TooLarge _ _ _ _ _ (loop .inv .0) (loop-test .taken) (sym (is-digit .ensures) ∙ not-false _ (if1 .left)) _ (c .before .before .wide .ensures) (omega (arith, c .before .appended .ensures))), omega arith)
 
 returns-3 : tie.Need-returns-3 Inv-loop μ-loop
-returns-3 c = run-end _ _ _ _ (c .before .loop .inv .0) (c .loop-test .left)
+returns-3 c = run-end Value TooLarge _ _ _ _ _ (c .before .loop .inv .0) (c .loop-test .left)
 
 pub digits-at-spec : {M : Type 1} → statement M
 digits-at-spec =
