@@ -1,11 +1,14 @@
-// Cases of the notation that are one call: a digest, and the conversion of a queue (R-9); the notation is in crates/notation/src/lib.rt.
+// Cases of the notation that are one call: a digest, the conversion of a queue (R-9), and the reading of a list (R-4); the notation is in crates/notation/src/lib.rt.
 // It is part of a harness and promises only that it doesn't trip; what it answers is held to a file of another origin (tests/model.py).
 use answers::Answer;
 use convert::Converted;
 use data::Filled;
 use digest::Digested;
 use fields::Memory;
+use lists::Listed;
 use notation::form::Conversion;
+use pieces::Element;
+use pieces::Kind;
 use queue::Queue;
 use selector::Selector;
 
@@ -126,4 +129,80 @@ pub fn convert_case(
         lost: lost,
     };
     cut_convert(old, text::part(old_mem, 0, m), mem, n, out, at)
+}
+
+// A number, behind a text.
+fn say_behind(t: &[u8], n: u64, out: &mut Memory, at: usize) -> usize {
+    let used = say::words(out, at, t);
+    say::number(out, used, n)
+}
+
+// PLACE,END,KIND,DEPTH, a number's value and a range's two.
+fn say_element(e: Element, out: &mut Memory, at: usize) -> usize {
+    let kind = e.kind;
+    let depth = e.depth as u64;
+    let place = say::number(out, at, e.place as u64);
+    let end = say_behind(b",", e.end as u64, out, place);
+    match kind {
+        Kind::Empty => say_behind(b",empty,", depth, out, end),
+        Kind::Number => {
+            let used = say_behind(b",number,", depth, out, end);
+            say_behind(b",", e.low, out, used)
+        }
+        Kind::Range => {
+            let used = say_behind(b",range,", depth, out, end);
+            let low = say_behind(b",", e.low, out, used);
+            say_behind(b",", e.high, out, low)
+        }
+        Kind::String => say_behind(b",string,", depth, out, end),
+        Kind::List => say_behind(b",list,", depth, out, end),
+    }
+}
+
+// The element i, from 0, behind a `;` where it isn't the first.
+fn say_next(elements: &[u64; pieces::NUMBERS], i: usize, out: &mut Memory, at: usize) -> usize {
+    let e = pieces::element_at(elements, i);
+    if i == 0 {
+        return say_element(e, out, at);
+    }
+    let used = say::words(out, at, b";");
+    say_element(e, out, used)
+}
+
+// The first n elements.
+fn say_elements(elements: &[u64; pieces::NUMBERS], n: usize, out: &mut Memory, at: usize) -> usize {
+    let mut used = at;
+    let mut i = 0;
+    while i < n {
+        used = say_next(elements, i, out, used);
+        i += 1;
+    }
+    used
+}
+
+// Reads a list, and says its elements or the refusal with its place.
+fn do_list(input: &[u8], out: &mut Memory, at: usize) -> usize {
+    let mut elements = [0u64; pieces::NUMBERS];
+    match lists::read(input, &mut elements) {
+        Listed::Elements(n) => {
+            let used = say_elements(&elements, n, out, at);
+            say::words(out, used, b"\n")
+        }
+        Listed::Refused(k, place) => {
+            let head = say::refusal(out, at, k as u64);
+            let used = say::and_number(out, head, place as u64);
+            say::words(out, used, b"\n")
+        }
+    }
+}
+
+// The case list INPUT.
+pub fn list_case(line: &[u8], buf: &mut Memory, out: &mut Memory, at: usize) -> usize {
+    if !notation::form::is_list(line) {
+        return say::bad_line(out, at);
+    }
+    let Filled::Is(n) = data::data(fields::part_of(line, 1, b' '), buf) else {
+        return say::bad_line(out, at);
+    };
+    do_list(text::part(buf, 0, n), out, at)
 }

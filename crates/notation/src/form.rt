@@ -140,6 +140,14 @@ pub fn conversion_of(line: &[u8]) -> Conversion {
     Conversion::Of(start as usize, count as usize, lost)
 }
 
+// Has the line list INPUT (R-4) its one field? A line that fills the memory is too long.
+pub fn is_list(line: &[u8]) -> bool {
+    if line.len() == LENGTH {
+        return false;
+    }
+    fields::parts(line, b' ') == 2
+}
+
 // A comma in the first field tells the form, else the number of fields. A line that fills the memory is too long.
 pub fn form_of(line: &[u8]) -> Form {
     if line.len() == LENGTH {

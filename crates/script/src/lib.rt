@@ -295,6 +295,9 @@ pub fn answer(
     if text::matches_at(line, 0, b"convert ") {
         return cases::convert_case(line, buf, queue_mem, out, at);
     }
+    if text::matches_at(line, 0, b"list ") {
+        return cases::list_case(line, buf, out, at);
+    }
     let chosen = notation::form::first_word(line);
     let selector = chosen.selector;
     let rest = fields::between(line, chosen.from, line.len());
