@@ -148,8 +148,8 @@ module _ (s : List ℕ) (at place : ℕ) (q : place ≡ past (isBlank Space) s a
                 λ q. members .left ∙ ap (λ (b : Bool). written b m (suc n) (members .found)) q,
               )
 
-              pub inner-closed : getD s e 0 ≡ 41 → (last : List ℕ) → last ≡ written w after n (made place (e + 1) kinds.List d 0 0 ∷ []) → Told element d n at (drop at s) w m (steps.Next (e + 1) k) last
-              inner-closed l last q =
+              pub inner-closed : getD s e 0 ≡ 41 → (o : Element) → o ≡ made place (e + 1) kinds.List d 0 0 → (last : List ℕ) → last ≡ written w after n (o ∷ []) → Told element d n at (drop at s) w m (steps.Next (e + 1) k) last
+              inner-closed l o i last q =
                   let c : e + 1 ≡ suc e = omega arith in
                   subst (λ (i : ℕ). Told element d n at (drop at s) w m (steps.Next i k) last) (sym c)
                   (record {
@@ -158,7 +158,7 @@ module _ (s : List ℕ) (at place : ℕ) (q : place ≡ past (isBlank Space) s a
                         as-element (made place (suc e) kinds.List d 0 0 ∷ members .found) (suc e) k
                         (subst (λ (x : List ℕ). Read body d n place x (made place (suc e) kinds.List d 0 0 ∷ members .found) (suc e) k) (sym opened)
                         (bracket-read d n place (drop (suc place) s) h g (members .found) e k (members .read) (drop (e + 1) s) (left-there ∙ opens-with s e 40 l)));
-                    left = written-before w m after last n (made place (suc e) kinds.List d 0 0) (members .found) (members .left) (q ∙ ap (λ (i : ℕ). written w after n (made place i kinds.List d 0 0 ∷ [])) c);
+                    left = written-before w m after last n (made place (suc e) kinds.List d 0 0) (members .found) (members .left) (q ∙ ap (λ (y : Element). written w after n (y ∷ [])) (i ∙ ap (λ (j : ℕ). made place j kinds.List d 0 0) c));
                   })
 
 -- a list from `at` on

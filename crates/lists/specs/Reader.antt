@@ -70,6 +70,9 @@ abbrev pub Bodied : ℕ → ℕ → ℕ → List ℕ → Plain → Type 0
 Bodied d n p x (plain.Is e) = Read body d n p x (e ∷ []) (e .end) (suc n)
 Bodied d n p x (plain.Refused k q) = Halted body d n p x k q
 
+pub bodied-as : (d n p : ℕ) (x : List ℕ) (e f : Element) → e ≡ f → Bodied d n p x (plain.Is f) → Bodied d n p x (plain.Is e)
+bodied-as d n p x e f q = subst (λ (o : Element). Bodied d n p x (plain.Is o)) (sym q)
+
 -- may an element end where x is still to come, within d brackets?
 unfoldable pub endsAt : ℕ → List ℕ → Bool
 endsAt d [] = outside d

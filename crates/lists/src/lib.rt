@@ -7,7 +7,7 @@ ghost use mathlib.Core.List.{[], _∷_};
 ghost use Prim.Native.Nat.{_≤_, _<_};
 ghost use lib.ListN.{length, drop, getD};
 ghost use Rattle.parser.specs.Parser.{isDigit};
-ghost use Rattle.lists.specs.Grammar.{body, element, list, Reading};
+ghost use Rattle.lists.specs.Grammar.{body, element, list, made, Reading};
 ghost use Rattle.lists.specs.Reader.{Bodied, Bare, endsAt};
 ghost use Rattle.lists.specs.Told.{Told, Whole, written};
 use pieces::Digits;
@@ -53,6 +53,20 @@ fn ends_at(s: &[u8], at: usize, depth: usize) -> bool
     s[at] == b')'
 }
 
+// An element that has no value.
+fn without_value(place: usize, end: usize, kind: Kind, depth: usize) -> Element
+    ensures { λ r. ⌜ r ≡ made place end kind depth 0 0 ⌝ }
+{
+    Element {
+        place: place,
+        end: end,
+        kind: kind,
+        depth: depth,
+        low: 0,
+        high: 0,
+    }
+}
+
 // An empty element at `at`, where nothing else begins.
 fn empty_at(s: &[u8], at: usize, depth: usize, n: usize) -> Plain
     requires { ⌜ Bare (drop at (now s)) ⌝ }
@@ -64,14 +78,7 @@ fn empty_at(s: &[u8], at: usize, depth: usize, n: usize) -> Plain
     if pieces::MOST <= n {
         return Plain::Refused(9, at);
     }
-    Plain::Is(Element {
-        place: at,
-        end: at,
-        kind: Kind::Empty,
-        depth: depth,
-        low: 0,
-        high: 0,
-    })
+    Plain::Is(without_value(at, at, Kind::Empty, depth))
 }
 
 // A string whose first quote stands at `at`.
@@ -83,14 +90,7 @@ fn string_at(s: &[u8], at: usize, depth: usize, n: usize) -> Plain
         return Plain::Refused(9, at);
     }
     match pieces::string_end(s, at + 1) {
-        Ended::At(e) => Plain::Is(Element {
-            place: at,
-            end: e,
-            kind: Kind::String,
-            depth: depth,
-            low: 0,
-            high: 0,
-        }),
+        Ended::At(e) => Plain::Is(without_value(at, e, Kind::String, depth)),
         Ended::Broken(p) => Plain::Refused(6, p),
     }
 }
@@ -206,14 +206,7 @@ fn read_element(
                 return Step::Refused(6, e);
             }
             let end = e + 1;
-            let opened = Element {
-                place: place,
-                end: end,
-                kind: Kind::List,
-                depth: depth,
-                low: 0,
-                high: 0,
-            };
+            let opened = without_value(place, end, Kind::List, depth);
             leave(opened, n, writes, elements);
             Step::Next(end, m)
         }

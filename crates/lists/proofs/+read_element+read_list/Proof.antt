@@ -17,6 +17,7 @@ use Rattle.lists.proofs.read_list.Kinds as read-list-kinds
 use Rattle.lists.proofs.+read_element+read_list.Lts-read_list as read-list-lts
 use Rattle.lists.proofs.leave.Reads as leave-reads
 use Rattle.lists.proofs.read_plain.Reads as read-plain-reads
+use Rattle.lists.proofs.without_value.Reads as without-value-reads
 use Rattle.pieces.proofs.byte_at.Reads as byte-at-reads
 use Rattle.text.proofs.skip.Reads as skip-reads
 use Rattle.lists.proofs.+read_element+read_list.{statement}
@@ -56,6 +57,8 @@ read-element-skip-requires : (t : ℕ) → read-element-lts.Need-skip-requires (
   read-plain-reads.Learnt,
   read-list-below t,
   read-list.Post,
+  without-value-reads.Asked,
+  without-value-reads.Learnt,
   leave-reads.Asked,
   leave-reads.Learnt,
 ) (read-element-at t) read-element.Post
@@ -70,6 +73,8 @@ read-element-byte-at-requires : (t : ℕ) → read-element-lts.Need-byte-at-requ
   read-plain-reads.Learnt,
   read-list-below t,
   read-list.Post,
+  without-value-reads.Asked,
+  without-value-reads.Learnt,
   leave-reads.Asked,
   leave-reads.Learnt,
 ) (read-element-at t) read-element.Post
@@ -84,6 +89,8 @@ read-element-read-plain-requires : (t : ℕ) → read-element-lts.Need-read-plai
   read-plain-reads.Learnt,
   read-list-below t,
   read-list.Post,
+  without-value-reads.Asked,
+  without-value-reads.Learnt,
   leave-reads.Asked,
   leave-reads.Learnt,
 ) (read-element-at t) read-element.Post
@@ -98,6 +105,8 @@ read-element-returns : (t : ℕ) → read-element-lts.Need-returns (
   read-plain-reads.Learnt,
   read-list-below t,
   read-list.Post,
+  without-value-reads.Asked,
+  without-value-reads.Learnt,
   leave-reads.Asked,
   leave-reads.Learnt,
 ) (read-element-at t) read-element.Post
@@ -112,6 +121,8 @@ read-element-returns-2 : (t : ℕ) → read-element-lts.Need-returns-2 (
   read-plain-reads.Learnt,
   read-list-below t,
   read-list.Post,
+  without-value-reads.Asked,
+  without-value-reads.Learnt,
   leave-reads.Asked,
   leave-reads.Learnt,
 ) (read-element-at t) read-element.Post
@@ -126,6 +137,8 @@ read-element-returns-3 : (t : ℕ) → read-element-lts.Need-returns-3 (
   read-plain-reads.Learnt,
   read-list-below t,
   read-list.Post,
+  without-value-reads.Asked,
+  without-value-reads.Learnt,
   leave-reads.Asked,
   leave-reads.Learnt,
 ) (read-element-at t) read-element.Post
@@ -140,6 +153,8 @@ read-element-add-read-list : (t : ℕ) → read-element-lts.Need-add-read-list (
   read-plain-reads.Learnt,
   read-list-below t,
   read-list.Post,
+  without-value-reads.Asked,
+  without-value-reads.Learnt,
   leave-reads.Asked,
   leave-reads.Learnt,
 ) (read-element-at t) read-element.Post
@@ -154,6 +169,8 @@ read-element-add-read-list-2 : (t : ℕ) → read-element-lts.Need-add-read-list
   read-plain-reads.Learnt,
   read-list-below t,
   read-list.Post,
+  without-value-reads.Asked,
+  without-value-reads.Learnt,
   leave-reads.Asked,
   leave-reads.Learnt,
 ) (read-element-at t) read-element.Post
@@ -168,6 +185,8 @@ read-element-add-read-list-3 : (t : ℕ) → read-element-lts.Need-add-read-list
   read-plain-reads.Learnt,
   read-list-below t,
   read-list.Post,
+  without-value-reads.Asked,
+  without-value-reads.Learnt,
   leave-reads.Asked,
   leave-reads.Learnt,
 ) (read-element-at t) read-element.Post
@@ -182,6 +201,8 @@ read-element-read-list-requires : (t : ℕ) → read-element-lts.Need-read-list-
   read-plain-reads.Learnt,
   read-list-below t,
   read-list.Post,
+  without-value-reads.Asked,
+  without-value-reads.Learnt,
   leave-reads.Asked,
   leave-reads.Learnt,
 ) (read-element-at t) read-element.Post
@@ -201,6 +222,8 @@ read-element-enum-known-e : (t : ℕ) → read-element-lts.Need-enum-known-e (
   read-plain-reads.Learnt,
   read-list-below t,
   read-list.Post,
+  without-value-reads.Asked,
+  without-value-reads.Learnt,
   leave-reads.Asked,
   leave-reads.Learnt,
 ) (read-element-at t) read-element.Post
@@ -215,6 +238,8 @@ read-element-byte-at-requires-2 : (t : ℕ) → read-element-lts.Need-byte-at-re
   read-plain-reads.Learnt,
   read-list-below t,
   read-list.Post,
+  without-value-reads.Asked,
+  without-value-reads.Learnt,
   leave-reads.Asked,
   leave-reads.Learnt,
 ) (read-element-at t) read-element.Post
@@ -229,6 +254,8 @@ read-element-returns-4 : (t : ℕ) → read-element-lts.Need-returns-4 (
   read-plain-reads.Learnt,
   read-list-below t,
   read-list.Post,
+  without-value-reads.Asked,
+  without-value-reads.Learnt,
   leave-reads.Asked,
   leave-reads.Learnt,
 ) (read-element-at t) read-element.Post
@@ -243,10 +270,28 @@ read-element-add-end : (t : ℕ) → read-element-lts.Need-add-end (
   read-plain-reads.Learnt,
   read-list-below t,
   read-list.Post,
+  without-value-reads.Asked,
+  without-value-reads.Learnt,
   leave-reads.Asked,
   leave-reads.Learnt,
 ) (read-element-at t) read-element.Post
 read-element-add-end t c = record { fits = omega (arith, told-byte (c .before .before .before .before .before .before .before .before .before .before .before .before .before .args .s .now) (c .before .before .before .e .given .0 .0) 40 (sym (c .before .byte-at2 .ensures) ∙ c .if4 .left)) }
+
+read-element-without-value-requires : (t : ℕ) → read-element-lts.Need-without-value-requires (
+  skip-reads.Asked,
+  skip-reads.Learnt,
+  byte-at-reads.Asked,
+  byte-at-reads.Learnt,
+  read-plain-reads.Asked,
+  read-plain-reads.Learnt,
+  read-list-below t,
+  read-list.Post,
+  without-value-reads.Asked,
+  without-value-reads.Learnt,
+  leave-reads.Asked,
+  leave-reads.Learnt,
+) (read-element-at t) read-element.Post
+read-element-without-value-requires t c κs = search needs
 
 read-element-leave-requires : (t : ℕ) → read-element-lts.Need-leave-requires (
   skip-reads.Asked,
@@ -257,6 +302,8 @@ read-element-leave-requires : (t : ℕ) → read-element-lts.Need-leave-requires
   read-plain-reads.Learnt,
   read-list-below t,
   read-list.Post,
+  without-value-reads.Asked,
+  without-value-reads.Learnt,
   leave-reads.Asked,
   leave-reads.Learnt,
 ) (read-element-at t) read-element.Post
@@ -271,6 +318,8 @@ read-element-enum-known-k : (t : ℕ) → read-element-lts.Need-enum-known-k (
   read-plain-reads.Learnt,
   read-list-below t,
   read-list.Post,
+  without-value-reads.Asked,
+  without-value-reads.Learnt,
   leave-reads.Asked,
   leave-reads.Learnt,
 ) (read-element-at t) read-element.Post
@@ -285,10 +334,12 @@ read-element-returns-5 : (t : ℕ) → read-element-lts.Need-returns-5 (
   read-plain-reads.Learnt,
   read-list-below t,
   read-list.Post,
+  without-value-reads.Asked,
+  without-value-reads.Learnt,
   leave-reads.Asked,
   leave-reads.Learnt,
 ) (read-element-at t) read-element.Post
-read-element-returns-5 t c = inner-closed _ _ _ (c .before .before .before .before .before .before .before .before .before .before .before .before .before .skip .ensures) _ _ _ _ (sym (c .before .before .before .before .before .before .before .before .before .before .before .before .byte-at .ensures) ∙ c .before .before .before .before .before .before .before .before .before .before .before .if1 .left) (c .before .before .before .before .before .before .before .before .before .before .if2 .left) (c .before .before .before .before .before .before .before .before .before .if3 .left) _ _ (c .before .before .before .before .before .before .before .read-list .ensures) _ _ (c .before .before .before .before .before .e .given .1) (sym (c .before .before .before .byte-at2 .ensures) ∙ c .before .before .if4 .left) _ (c .leave .ensures)
+read-element-returns-5 t c = inner-closed _ _ _ (c .before .before .before .before .before .before .before .before .before .before .before .before .before .before .skip .ensures) _ _ _ _ (sym (c .before .before .before .before .before .before .before .before .before .before .before .before .before .byte-at .ensures) ∙ c .before .before .before .before .before .before .before .before .before .before .before .before .if1 .left) (c .before .before .before .before .before .before .before .before .before .before .before .if2 .left) (c .before .before .before .before .before .before .before .before .before .before .if3 .left) _ _ (c .before .before .before .before .before .before .before .before .read-list .ensures) _ _ (c .before .before .before .before .before .before .e .given .1) (sym (c .before .before .before .before .byte-at2 .ensures) ∙ c .before .before .before .if4 .left) _ (c .before .before .without-value .ensures) _ (c .leave .ensures)
 
 read-element-returns-6 : (t : ℕ) → read-element-lts.Need-returns-6 (
   skip-reads.Asked,
@@ -299,6 +350,8 @@ read-element-returns-6 : (t : ℕ) → read-element-lts.Need-returns-6 (
   read-plain-reads.Learnt,
   read-list-below t,
   read-list.Post,
+  without-value-reads.Asked,
+  without-value-reads.Learnt,
   leave-reads.Asked,
   leave-reads.Learnt,
 ) (read-element-at t) read-element.Post
@@ -409,6 +462,8 @@ pub +read-element+read-list-spec : {M : Type 1} → statement M
   read-plain-reads.Learnt,
   read-list-below t,
   read-list.Post,
+  without-value-reads.Asked,
+  without-value-reads.Learnt,
   leave-reads.Asked,
   leave-reads.Learnt,
 )
@@ -428,6 +483,7 @@ pub +read-element+read-list-spec : {M : Type 1} → statement M
     (read-element-byte-at-requires-2 t)
     (read-element-returns-4 t)
     (read-element-add-end t)
+    (read-element-without-value-requires t)
     (read-element-leave-requires t)
     (read-element-enum-known-k t)
     (read-element-returns-5 t)
