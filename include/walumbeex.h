@@ -1,15 +1,16 @@
-/* Walumbeex for C: an AT digester, a response slot, a bounded notice queue and the ingress above them.
+/* Walumbeex for C: an AT digester, a response slot, a bounded notice queue and the ingress above them; and a reader of parameter lists.
  *
- * Bytes from a modem go in; what they were comes out: an answer (OK, an error, a prompt) at the slot, unsolicited lines (notices) at the queue.
+ * Bytes from a modem go in; what they were comes out: an answer (OK, an error, a prompt) at the slot, unsolicited lines (notices) at the queue. The reader takes what
+ * stands behind the colon of an answer or a notice.
  *
  * Link with libgateway.a (`rt staticlib gateway`; x86-64, System V calling convention, pointers of 64 bits). Each function is proved to equal
  * the call of document 01 (docs/01.md) behind it: the definitions are in crates/numbers/specs/Numbers.antt (what each number means) and
- * crates/gateway/specs/Gateway.antt (what a call returns and leaves), the promises in crates/gateway/src/lib.rt. No function has a condition on its numbers:
- * any number and any array may be handed in.
+ * crates/gateway/specs/Gateway.antt (what a call returns and leaves), the promises in crates/gateway/src/lib.rt. Behind wx_list_read stands the grammar of docs/LISTS.md,
+ * in crates/lists/specs/Grammar.antt. No function has a condition on its numbers: any number and any array may be handed in.
  *
  * What the proofs take from the caller, as for any C function:
  *   - a pointer p with its count n points to n bytes, and is not NULL, also where n is 0;
- *   - `state` and `old` point to WX_NUMBERS numbers, `out` and `answer` to WX_OUT numbers;
+ *   - `state` and `old` point to WX_NUMBERS numbers, `out` and `answer` to WX_OUT numbers, `elements` to WX_ELEMENTS * WX_ELEMENT numbers;
  *   - what a call may write (no `const`) does not overlap anything else that is handed to the same call;
  *   - no other thread uses any of it during the call;
  *   - the archive is of this header's version: once, before all else, stop where wx_version() is not WX_VERSION;
@@ -77,14 +78,34 @@
  * A notice is a line that is the text, or the text, `:` and more: +UUSORD hears "+UUSORD: 0,4", and +IPD doesn't hear "+IPD,12:abc". A custom success or error is a
  * line that is the text, letter case exact; a custom prompt is an input that ends in the text, blanks aside.
  *
+ * Parameter lists. A test command is answered with lists in brackets, ranges, quoted strings and empty places, and so are some others. Of
+ *     +CSQ: (0-31,99),(0-7,99)
+ * hand over what stands behind the colon, the space with it. wx_list_read accepts exactly this grammar; docs/LISTS.md has real answers, and what is refused and why:
+ *     list    = element *( "," element )
+ *     element = *SP ( "" / number [ "-" number ] / string / "(" list ")" )
+ *     number  = 1*DIGIT
+ *     string  = DQUOTE *( char / "\" HEX HEX ) DQUOTE      char = 0x20 to 0x7E without DQUOTE and "\"
+ * It tells the elements in their order, a list before its members: here a list at 1, a range of 0 to 31 at 2, a number 99 at 7, a list at 11, a range of 0 to 7 at 12,
+ * a number 99 at 16. An empty place is an element too: `()` is a list with one empty member, and the empty payload has one element, which is empty.
+ *     uint64_t elements[WX_ELEMENTS * WX_ELEMENT], out[WX_OUT];
+ *     if (wx_list_read(payload, payload_len, elements, out) == WX_DONE)
+ *         for (size_t i = 0; i < out[0]; i++) {
+ *             const uint64_t *e = elements + i * WX_ELEMENT;
+ *             element(e[WX_ELEMENT_KIND], payload + e[WX_ELEMENT_PLACE], e[WX_ELEMENT_END] - e[WX_ELEMENT_PLACE]);
+ *         }
+ * The elements behind a list are within it as long as their depth is greater than its own; its own members are those among them of the depth that is 1 greater.
+ * bindings/c/lists.c is a program that prints them.
+ *
  * The stack: a digest recurses once for each CRLF at the front of what is left. It took 138 bytes of stack for each byte of the input, or of the bytes in the
  * buffer, where that is all CRLFs: 549 KiB for WX_LONGEST. No proof covers it: where the stack is too short, as for 2,048 CRLFs (4,096 bytes) on a thread with
  * 512 KiB, the program ends by SIGSEGV. Give a thread 160 bytes for each byte of the buffer, 640 KiB for WX_LONGEST (the tests run that), or lend a shorter buffer.
- * WX_NUMERIC doesn't recurse: its stack is the same for every input, and small.
+ * WX_NUMERIC doesn't recurse: its stack is the same for every input, and small. wx_list_read recurses once for each element, of which there are at most WX_ELEMENTS: it
+ * took 176 bytes for each, and 45 KB at most, whatever the payload.
  *
  * Work: a digest's grows with its input, and no faster: twice the input takes at most 2.2 times the instructions (docs/BENCHMARKS.md; at most some 1.2 million for
  * 4,096 bytes). An advance or write digests again all that is in the buffer, so that a stream handed over in pieces that finish nothing costs the square of its
- * length: 1,024 bytes one by one took 36 million instructions, and 4,096 took 540 million. WX_NUMERIC walks over its input once; the same limit holds for it.
+ * length: 1,024 bytes one by one took 36 million instructions, and 4,096 took 540 million. WX_NUMERIC walks over its input once; the same limit holds for it, and for
+ * wx_list_read, which walks over a payload that it accepts twice: it judges all of it before it writes.
  *
  * Licence: Apache-2.0 (see LICENSE and NOTICE).
  */
@@ -99,7 +120,7 @@ extern "C" {
 #endif
 
 /* The version of this header: one more whenever a function's parameters, an array's length or the meaning of a number in one changes. An archive of another version
- * may take an array for longer than it is, so compare before any other call.
+ * may take an array for longer than it is, so compare before any other call. A function that is added changes nothing of these: an archive that lacks it doesn't link.
  * Version 2: a numeric error has its digits.
  * Version 3: wx_digest, wx_ingress_advance and wx_ingress_write take a digester, in front of the table; a longer CONNECT line has its text, at out[7] and out[8] of
  * wx_digest; WX_OUT, 7 before, is 9.
@@ -107,11 +128,12 @@ extern "C" {
  * Version 5: the slot has a serial number, WX_SERIAL; WX_NUMBERS, 9 before, is 10. wx_slot_reset takes the next one and may be refused with WX_REPEATED;
  * wx_slot_lookup has it at out[4]. A state of nine numbers that was kept is one of ten with 0 behind it.
  * Version 6: a notice has up to 1,024 bytes, 128 before; WX_RECORD, 132 before, is 1029, and a record has the mark UX and a length of two bytes. wx_queue_convert,
- * which may be refused with WX_TOO_FEW, makes such a queue of one that was kept. */
+ * which may be refused with WX_TOO_FEW, makes such a queue of one that was kept. Added to it since: wx_list_read. */
 #define WX_VERSION 6u
 
-/* What a function that returns uint32_t returns (but wx_version): 0, or the number of the refusal. Of those that a call can give, the lowest is given.
- * A refusal of 1 to 4, of 13 or of 15 leaves every number and byte as it stood, but for out[0] at WX_BAD_TABLE. */
+/* What a function that returns uint32_t returns (but wx_version): 0, or the number of the refusal. Of those that a call can give, the lowest is given; of
+ * wx_list_read the one whose fault stands leftmost, and of two at one place the lowest.
+ * A refusal of 1 to 4, of 6 to 9, of 13 or of 15 leaves every number and byte as it stood, but for out[0] at WX_BAD_TABLE and at 6 to 9. */
 #define WX_DONE 0u      /* not refused */
 #define WX_TOO_LONG 1u  /* the input or the ingress buffer is over WX_LONGEST bytes */
 #define WX_BAD_TABLE 2u /* the table breaks a rule; out[0] is the first faulty record's number (64 for a 65th record);
@@ -121,6 +143,10 @@ extern "C" {
 #define WX_NO_ROOM 4u   /* the commit is more than the room behind END */
 #define WX_FULL 5u      /* a notice of 1 to 1,024 bytes meets a full queue: the earlier steps are done, the notice and what lay
                            with it are still in the buffer */
+#define WX_MALFORMED 6u /* no parameter list: out[0] is the place of the first byte (or the end) at which the grammar can't go on */
+#define WX_TOO_DEEP 7u  /* a bracket within WX_DEEPEST brackets; out[0] is its place */
+#define WX_TOO_LARGE 8u /* a number over 4,294,967,295, zeros in front aside; out[0] is the place of its first digit */
+#define WX_TOO_MANY 9u  /* over WX_ELEMENTS elements; out[0] is the place of the first one over */
 #define WX_TOO_FEW 13u  /* the new memory holds fewer records than the old queue holds */
 #define WX_REPEATED 15u /* the serial number of a reset is the one already in force */
 
@@ -133,6 +159,9 @@ extern "C" {
 #define WX_RECORDS 16          /* the most notices that a queue holds, however long its memory is */
 #define WX_LONGEST_NOTICE 1024 /* a longer payload is counted as a lost notice; so is an empty one */
 #define WX_OLD_RECORD 132      /* a record of the old form: the mark UR, the table number, the payload's length, 1 to 128, in one byte, 128 bytes of payload */
+#define WX_ELEMENTS 256        /* the most elements of a parameter list, lists and empty places among them */
+#define WX_ELEMENT 6           /* the numbers of an element, below */
+#define WX_DEEPEST 4           /* within how many brackets an element may stand */
 
 /* The digester that a call uses, by its number; any other number reads as WX_VERBOSE.
  *
@@ -206,6 +235,26 @@ enum {
     WX_NOTICE = 13,      /* number: its record in the table, or WX_RING; it has a payload */
     WX_CAPACITY = 14     /* in WX_HELD and wx_slot_lookup only: the answer's payload was longer than the slot's memory; digits that are longer
                             are left out, and the error is held */
+};
+
+/* An element of a parameter list: six numbers. Its text is what stands in the payload from its place to its end: of a string with its quotes, and its escapes as they
+ * came; of a list with its brackets. */
+enum {
+    WX_ELEMENT_PLACE = 0, /* its first byte, behind its spaces; of an empty one the byte that ends it, or the end of the payload */
+    WX_ELEMENT_END = 1,   /* one past its last byte; of an empty one its place */
+    WX_ELEMENT_KIND = 2,  /* what it is, as below */
+    WX_ELEMENT_DEPTH = 3, /* within how many brackets it stands, 0 to WX_DEEPEST */
+    WX_ELEMENT_LOW = 4,   /* a number's value, or the first number of a range; else 0 */
+    WX_ELEMENT_HIGH = 5   /* a number's value, or the second number of a range, which may be the lower one; else 0 */
+};
+
+/* The kinds of an element. */
+enum {
+    WX_KIND_EMPTY = 0,  /* nothing stands before the comma, the closing bracket or the end */
+    WX_KIND_NUMBER = 1, /* 99 */
+    WX_KIND_RANGE = 2,  /* 0-31: one element */
+    WX_KIND_STRING = 3, /* "IP" */
+    WX_KIND_LIST = 4    /* (0-31,99): its members are elements of their own, behind it */
 };
 
 /* What a call answers: it stands at the front of `out`, whose other numbers stay as they were.
@@ -303,7 +352,7 @@ uint32_t wx_queue_convert(const uint64_t old[WX_NUMBERS], const uint8_t *old_mem
  * digester: WX_VERBOSE, WX_CONNECT or WX_NUMERIC; table: the token table, for WX_NUMERIC the empty one; buf: the ingress buffer;
  * slot_mem, queue_mem: the memories of slot and queue.
  * out[0]: at WX_BAD_TABLE the first faulty record's number; else out stays.
- * Refusals: all but WX_TOO_FEW and WX_REPEATED. After WX_FULL take a notice, then advance by 0. */
+ * Refusals: WX_TOO_LONG, WX_BAD_TABLE, WX_BAD_STATE, WX_NO_ROOM, WX_FULL. After WX_FULL take a notice, then advance by 0. */
 uint32_t wx_ingress_advance(uint64_t state[WX_NUMBERS], size_t commit, uint32_t digester, const uint8_t *table, size_t table_len,
                             uint8_t *buf, size_t buf_len, uint8_t *slot_mem, size_t slot_mem_len, uint8_t *queue_mem,
                             size_t queue_mem_len, uint64_t out[WX_OUT]);
@@ -320,6 +369,13 @@ uint32_t wx_ingress_write(uint64_t state[WX_NUMBERS], const uint8_t *piece, size
 
 /* Drops what is in the buffer: END becomes 0, and the other numbers stay. */
 void wx_ingress_clear(uint64_t state[WX_NUMBERS]);
+
+/* Reads what stands behind the colon of an answer or a notice as a parameter list (above).
+ * payload, payload_len: those bytes, of any length.
+ * elements: the memory for the elements. They stand at its front, in order, six numbers each; the rest of it stays as it was.
+ * out[0]: how many elements there are, 1 to WX_ELEMENTS; refused, the place of the fault in the payload.
+ * Refusals: WX_MALFORMED, WX_TOO_DEEP, WX_TOO_LARGE, WX_TOO_MANY (all leave `elements` as it was). */
+uint32_t wx_list_read(const uint8_t *payload, size_t payload_len, uint64_t elements[WX_ELEMENTS * WX_ELEMENT], uint64_t out[WX_OUT]);
 
 #ifdef __cplusplus
 }

@@ -1,5 +1,5 @@
 /* Calls every function of include/walumbeex.h and compares what it answers and leaves: document 01's known examples, its refusals, and that what
- * must stay stays. The expected numbers are written by hand from document 01.
+ * must stay stays. The expected numbers are written by hand from document 01, those of a parameter list from R-4.
  * Each difference is a line on standard error; status 0 where there is none. */
 #include "walumbeex.h"
 
@@ -12,7 +12,7 @@
 #define TABLE "UR\7+UUSORD"
 
 /* A caller's arrays are of this length: where one of these changes, so does the version. */
-#if WX_VERSION != 6u || WX_NUMBERS != 10 || WX_OUT != 9
+#if WX_VERSION != 6u || WX_NUMBERS != 10 || WX_OUT != 9 || WX_ELEMENTS != 256 || WX_ELEMENT != 6
 #error "an array has changed: raise WX_VERSION and wx_version, and write the new lengths here"
 #endif
 
@@ -1132,6 +1132,185 @@ static void serial_stays(void)
     }
 }
 
+/* Reads a parameter list into memory that has one number more than is lent. Of out the first number changes, of the memory what the elements take, and nothing else.
+ * told: out[0]; expected: the elements' numbers; refused, there are none. */
+static void read_list(const uint8_t *payload, size_t n, uint32_t refusal, uint64_t told, const uint64_t *expected)
+{
+    static uint64_t elements[WX_ELEMENTS * WX_ELEMENT + 1];
+    const size_t numbers = sizeof elements / sizeof elements[0], written = refusal == WX_DONE ? told * WX_ELEMENT : 0;
+    uint64_t out[WX_OUT];
+    char what[100];
+    snprintf(what, sizeof what, "a list of %zu bytes, %.40s", n, (const char *)payload);
+    reset_to_was(out, WX_OUT);
+    reset_to_was(elements, numbers);
+    same(what, wx_list_read(payload, n, elements, out), refusal);
+    OUT(what, told, WAS, WAS, WAS, WAS, WAS, WAS, WAS, WAS);
+    same_all(what, elements, written, expected, written);
+    strcat(what, ", the rest of the memory");
+    for (size_t i = written; i < numbers; i++)
+        same(what, elements[i], WAS);
+}
+
+static void lists(void)
+{
+    /* place, end, kind, depth, low, high */
+    static const struct {
+        const char *payload;
+        uint64_t count, elements[8][WX_ELEMENT];
+    } cases[] = {
+        {" (0-31,99),(0-7,99)",
+         6,
+         {{1, 10, WX_KIND_LIST, 0, 0, 0},
+          {2, 6, WX_KIND_RANGE, 1, 0, 31},
+          {7, 9, WX_KIND_NUMBER, 1, 99, 99},
+          {11, 19, WX_KIND_LIST, 0, 0, 0},
+          {12, 15, WX_KIND_RANGE, 1, 0, 7},
+          {16, 18, WX_KIND_NUMBER, 1, 99, 99}}},
+        {"((((1))))",
+         5,
+         {{0, 9, WX_KIND_LIST, 0, 0, 0},
+          {1, 8, WX_KIND_LIST, 1, 0, 0},
+          {2, 7, WX_KIND_LIST, 2, 0, 0},
+          {3, 6, WX_KIND_LIST, 3, 0, 0},
+          {4, 5, WX_KIND_NUMBER, 4, 1, 1}}},
+        /* empty places: the whole payload, behind spaces, within brackets, before a comma, at the end */
+        {"", 1, {{0, 0, WX_KIND_EMPTY, 0, 0, 0}}},
+        {"  ", 1, {{2, 2, WX_KIND_EMPTY, 0, 0, 0}}},
+        {"()", 2, {{0, 2, WX_KIND_LIST, 0, 0, 0}, {1, 1, WX_KIND_EMPTY, 1, 0, 0}}},
+        {"1,, ,",
+         4,
+         {{0, 1, WX_KIND_NUMBER, 0, 1, 1}, {2, 2, WX_KIND_EMPTY, 0, 0, 0}, {4, 4, WX_KIND_EMPTY, 0, 0, 0}, {5, 5, WX_KIND_EMPTY, 0, 0, 0}}},
+        {"( )", 2, {{0, 3, WX_KIND_LIST, 0, 0, 0}, {2, 2, WX_KIND_EMPTY, 1, 0, 0}}},
+        /* numbers, at their limit too, and ranges, of which the second may be the lower */
+        {"0", 1, {{0, 1, WX_KIND_NUMBER, 0, 0, 0}}},
+        {"4294967295", 1, {{0, 10, WX_KIND_NUMBER, 0, MOST, MOST}}},
+        {"0004294967295", 1, {{0, 13, WX_KIND_NUMBER, 0, MOST, MOST}}},
+        {"2-1", 1, {{0, 3, WX_KIND_RANGE, 0, 2, 1}}},
+        {"007-04294967295", 1, {{0, 15, WX_KIND_RANGE, 0, 7, MOST}}},
+        /* strings: none of the grammar's signs ends one but the quote, and an escaped quote isn't one */
+        {"\"\"", 1, {{0, 2, WX_KIND_STRING, 0, 0, 0}}},
+        {"(\"(,) -\", \"a\\22\\5c\")",
+         3,
+         {{0, 20, WX_KIND_LIST, 0, 0, 0}, {1, 8, WX_KIND_STRING, 1, 0, 0}, {10, 19, WX_KIND_STRING, 1, 0, 0}}},
+        {"(2,\"T-Mobile\",,\"26201\",7)",
+         6,
+         {{0, 25, WX_KIND_LIST, 0, 0, 0},
+          {1, 2, WX_KIND_NUMBER, 1, 2, 2},
+          {3, 13, WX_KIND_STRING, 1, 0, 0},
+          {14, 14, WX_KIND_EMPTY, 1, 0, 0},
+          {15, 22, WX_KIND_STRING, 1, 0, 0},
+          {23, 24, WX_KIND_NUMBER, 1, 7, 7}}},
+    };
+    for (size_t i = 0; i < sizeof cases / sizeof cases[0]; i++)
+        read_list((const uint8_t *)cases[i].payload, strlen(cases[i].payload), WX_DONE, cases[i].count, cases[i].elements[0]);
+}
+
+static void list_refusals(void)
+{
+    static const struct {
+        const char *payload;
+        uint32_t refusal;
+        uint64_t place;
+    } cases[] = {
+        {"1-", WX_MALFORMED, 2},
+        {"1-2-3", WX_MALFORMED, 3},
+        {"\"a", WX_MALFORMED, 2},
+        {"\"\\2", WX_MALFORMED, 3},
+        {"\"\\2g\"", WX_MALFORMED, 3},
+        {"(1", WX_MALFORMED, 2},
+        {"1)", WX_MALFORMED, 1},
+        {"-1", WX_MALFORMED, 0},
+        {"0x1F", WX_MALFORMED, 1},
+        {"IP", WX_MALFORMED, 0},
+        {"1 ,2", WX_MALFORMED, 1},
+        {"()1", WX_MALFORMED, 2},
+        {"\"\x7F\"", WX_MALFORMED, 1},
+        {"\"\x80\"", WX_MALFORMED, 1},
+        {"\t1", WX_MALFORMED, 0},
+        {"(((((1)))))", WX_TOO_DEEP, 4},
+        {"((((", WX_MALFORMED, 4},
+        {"((((1,(", WX_TOO_DEEP, 6},
+        {"4294967296", WX_TOO_LARGE, 0},
+        {"0004294967296", WX_TOO_LARGE, 0},
+        /* what 32 or 64 bits would hold as a small number */
+        {"18446744073709551617", WX_TOO_LARGE, 0},
+        {"1-99999999999", WX_TOO_LARGE, 2},
+        /* the leftmost */
+        {"99999999999x", WX_TOO_LARGE, 0},
+        {"99999999999,(((((", WX_TOO_LARGE, 0},
+        {"x99999999999", WX_MALFORMED, 0},
+    };
+    /* a NUL is a byte as any other */
+    static const uint8_t nul[] = {'1', 0};
+    for (size_t i = 0; i < sizeof cases / sizeof cases[0]; i++)
+        read_list((const uint8_t *)cases[i].payload, strlen(cases[i].payload), cases[i].refusal, cases[i].place, NULL);
+    read_list(nul, 2, WX_MALFORMED, 1, NULL);
+}
+
+/* As many elements as the memory has room for, and one more, at which its form, its depth and its number are judged before the count. */
+static void list_limits(void)
+{
+    static uint8_t commas[WX_LONGEST];
+    static uint64_t expected[WX_ELEMENTS][WX_ELEMENT];
+    static const struct {
+        const char *behind;
+        uint32_t refusal;
+    } cases[] = {
+        {"", WX_TOO_MANY},
+        {"1", WX_TOO_MANY},
+        {"1-", WX_TOO_MANY},
+        {"\"", WX_TOO_MANY},
+        {"(", WX_TOO_MANY},
+        {",x", WX_TOO_MANY},
+        {"x", WX_MALFORMED},
+        {"99999999999", WX_TOO_LARGE},
+    };
+    for (size_t i = 0; i < WX_ELEMENTS; i++)
+        expected[i][WX_ELEMENT_PLACE] = expected[i][WX_ELEMENT_END] = i;
+    memset(commas, ',', sizeof commas);
+    read_list(commas, 255, WX_DONE, 256, expected[0]);
+    read_list(commas, WX_LONGEST, WX_TOO_MANY, 256, NULL);
+    for (size_t i = 0; i < sizeof cases / sizeof cases[0]; i++) {
+        const size_t n = strlen(cases[i].behind);
+        memcpy(commas + 256, cases[i].behind, n);
+        read_list(commas, 256 + n, cases[i].refusal, 256, NULL);
+    }
+    /* 255 commas within brackets are 256 members; the bracket, too, is an element */
+    commas[0] = '(';
+    memset(commas + 1, ',', 255);
+    read_list(commas, 256, WX_MALFORMED, 256, NULL);
+    memset(commas, '(', 4);
+    memset(commas + 4, ',', 252);
+    commas[256] = '(';
+    read_list(commas, 257, WX_TOO_DEEP, 256, NULL);
+}
+
+/* A payload of any length: spaces, zeros in front of a number, and a string, each long. */
+static void list_lengths(void)
+{
+    enum { LONG = 100000 };
+    static uint8_t payload[LONG];
+    static const struct {
+        char of;
+        const char *front, *end;
+        uint64_t element[WX_ELEMENT];
+    } cases[] = {
+        {' ', "", "", {LONG, LONG, WX_KIND_EMPTY, 0, 0, 0}},
+        {' ', "", "7", {LONG - 1, LONG, WX_KIND_NUMBER, 0, 7, 7}},
+        {'0', "", "7", {0, LONG, WX_KIND_NUMBER, 0, 7, 7}},
+        {'a', "\"", "\"", {0, LONG, WX_KIND_STRING, 0, 0, 0}},
+    };
+    for (size_t i = 0; i < sizeof cases / sizeof cases[0]; i++) {
+        const size_t front = strlen(cases[i].front), end = strlen(cases[i].end);
+        memset(payload, cases[i].of, LONG);
+        memcpy(payload, cases[i].front, front);
+        memcpy(payload + LONG - end, cases[i].end, end);
+        read_list(payload, LONG, WX_DONE, 1, cases[i].element);
+    }
+    /* a string without its end */
+    read_list(payload, LONG - 1, WX_MALFORMED, LONG - 1, NULL);
+}
+
 int main(void)
 {
     same("the version", wx_version(), WX_VERSION);
@@ -1161,7 +1340,11 @@ int main(void)
     cut_numeric();
     late();
     serial_stays();
+    lists();
+    list_refusals();
+    list_limits();
+    list_lengths();
     if (differences == 0)
-        puts("exports: every function of walumbeex.h answered as document 01 says");
+        puts("exports: every function of walumbeex.h answered as document 01 and R-4 say");
     return differences != 0;
 }
