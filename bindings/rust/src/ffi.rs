@@ -8,7 +8,7 @@
 //!
 //! The calling convention is System V's: `build.rs` links for x86-64 Linux with pointers of 64 bits only, where it is `"C"`.
 
-use crate::{ConvertRefusal, Refusal, ResetRefusal};
+use crate::{ConvertRefusal, ListRefusal, Refusal, ResetRefusal, LIST_MEMORY};
 
 /// The version of the calls and arrays below: `WX_VERSION` of `include/walumbeex.h`.
 const VERSION: u32 = 6;
@@ -86,13 +86,14 @@ extern "C" {
         out: *mut u64,
     ) -> u32;
     fn wx_ingress_clear(state: *mut u64);
+    fn wx_list_read(payload: *const u8, payload_len: usize, elements: *mut u64, out: *mut u64) -> u32;
     fn wx_version() -> u32;
 }
 
 /// Stops where the archive is of another version: what it takes for an array may be longer than what it is handed.
 ///
-/// Asked where numbers first reach the archive: a table, an input, a new slot, a new queue, a queue to be converted. Every other
-/// state goes through a new slot and a new queue.
+/// Asked where numbers first reach the archive: a table, an input, a new slot, a new queue, a queue to be converted, a list to be
+/// read. Every other state goes through a new slot and a new queue.
 fn same_version() {
     // SAFETY: it takes nothing.
     let version = unsafe { wx_version() };
@@ -111,7 +112,7 @@ fn refused(number: u32, out: &Out, taken: usize) -> Result<(), Refusal> {
         2 => Err(Refusal::BadTable { record: out[0] as u8 }),
         4 => Err(Refusal::NoRoom),
         5 => Err(Refusal::QueueFull { taken }),
-        // 3; no call but a reset and a conversion, which have their own, answers a number over 5.
+        // 3; no call but a reset, a conversion and the reading of a list, which have their own, answers a number over 5.
         _ => Err(Refusal::BadState),
     }
 }
@@ -286,4 +287,21 @@ pub(crate) fn ingress_write(
 pub(crate) fn ingress_clear(state: &mut State) {
     // SAFETY: see the head of this file.
     unsafe { wx_ingress_clear(state.as_mut_ptr()) }
+}
+
+/// How many elements a payload has; they stand at the front of `elements`, six numbers each.
+pub(crate) fn list_read(payload: &[u8], elements: &mut [u64; LIST_MEMORY]) -> Result<usize, ListRefusal> {
+    same_version();
+    let mut out: Out = [0; OUT];
+    // SAFETY: see the head of this file.
+    let number = unsafe { wx_list_read(payload.as_ptr(), payload.len(), elements.as_mut_ptr(), out.as_mut_ptr()) };
+    let told = out[0] as usize;
+    match number {
+        0 => Ok(told),
+        7 => Err(ListRefusal::TooDeep { place: told }),
+        8 => Err(ListRefusal::TooLarge { place: told }),
+        9 => Err(ListRefusal::TooMany { place: told }),
+        // 6; the reading of a list answers no other number.
+        _ => Err(ListRefusal::Malformed { place: told }),
+    }
 }

@@ -15,7 +15,8 @@
 //! | `UrcChannel` | [`NoticeQueue`] at [`Ingress::notices`], [`Urc`] |
 //! | `ingress::Error` | [`Refusal`]; of a reset [`ResetRefusal`] |
 //!
-//! A queue that was kept before version 0.6.0 has records of another form: [`convert_queue`] reads it.
+//! A queue that was kept before version 0.6.0 has records of another form: [`convert_queue`] reads it. What stands behind the colon
+//! of an answer, such as `(0-31,99),(0-7,99)`, is read by a [`List`].
 //!
 //! There is no allocation, no thread and no global state: all memory is lent by the caller. No call panics, but for one reason:
 //! the archive that was linked is of another version than this crate.
@@ -34,6 +35,7 @@ mod digest;
 #[allow(unsafe_code)]
 mod ffi;
 mod ingress;
+mod list;
 mod memory;
 mod notice_queue;
 mod refusal;
@@ -42,9 +44,10 @@ mod table;
 
 pub use digest::{ConnectionError, DigestResult, Digester, InternalError, Urc, LONGEST_INPUT, RING};
 pub use ingress::Ingress;
+pub use list::{Element, ElementKind, Elements, List, Members, LIST_MEMORY, MOST_BRACKETS, MOST_ELEMENTS};
 pub use memory::MemoryError;
 pub use notice_queue::{convert_queue, NoticeQueue, LONGEST_NOTICE, MOST_NOTICES, NOTICE_RECORD, OLD_NOTICE_RECORD};
-pub use refusal::{ConvertRefusal, Refusal, ResetRefusal};
+pub use refusal::{ConvertRefusal, ListRefusal, Refusal, ResetRefusal};
 pub use response_slot::{Response, ResponseSlot};
 pub use table::{Table, TableBuilder, TableError, LONGEST_TEXT, MOST_RECORDS};
 

@@ -1,11 +1,11 @@
-use crate::NOTICE_RECORD;
+use crate::{MOST_BRACKETS, MOST_ELEMENTS, NOTICE_RECORD};
 use core::fmt;
 
 /// Why a call was refused. Each refusal has a number, and is given exactly when its condition holds; where several hold,
 /// the lowest is given.
 ///
 /// All but [`QueueFull`](Refusal::QueueFull) leave every byte and every number as it stood. A reset of the slot has refusals of its
-/// own, [`ResetRefusal`], and so has the conversion of a queue, [`ConvertRefusal`].
+/// own, [`ResetRefusal`], and so have the conversion of a queue, [`ConvertRefusal`], and the reading of a list, [`ListRefusal`].
 ///
 /// ```
 /// use walumbeex::Refusal;
@@ -167,3 +167,72 @@ impl fmt::Display for ConvertRefusal {
 }
 
 impl core::error::Error for ConvertRefusal {}
+
+/// Why the reading of a [parameter list](crate::List::read) was refused: its leftmost fault, and of two at one place the one with
+/// the lowest number. Each has its place in the payload, and leaves the memory as it stood.
+///
+/// ```
+/// use walumbeex::{List, ListRefusal, LIST_MEMORY};
+/// let refusal = List::read(b" (0-31,99", &mut [0; LIST_MEMORY]).unwrap_err();
+/// assert_eq!(refusal, ListRefusal::Malformed { place: 9 });
+/// assert_eq!((refusal.number(), refusal.place()), (6, 9));
+/// assert_eq!(refusal.to_string(), "refused 6: no parameter list goes on so at place 9");
+/// ```
+#[derive(Debug, Clone, Copy, PartialEq, Eq)]
+pub enum ListRefusal {
+    /// 6: it is no list by the grammar.
+    Malformed {
+        /// The first byte, or the end, at which the grammar can't go on.
+        place: usize,
+    },
+    /// 7: a bracket stands within [`MOST_BRACKETS`](crate::MOST_BRACKETS) brackets.
+    TooDeep {
+        /// That bracket's.
+        place: usize,
+    },
+    /// 8: a number is over 4,294,967,295, zeros in front aside.
+    TooLarge {
+        /// Its first digit's.
+        place: usize,
+    },
+    /// 9: there are over [`MOST_ELEMENTS`](crate::MOST_ELEMENTS) elements.
+    TooMany {
+        /// That of the first one over.
+        place: usize,
+    },
+}
+
+impl ListRefusal {
+    /// The refusal's number, 6 to 9.
+    #[must_use]
+    pub const fn number(&self) -> u8 {
+        match self {
+            Self::Malformed { .. } => 6,
+            Self::TooDeep { .. } => 7,
+            Self::TooLarge { .. } => 8,
+            Self::TooMany { .. } => 9,
+        }
+    }
+
+    /// Its place in the payload.
+    #[must_use]
+    pub const fn place(&self) -> usize {
+        match *self {
+            Self::Malformed { place } | Self::TooDeep { place } | Self::TooLarge { place } | Self::TooMany { place } => place,
+        }
+    }
+}
+
+impl fmt::Display for ListRefusal {
+    fn fmt(&self, f: &mut fmt::Formatter<'_>) -> fmt::Result {
+        write!(f, "refused {}: ", self.number())?;
+        match self {
+            Self::Malformed { place } => write!(f, "no parameter list goes on so at place {place}"),
+            Self::TooDeep { place } => write!(f, "the bracket at place {place} stands within {MOST_BRACKETS} brackets"),
+            Self::TooLarge { place } => write!(f, "the number at place {place} is over 4,294,967,295"),
+            Self::TooMany { place } => write!(f, "there are over {MOST_ELEMENTS} elements, the first one over at place {place}"),
+        }
+    }
+}
+
+impl core::error::Error for ListRefusal {}
