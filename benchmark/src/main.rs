@@ -1,8 +1,8 @@
 //! The proved digester and ingress beside those of atat 0.25.0, on the same inputs, in one program.
 //!
 //! `count` runs each workload once between the two marks that icount.c looks for, ours and then the Rust's, and prints its name, and `count vast` the vast
-//! one; `count growth` does so with ours alone, at a length and at twice that, and with notices through our queue, and `judge` fails where a digest grew too
-//! fast; `time` prints median nanoseconds; `report` makes the page and the drawing of all. Before any workload is measured the two sides' answers to it are
+//! one; `count growth` does so with ours alone, at a length and at twice that, and with notices through our queue and parameter lists, and `judge` fails where
+//! a digest or a list grew too fast; `time` prints median nanoseconds; `report` makes the page and the drawing of all. Before any workload is measured the two sides' answers to it are
 //! compared; of the vast one, what the counted calls answer.
 
 mod heard;
@@ -104,7 +104,7 @@ fn count_vast(w: &Workload) -> Result<(), String> {
 }
 
 /// How our work grows: runs each shape and each pattern at a length and at twice that between the marks, and prints its name, the way and the length. So with the
-/// numeric digester's, and with notices through the queue.
+/// numeric digester's, with notices through the queue, and with parameter lists.
 fn count_growth() -> Result<(), String> {
     for shape in SHAPES {
         count_digests(shape.name, &[], shape.input)?;
@@ -122,7 +122,8 @@ fn count_growth() -> Result<(), String> {
         count_digests(&pattern.to_string(), if pattern.has_table { &table } else { &[] }, |len| pattern.input(len))?;
     }
     growth::numeric::count(ours::digest_numeric, paged, measure::marked)?;
-    growth::notices::count(&mut ours::Ingress::new(&records("UR", One::TEXTS)), paged, measure::marked)
+    growth::notices::count(&mut ours::Ingress::new(&records("UR", One::TEXTS)), paged, measure::marked)?;
+    growth::lists::count(ours::list_read, paged, measure::marked)
 }
 
 /// Two digests that are answered by different rules say nothing of how work grows: their answers are compared. So no call between the marks is the first, which

@@ -23,6 +23,7 @@ extern "C" {
     fn wx_queue_new(state: *mut State);
     fn wx_queue_take(state: *mut State, mem: *const u8, mem_len: usize, out: *mut [u64; 9]) -> u32;
     fn wx_ingress_clear(state: *mut State);
+    fn wx_list_read(payload: *const u8, payload_len: usize, elements: *mut [u64; 1536], out: *mut [u64; 9]) -> u32;
     fn wx_ingress_write(
         state: *mut State,
         piece: *const u8,
@@ -56,6 +57,12 @@ pub fn digest(table: &[u8], input: &[u8], out: &mut [u64; 9]) -> u32 {
 pub fn digest_numeric(input: &[u8], out: &mut [u64; 9]) -> u32 {
     // SAFETY: as above; the table is the input's empty front part.
     unsafe { wx_digest(NUMERIC, input.as_ptr(), 0, input.as_ptr(), input.len(), out) }
+}
+
+/// A parameter list, read into the memory for its elements; the crate has no such reader.
+pub fn list_read(payload: &[u8], elements: &mut [u64; 1536], out: &mut [u64; 9]) -> u32 {
+    // SAFETY: as above; `elements` is a lent array of 1,536.
+    unsafe { wx_list_read(payload.as_ptr(), payload.len(), elements, out) }
 }
 
 /// A digest, ready to be called.

@@ -1,9 +1,10 @@
 //! How our work grows: the inputs that show it, at a length and at twice that, and what is made of the instructions counted on them. What else stands alone on our
-//! side is here too: the numeric digester, and notices through the queue.
+//! side is here too: the numeric digester, notices through the queue, and parameter lists.
 //!
 //! It is a crate of its own so that nothing of it is compiled together with the calls that are measured: as a part of their crate it made the Rust's figures
 //! with the table of 56 greater by 14 per cent, and left ours as they were.
 
+pub mod lists;
 pub mod notices;
 pub mod numeric;
 pub mod patterns;
@@ -18,7 +19,7 @@ use std::fmt::Write;
 pub const DIGEST: [usize; 2] = [2048, 4096];
 pub const STREAM: [usize; 2] = [512, 1024];
 
-/// So many times the work is what a digest may take for twice the input.
+/// So many times the work is what a digest, or the reading of a list, may take for twice the input.
 const LIMIT: f64 = 2.2;
 /// How many of the patterns are shown.
 const SHOWN: usize = 10;
@@ -39,6 +40,7 @@ pub fn thousands(n: f64) -> String {
 /// Instructions at a length and at twice that.
 #[derive(Clone, Copy)]
 struct Grown {
+    lens: [usize; 2],
     once: f64,
     twice: f64,
 }
@@ -48,10 +50,10 @@ impl Grown {
         self.twice / self.once
     }
 
-    /// Is this digest over the limit? One that takes no more instructions than it has bytes is not, whatever the ratio: so little work is decided by the last
-    /// few bytes, which are searched one by one.
+    /// Is it over the limit? What takes no more instructions than it has bytes is not, whatever the ratio: so little work is decided by the last few bytes, which
+    /// are searched one by one.
     fn is_excess(self) -> bool {
-        self.twice > DIGEST[1] as f64 && self.ratio() > LIMIT
+        self.twice > self.lens[1] as f64 && self.ratio() > LIMIT
     }
 
     /// The cells of a table.
@@ -69,11 +71,14 @@ pub struct Growth {
     numeric: Vec<(&'static str, f64, Grown)>,
     /// Through the queue, of each notice its payload's length, what became of it, and the instructions.
     notices: Vec<(usize, &'static str, f64)>,
+    /// The reading of a short list, and of each payload its name, what is answered, and the two.
+    short: f64,
+    lists: Vec<(&'static str, String, Grown)>,
 }
 
 impl Growth {
-    /// Reads lines of four parts by tabs: the name of a shape or pattern, `digest`, `stream` or `numeric`, its length in bytes, the instructions; of a notice what
-    /// became of it, and `queue`.
+    /// Reads lines of four parts by tabs: the name of a shape or pattern, `digest`, `stream`, `numeric` or `list`, its length in bytes, the instructions; of a
+    /// notice what became of it, and `queue`.
     pub fn read(counts: &str) -> Result<Self, String> {
         let mut counted: HashMap<(&str, &str, &str), f64> = HashMap::new();
         for line in counts.lines() {
@@ -86,7 +91,10 @@ impl Growth {
             let n = counted.get(&(name, way, len.to_string().as_str())).copied();
             n.ok_or_else(|| format!("not counted: {name}, {way} of {len} bytes"))
         };
-        let grown = |name: &str, way: &str, [once, twice]: [usize; 2]| Ok::<_, String>(Grown { once: get(name, way, once)?, twice: get(name, way, twice)? });
+        let grown = |name: &str, way: &str, lens: [usize; 2]| {
+            let [once, twice] = lens.map(|len| get(name, way, len));
+            Ok::<_, String>(Grown { lens, once: once?, twice: twice? })
+        };
         let shapes = SHAPES.iter().map(|s| Ok((s.name, grown(s.name, "digest", DIGEST)?, grown(s.name, "stream", STREAM)?)));
         let patterns = patterns::all().into_iter().map(|p| grown(&p.to_string(), "digest", DIGEST).map(|g| (p, g)));
         let numeric = numeric::SHAPES.iter().map(|s| Ok((s.name, get(s.name, "numeric", numeric::LENS[0])?, grown(s.name, "numeric", DIGEST)?)));
@@ -94,22 +102,26 @@ impl Growth {
             let counted = [notices::TAKEN, notices::LOST].into_iter().find_map(|fate| Some((len, fate, get(fate, "queue", len).ok()?)));
             counted.ok_or_else(|| format!("not counted: a notice of {len} bytes through the queue"))
         });
+        let lists = lists::PAYLOADS.iter().map(|p| Ok((p.name, p.answer(), grown(p.name, "list", p.lens())?)));
         Ok(Self {
             shapes: shapes.collect::<Result<_, String>>()?,
             patterns: patterns.collect::<Result<_, String>>()?,
             numeric: numeric.collect::<Result<_, String>>()?,
             notices: notices.collect::<Result<_, String>>()?,
+            short: get(lists::SHORT_NAME, "list", lists::SHORT.len())?,
+            lists: lists.collect::<Result<_, String>>()?,
         })
     }
 
-    /// An error that names each shape and each pattern whose digest is over the limit.
+    /// An error that names each shape and each pattern whose digest is over the limit, and each payload whose reading as a list is.
     pub fn judge(&self) -> Result<(), String> {
         let shapes = self.shapes.iter().map(|&(name, digest, _)| (name.to_owned(), digest));
         let numeric = self.numeric.iter().map(|&(name, _, digest)| (format!("{name}, by the numeric digester"), digest));
-        let digests = shapes.chain(self.patterns.iter().map(|(p, digest)| (p.to_string(), *digest))).chain(numeric);
+        let lists = self.lists.iter().map(|(name, _, list)| (format!("{name}, as a parameter list"), *list));
+        let all = shapes.chain(self.patterns.iter().map(|(p, digest)| (p.to_string(), *digest))).chain(numeric).chain(lists);
         let mut excess = String::new();
-        for (name, g) in digests.filter(|(_, g)| g.is_excess()) {
-            let [once, twice, len, double] = [g.once, g.twice, DIGEST[0] as f64, DIGEST[1] as f64].map(thousands);
+        for (name, g) in all.filter(|(_, g)| g.is_excess()) {
+            let [once, twice, len, double] = [g.once, g.twice, g.lens[0] as f64, g.lens[1] as f64].map(thousands);
             let _ = write!(excess, "\n  {name}: {once} instructions at {len} bytes, {twice} at {double}, {:.2} times", g.ratio());
         }
         if excess.is_empty() {
@@ -149,7 +161,7 @@ impl Growth {
             let table = if pattern.has_table { format!("of {}", records.len()) } else { "empty".to_owned() };
             let _ = writeln!(out, "| {pattern} | {table} | {} |", g.cells());
         }
-        out + &self.numeric_section() + &self.notices_section()
+        out + &self.numeric_section() + &self.notices_section() + &self.lists_section()
     }
 
     /// The numeric digester has no Rust beside it, so that all its rows stand here.
@@ -176,6 +188,22 @@ impl Growth {
         }
         out
     }
+
+    /// Nor has the reader of parameter lists.
+    fn lists_section(&self) -> String {
+        let mut out = format!(
+            "\n## Parameter lists, ours alone\n\nInstructions of ours to read a payload; the limit is the same. The short answer {}, {} bytes, takes {}.\n\n\
+             | Payload | Answer | Bytes | Instructions | Bytes | Instructions | Ratio |\n|---|---|--:|--:|--:|--:|--:|\n",
+            lists::SHORT_NAME,
+            lists::SHORT.len(),
+            thousands(self.short)
+        );
+        for (name, answer, g) in &self.lists {
+            let [len, double] = g.lens.map(|len| thousands(len as f64));
+            let _ = writeln!(out, "| {name} | {answer} | {len} | {} | {double} | {} | {:.2} |", thousands(g.once), thousands(g.twice), g.ratio());
+        }
+        out
+    }
 }
 
 #[cfg(test)]
@@ -184,7 +212,7 @@ mod tests {
 
     #[test]
     fn over_the_limit_is_more_than_it_and_more_than_an_instruction_a_byte() {
-        let excess = |once, twice| Grown { once, twice }.is_excess();
+        let excess = |once, twice| Grown { lens: DIGEST, once, twice }.is_excess();
         assert!(excess(10_000.0, 22_001.0));
         assert!(!excess(10_000.0, 22_000.0));
         assert!(!excess(300.0, 4_096.0));
