@@ -105,7 +105,7 @@
  * Work: a digest's grows with its input, and no faster: twice the input takes at most 2.2 times the instructions (docs/BENCHMARKS.md; at most some 1.2 million for
  * 4,096 bytes). An advance or write digests again all that is in the buffer, so that a stream handed over in pieces that finish nothing costs the square of its
  * length: 1,024 bytes one by one took 36 million instructions, and 4,096 took 540 million. WX_NUMERIC walks over its input once; the same limit holds for it, and for
- * wx_list_read, which walks over a payload that it accepts twice: it judges all of it before it writes.
+ * wx_list_read, which walks over a payload that it accepts twice: it judges all of it before it writes. An answer of 1,024 bytes with 31 operators took 55,000.
  *
  * Licence: Apache-2.0 (see LICENSE and NOTICE).
  */
@@ -120,7 +120,8 @@ extern "C" {
 #endif
 
 /* The version of this header: one more whenever a function's parameters, an array's length or the meaning of a number in one changes. An archive of another version
- * may take an array for longer than it is, so compare before any other call. A function that is added changes nothing of these: an archive that lacks it doesn't link.
+ * may take an array for longer than it is, so compare before any other call. It stays where a function is added: a program that calls it doesn't link with an archive
+ * that lacks it.
  * Version 2: a numeric error has its digits.
  * Version 3: wx_digest, wx_ingress_advance and wx_ingress_write take a digester, in front of the table; a longer CONNECT line has its text, at out[7] and out[8] of
  * wx_digest; WX_OUT, 7 before, is 9.
