@@ -12,5 +12,6 @@ pub mod Bodies
 pub mod Join
 pub mod Told
 pub mod Exactly
+pub mod Bounds
 pub mod Calls
 pub mod Cycle

@@ -176,19 +176,19 @@ not-listed true o e = absurd (cons-ne-nil o [] e)
 not-listed false o e = refl
 
 module _ (p : ℕ) where
-  shallow : (d : ℕ) → tooDeep d p ≡ [] → d < 4
+  pub shallow : (d : ℕ) → tooDeep d p ≡ [] → d < 4
   unfolding tooDeep
   shallow d e = leb-false 4 d (not-listed (leb 4 d) (record { refusal = 7; place = p; shown = suc p }) e)
 
-  small : (w : List ℕ) → tooLarge w p ≡ [] → value 0 w ≤ 4294967295
+  pub small : (w : List ℕ) → tooLarge w p ≡ [] → value 0 w ≤ 4294967295
   unfolding tooLarge
   small w e = ltb-false 4294967295 (value 0 w) (not-listed (ltb 4294967295 (value 0 w)) (record { refusal = 8; place = p; shown = p + length w }) e)
 
-  few : (n : ℕ) → tooMany n p ≡ [] → n < 256
+  pub few : (n : ℕ) → tooMany n p ≡ [] → n < 256
   unfolding tooMany
   few n e = leb-false 256 n (not-listed (leb 256 n) (record { refusal = 9; place = p; shown = suc p }) e)
 
-both-nil : {A : Type 0} (x y : List A) → x ++ y ≡ [] → (x ≡ []) × (y ≡ [])
+pub both-nil : {A : Type 0} (x y : List A) → x ++ y ≡ [] → (x ≡ []) × (y ≡ [])
 both-nil x y = append-eq-nil-iff {p = x} {q = y} .0
 
 -- the count and the place behind a derivation, however they are written
