@@ -4,7 +4,6 @@ use mathlib.Core.List.{List, [], _∷_, _++_}
 use Prim.Native.Nat.{ℕ, suc, _+_, _≤_}
 use native.Mathlib.Omega.{arith}
 use lib.ListN.{length, replicate, length-append, length-replicate}
-use Rattle.parser.specs.Parser.{value}
 use Rattle.pieces.specs.declared.Element.{Element}
 use Rattle.lists.specs.Grammar.{Symbol, Derivation, empty, number, range, string, bracket, spaced, one, more, word, elements, tooDeep, tooLarge, tooMany, over, Accepted}
 use Rattle.lists.specs.Onward.{shallow, small, few, both-nil}

@@ -13,5 +13,6 @@ pub mod Join
 pub mod Told
 pub mod Exactly
 pub mod Bounds
+pub mod Memory
 pub mod Calls
 pub mod Cycle

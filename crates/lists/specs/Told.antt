@@ -55,7 +55,7 @@ unfolding numbers
 numbers-append [] fs = refl
 numbers-append (e ∷ es) fs = ap (λ (l : List ℕ). numbersOf e ++ l) (numbers-append es fs)
 
-length-numbers : (es : List Element) → length (numbers es) ≡ 6 * length es
+pub length-numbers : (es : List Element) → length (numbers es) ≡ 6 * length es
 unfolding numbers
 length-numbers [] = omega arith
 length-numbers (e ∷ es) = omega (arith, length-numbers es)
