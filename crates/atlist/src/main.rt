@@ -30,11 +30,11 @@ fn minus(a: usize, b: usize) -> usize {
 // The input without the one line ending, LF or CRLF, that it may end in.
 fn payload_of(input: &[u8]) -> &[u8] {
     let last = minus(input.len(), 1);
-    if pieces::byte_at(input, last) != b'\n' {
+    if text::byte_at(input, last) != b'\n' {
         return input;
     }
     let before = minus(last, 1);
-    if pieces::byte_at(input, before) != b'\r' {
+    if text::byte_at(input, before) != b'\r' {
         return text::part(input, 0, last);
     }
     text::part(input, 0, before)

@@ -48,7 +48,7 @@ fn gather(chunk: &[u8], line: &mut Memory, now: Input) -> Input {
     let mut from = now.from;
     let mut len = kept(now);
     while from < to {
-        let b = fields::byte_at(chunk, from);
+        let b = text::byte_at(chunk, from);
         from += 1;
         if b == b'\n' {
             return Input {
@@ -95,7 +95,7 @@ pub fn read_on(chunk: &mut Memory, line: &mut Memory, now: Input) -> Input {
 
 // Is the line a comment, or blank? One that fills the memory is too long, and may go on with anything.
 pub fn is_idle(line: &[u8]) -> bool {
-    if fields::byte_at(line, 0) == b'#' {
+    if text::byte_at(line, 0) == b'#' {
         return true;
     }
     if line.len() == LENGTH {

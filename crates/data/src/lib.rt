@@ -28,8 +28,8 @@ enum Byte {
 
 // The byte of the two digits from i on.
 fn hex_at(s: &[u8], i: usize) -> Byte {
-    let high = nibble(fields::byte_at(s, i));
-    let low = nibble(fields::byte_at(s, fields::plus(i, 1)));
+    let high = nibble(text::byte_at(s, i));
+    let low = nibble(text::byte_at(s, fields::plus(i, 1)));
     if 15 < high {
         return Byte::Bad;
     }

@@ -15,20 +15,12 @@ pub enum Amount {
     Bad,
 }
 
-// The byte at i, 0 past the end.
-pub fn byte_at(s: &[u8], i: usize) -> u8 {
-    if i < s.len() {
-        return s[i];
-    }
-    0
-}
-
 // Is it `-`, which stands for no bytes and for no ops?
 pub fn is_none(s: &[u8]) -> bool {
     if s.len() != 1 {
         return false;
     }
-    byte_at(s, 0) == b'-'
+    text::byte_at(s, 0) == b'-'
 }
 
 // a + b, at most the largest number.

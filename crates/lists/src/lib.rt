@@ -106,7 +106,7 @@ fn number_at(s: &[u8], at: usize, depth: usize, n: usize) -> Plain
     if pieces::MOST <= n {
         return Plain::Refused(9, at);
     }
-    if pieces::byte_at(s, e) != b'-' {
+    if text::byte_at(s, e) != b'-' {
         return Plain::Is(Element {
             place: at,
             end: e,
@@ -117,7 +117,7 @@ fn number_at(s: &[u8], at: usize, depth: usize, n: usize) -> Plain
         });
     }
     let second = e + 1;
-    if !parser::is_digit(pieces::byte_at(s, second)) {
+    if !parser::is_digit(text::byte_at(s, second)) {
         return Plain::Refused(6, second);
     }
     match pieces::number_at(s, second) {
@@ -138,7 +138,7 @@ fn plain_at(s: &[u8], at: usize, depth: usize, n: usize) -> Plain
     requires { ⌜ (at ≤ length (now s)) × ((getD (now s) at 0 ≡ 32 → ⊥) × (getD (now s) at 0 ≡ 40 → ⊥)) ⌝ }
     ensures { λ r. ⌜ Bodied depth n at (drop at (now (s .entry))) r ⌝ }
 {
-    let b = pieces::byte_at(s, at);
+    let b = text::byte_at(s, at);
     if parser::is_digit(b) {
         return number_at(s, at, depth, n);
     }
@@ -191,7 +191,7 @@ fn read_element(
     ensures { λ r. ⌜ Told element depth n at (drop at (now (s .entry))) writes (now (elements .entry)) r (now (elements .exit)) ⌝ }
 {
     let place = text::skip(Blanks::Space, s, at);
-    if pieces::byte_at(s, place) != b'(' {
+    if text::byte_at(s, place) != b'(' {
         return read_plain(s, place, depth, n, writes, elements);
     }
     if DEEPEST <= depth {
@@ -202,7 +202,7 @@ fn read_element(
     }
     match read_list(s, place + 1, depth + 1, n + 1, writes, elements) {
         Step::Next(e, m) => {
-            if pieces::byte_at(s, e) != b')' {
+            if text::byte_at(s, e) != b')' {
                 return Step::Refused(6, e);
             }
             let end = e + 1;
@@ -228,7 +228,7 @@ fn read_list(
 {
     match read_element(s, at, depth, n, writes, elements) {
         Step::Next(e, m) => {
-            if pieces::byte_at(s, e) != b',' {
+            if text::byte_at(s, e) != b',' {
                 return Step::Next(e, m);
             }
             read_list(s, e + 1, depth, m, writes, elements)

@@ -90,7 +90,7 @@ fn op_of_code(s: &[u8], piece: &mut Memory) -> Op {
 
 // Reads an op, its bytes into the piece's memory.
 pub fn read_op(s: &[u8], piece: &mut Memory) -> Op {
-    let letter = fields::byte_at(s, 0);
+    let letter = text::byte_at(s, 0);
     if s.len() == 1 {
         return op_alone(letter);
     }

@@ -4,9 +4,6 @@ use Rattle.outcome.specs.One.{Alike, One}
 use Rattle.text.specs.Logic.{determined}
 use Rattle.pieces.proofs as calls
 
-pub byte-at-one : One calls.byte_at.Reads.Post
-byte-at-one κs a x y s t = determined
-
 pub string-end-one : One calls.string_end.Reads.Post
 string-end-one κs a x y s t = determined
 

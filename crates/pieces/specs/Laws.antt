@@ -5,10 +5,11 @@ use mathlib.Core.List.{List, [], _∷_}
 use Prim.Native.Nat.{ℕ, zero, suc, _+_, _*_, _-_, _≤_, _<_}
 use native.Mathlib.Numerals.{add-one}
 use native.Mathlib.Omega.{arith}
-use lib.ListN.{length, getD, drop, drop-of-length-le, List·getD-eq-default}
+use lib.ListN.{length, getD, drop, drop-of-length-le}
 use lib.Seq.{drop-cons, sets, set-out}
 use lib.Dec.{leb}
 use borrow.Author.Tests.{le-leb, lt-leb, ne-eqb}
+use Rattle.text.specs.Laws.{zero-past}
 use Rattle.parser.specs.Parser.{isDigit}
 use Rattle.pieces.specs.declared.Heard.{Heard}
 use Rattle.pieces.specs.declared.Heard.the-variants.{Owes, Closes, Breaks}
@@ -16,10 +17,6 @@ use Rattle.pieces.specs.declared.Ended.the-variants as ended
 use Rattle.pieces.specs.declared.Kind.the-variants as kinds
 use Rattle.pieces.specs.declared.Element.{Element}
 use Rattle.pieces.specs.Pieces.{isHex, isChar, heard, goesOn, stringEnd, kindOf, elementAt}
-
--- past the end a list reads as 0
-pub zero-past : (s : List ℕ) (i : ℕ) → length s ≤ i → 0 ≡ getD s i 0
-zero-past s i h = sym (List·getD-eq-default s 0 {n = i} h)
 
 -- `isHex` and `isChar`
 module _ (b : ℕ) where

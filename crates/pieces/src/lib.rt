@@ -1,9 +1,9 @@
-// What a parameter list (R-4, docs/LISTS.md) is made of: a byte at a place, the digits of a number, the bytes of a string; and an element as six numbers
+// What a parameter list (R-4, docs/LISTS.md) is made of: the digits of a number, the bytes of a string; and an element as six numbers
 // of lent memory, in which a reader leaves it and a caller finds it.
 // Every public function is total: none has a `requires`, and a place past the end has a stated answer.
 ghost use mathlib.Core.Path.{_≡_};
 ghost use Prim.Native.Nat.{_≤_, _+_, _*_};
-ghost use lib.ListN.{getD, drop};
+ghost use lib.ListN.{drop};
 ghost use lib.Seq.{sets};
 ghost use Rattle.pieces.specs.Pieces.{isHex, isChar, heard, stringEnd, numberAt, kindNumber, kindOf, numbersOf, elementAt};
 
@@ -13,16 +13,6 @@ pub const MOST: usize = 256;
 pub const FIELDS: usize = 6;
 
 pub const NUMBERS: usize = 1536;
-
-// The byte at a place; 0, which no list holds, where there is none.
-pub fn byte_at(s: &[u8], at: usize) -> u8
-    ensures { λ r. ⌜ r ≡ getD (now (s .entry)) at 0 ⌝ }
-{
-    if s.len() <= at {
-        return 0;
-    }
-    s[at]
-}
 
 // HEX: a digit, or one of the letters A to F, large or small.
 fn is_hex(b: u8) -> bool

@@ -19,6 +19,9 @@ fitting-one κs a x y s t = determined
 pub trimmed-part-one : One calls.trimmed_part.Reads.Post
 trimmed-part-one κs a x y s t = determined
 
+pub byte-at-one : One calls.byte_at.Reads.Post
+byte-at-one κs a x y s t = determined
+
 pub matches-at-one : One calls.matches_at.Reads.Post
 matches-at-one κs a x y s t = determined
 

@@ -8,7 +8,7 @@ use Prim.Native.Nat.{ℕ, zero, suc, _+_, _-_, _≤_, _<_, min}
 use native.Mathlib.Numerals.{add-one, sub-one}
 use native.Mathlib.Nat.{add-zero, zero-add, not-suc-le-zero, le-of-suc-le-suc, eq-or-lt-of-le}
 use native.Mathlib.Omega.{arith}
-use lib.ListN.{length, getD, take, drop, take-append-drop, length-drop}
+use lib.ListN.{length, getD, take, drop, take-append-drop, length-drop, List·getD-eq-default}
 use lib.Seq.{take-all, drop-cons, length-take-le, drop-drop, take-append-le, drop-append-le, getD-drop}
 use lib.Dec.{eqb}
 use borrow.Author.Tests.{eq-eqb, ne-eqb, eqb-true, eqb-false, le-leb, lt-leb}
@@ -205,6 +205,10 @@ begins-flip (x ∷ t) [] h = absurd (omega arith)
 begins-flip (x ∷ t) (y ∷ s) h = rw (eqb-flip y x, begins-flip t s (omega arith))
 
 -- blanks
+-- past the end a list reads as 0
+pub zero-past : (s : List ℕ) (i : ℕ) → length s ≤ i → 0 ≡ getD s i 0
+zero-past s i h = sym (List·getD-eq-default s 0 {n = i} h)
+
 pub lead-le : (f : ℕ → Bool) (s : List ℕ) → lead f s ≤ length s
 unfolding lead
 lead-le f [] = omega arith

@@ -3,7 +3,7 @@
 // Every public function is total: none has a `requires`, and a place past the end has a stated answer.
 ghost use mathlib.Core.Path.{_≡_};
 ghost use Prim.Native.Nat.{_≤_, _+_, min};
-ghost use lib.ListN.{length};
+ghost use lib.ListN.{length, getD};
 ghost use lib.Dec.{eqb};
 ghost use Rattle.text.specs.Text.{isBlank, past, keep, trimmed, trimmedPart, stands, findIn, partOf, partAt, further};
 
@@ -129,6 +129,16 @@ pub fn trimmed_part(s: &[u8], from: usize, to: usize) -> Span
         start: start,
         len: t.len,
     }
+}
+
+// The byte at a place; 0 where there is none.
+pub fn byte_at(s: &[u8], at: usize) -> u8
+    ensures { λ r. ⌜ r ≡ getD (now (s .entry)) at 0 ⌝ }
+{
+    if s.len() <= at {
+        return 0;
+    }
+    s[at]
 }
 
 // A byte as it is compared: itself. Letter case is exact: the crate's `tag_no_case` runs behind a search that is.

@@ -18,7 +18,7 @@ use Rattle.lists.proofs.+read_element+read_list.Lts-read_list as read-l
 use Rattle.lists.proofs.leave.Reads as leave-reads
 use Rattle.lists.proofs.read_plain.Reads as read-plain-reads
 use Rattle.lists.proofs.without_value.Reads as without-value-reads
-use Rattle.pieces.proofs.byte_at.Reads as byte-at-reads
+use Rattle.text.proofs.byte_at.Reads as byte-at-reads
 use Rattle.text.proofs.skip.Reads as skip-reads
 use Rattle.lists.proofs.+read_element+read_list.{statement}
 use Rattle.lists.proofs.+read_element+read_list.Tie.{close}

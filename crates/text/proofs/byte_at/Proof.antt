@@ -1,8 +1,8 @@
 -- `byte_at` meets its contract.
-use Rattle.pieces.specs.Laws.{zero-past}
+use Rattle.text.specs.Laws.{zero-past}
 use borrow.Author.Needs.{needs}
-use Rattle.pieces.proofs.byte_at.Statement.{statement}
-use Rattle.pieces.proofs.byte_at.Tie as tie
+use Rattle.text.proofs.byte_at.Statement.{statement}
+use Rattle.text.proofs.byte_at.Tie as tie
 
 returns : tie.Need-returns
 returns c =
