@@ -5,3 +5,6 @@ use Rattle.seek.proofs as calls
 
 pub find-one : One calls.find.Reads.Post
 find-one κs a x y s t = determined
+
+pub find-cr-one : One calls.find_cr.Reads.Post
+find-cr-one κs a x y s t = determined

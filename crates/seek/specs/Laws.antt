@@ -1,19 +1,21 @@
 -- What lets a search pass over a block: where two of its bytes don't stand, a text doesn't. Rests on text's laws of `stands` and `findIn`.
 use mathlib.Core.Path.{_≡_, refl, sym, ap, _∙_}
+use mathlib.Core.Logic.{⊎-elim}
 use mathlib.Core.Bool.{Bool, true, false, _||_}
-use mathlib.Core.List.{List}
+use mathlib.Core.List.{List, [], _∷_}
 use Prim.Native.Nat.{ℕ, zero, suc, _+_, _≤_, _<_}
 use native.Mathlib.Nat.{add-zero}
 use native.Mathlib.Omega.{arith}
 use lib.ListN.{length, getD}
+use lib.Seq.{drop-cons}
 use borrow.Author.Tests.{eq-eqb}
-use Rattle.text.specs.Logic.{false-true, not-true-false}
-use Rattle.text.specs.Text.{stands, findIn}
-use Rattle.text.specs.Steps.{find-next}
-use Rattle.text.specs.Laws.{stands-getD}
+use Rattle.text.specs.Logic.{false-true, not-true-false, order}
+use Rattle.text.specs.Text.{begins, stands, findIn}
+use Rattle.text.specs.Steps.{find-here, find-next}
+use Rattle.text.specs.Laws.{stands-byte, stands-getD}
 use Rattle.text.specs.declared.Found.{Found}
 use Rattle.text.specs.declared.Found.the-variants.{At, Nothing}
-use Rattle.seek.specs.Seek.{bothAt, anyOf, orNext, Later}
+use Rattle.seek.specs.Seek.{bothAt, anyOf, orNext, Later, NoneBelow}
 
 or-false : (a b : Bool) → a || b ≡ false → (a ≡ false) × (b ≡ false)
 or-false true b e = absurd (false-true refl e)
@@ -57,3 +59,20 @@ module _ (t s : List ℕ) (from i e w p stop : ℕ) (inv : findIn t s from ≡ f
   pub turn-none : r ≡ Nothing → findIn t s from ≡ findIn t s stop
   unfolding orNext
   turn-none e = up-to-block ∙ ap (λ (x : Found). orNext x (findIn t s stop)) e
+
+-- one more byte, where l is neither above it nor above what bounds those before it
+pub one-more : (s : List ℕ) (a n m l : ℕ) → NoneBelow s a n m → l ≤ m → l ≤ getD s (a + n) 0 → NoneBelow s a (n + 1) l
+one-more s a n m l q h g = λ j w. ⊎-elim (λ (p : j < n). omega (arith, q j p)) (λ (p : n ≤ j). let e : j ≡ n = omega arith in rw e g) (order j n)
+
+-- where all n bytes from i on are above b, none of them is b, and they are passed over
+pub above-none : (b : ℕ) (s : List ℕ) (i n m : ℕ) → i + n ≤ length s → b < m → NoneBelow s i n m → findIn (b ∷ []) s i ≡ findIn (b ∷ []) s (i + n)
+above-none b s i zero m w h q = ap (findIn (b ∷ []) s) (sym (add-zero i))
+above-none b s i (suc n) m w h q =
+    let z : stands (b ∷ []) s (i + n) ≡ false = not-true-false (stands (b ∷ []) s (i + n)) (λ p. absurd (omega (arith, stands-byte b [] s (i + n) p .1 .0, q n (omega arith)))) in
+    let e : i + n + 1 ≡ i + suc n = omega arith in
+    above-none b s i n m (omega arith) h (λ j g. q j (omega arith)) ∙ find-next (b ∷ []) s (i + n) (omega arith) z ∙ ap (findIn (b ∷ []) s) e
+
+-- a text of one byte, where that byte is
+pub byte-here : (b : ℕ) (s : List ℕ) (i : ℕ) → i < length s → getD s i 0 ≡ b → findIn (b ∷ []) s i ≡ At i
+unfolding stands begins
+byte-here b s i h e = find-here (b ∷ []) s i (rw (drop-cons s i 0 h, eq-eqb (getD s i 0) b e))

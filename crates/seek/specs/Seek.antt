@@ -2,7 +2,7 @@
 use mathlib.Core.Path.{_≡_}
 use mathlib.Core.Bool.{Bool, false, _&&_, _||_}
 use mathlib.Core.List.{List}
-use Prim.Native.Nat.{ℕ, zero, suc, _+_, _≤_}
+use Prim.Native.Nat.{ℕ, zero, suc, _+_, _≤_, _<_}
 use lib.ListN.{getD}
 use lib.Dec.{eqb}
 use Rattle.text.specs.declared.Found.{Found}
@@ -27,3 +27,7 @@ pub record Later (answer : ℕ → Found) (i e r : ℕ) : Type 0 where
   pub after : i ≤ r
   pub within : r ≤ e
   pub same : answer i ≡ answer r
+
+-- none of the n bytes from a on is below m
+abbrev pub NoneBelow : List ℕ → ℕ → ℕ → ℕ → Type 0
+NoneBelow s a n m = (j : ℕ) → j < n → m ≤ getD s (a + j) 0

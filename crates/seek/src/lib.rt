@@ -4,8 +4,9 @@
 ghost use mathlib.Core.Path.{_≡_};
 ghost use Prim.Native.Nat.{_≤_, _<_, _+_, min};
 ghost use lib.ListN.{length};
+ghost use Rattle.text.specs.Bytes.{bytes};
 ghost use Rattle.text.specs.Text.{stands, findIn};
-ghost use Rattle.seek.specs.Seek.{bothAt, anyOf, orNext, Later};
+ghost use Rattle.seek.specs.Seek.{bothAt, anyOf, orNext, Later, NoneBelow};
 use text::Found;
 
 // Is there a j below n with b at `at` + j and c at `to` + j? It goes through all n, so that a processor may take many at once.
@@ -122,4 +123,58 @@ pub fn find(s: &[u8], from: usize, t: &[u8], k: usize, l: usize) -> Found
         return Found::Nothing;
     }
     find_long(s, from, e, t, k, l)
+}
+
+// The least of the n bytes from `at` on, of which the search asks only that none is below it. It goes through all n, so that a processor may take many at once.
+fn least(s: &[u8], at: usize, n: usize) -> u8
+    requires { ⌜ at + n ≤ length (now s) ⌝ }
+    ensures { λ r. ⌜ NoneBelow (now (s .entry)) at n r ⌝ }
+{
+    let mut m = 255;
+    let mut j = 0;
+    while j < n {
+        if s[at + j] < m {
+            m = s[at + j];
+        }
+        j += 1;
+    }
+    m
+}
+
+// The bytes that are passed over at once where none is as low as a CR.
+const PLAIN: usize = 512;
+
+// A later place with the same answer: past the blocks that have no byte as low as a CR.
+fn pass_plain(s: &[u8], from: usize) -> usize
+    requires { ⌜ from ≤ length (now s) ⌝ }
+    ensures { λ r. ⌜ Later (findIn (bytes "\r") (now (s .entry))) from (length (now (s .entry))) r ⌝ }
+{
+    let mut i = from;
+    while PLAIN <= s.len() - i {
+        if least(s, i, PLAIN) <= b'\r' {
+            return i;
+        }
+        i += PLAIN;
+    }
+    i
+}
+
+// The first CR at or after `from`. One that is near is found place by place: the blocks take their time to start.
+pub fn find_cr(s: &[u8], from: usize) -> Found
+    ensures { λ r. ⌜ r ≡ findIn (bytes "\r") (now (s .entry)) from ⌝ }
+{
+    if s.len() <= from {
+        return Found::Nothing;
+    }
+    if s[from] == b'\r' {
+        return Found::At(from);
+    }
+    if s.len() - from < BLOCK {
+        return text::find(s, from, b"\r");
+    }
+    if hit(s, from, b'\r', from, b'\r', BLOCK) {
+        return text::find(s, from, b"\r");
+    }
+    let p = pass_plain(s, from);
+    find(s, p, b"\r", 0, 0)
 }
