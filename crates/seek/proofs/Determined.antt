@@ -8,3 +8,6 @@ find-one κs a x y s t = determined
 
 pub find-cr-one : One calls.find_cr.Reads.Post
 find-cr-one κs a x y s t = determined
+
+pub skip-spaces-one : One calls.skip_spaces.Reads.Post
+skip-spaces-one κs a x y s t = determined

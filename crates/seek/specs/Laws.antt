@@ -1,4 +1,5 @@
--- What lets a search pass over a block: where two of its bytes don't stand, a text doesn't. Rests on text's laws of `stands` and `findIn`.
+-- What lets a search pass over a block: where two of its bytes don't stand, or all bytes are above it, a text doesn't; and the skip, where all are spaces.
+-- Rests on text's laws of `stands` and `findIn`, and its steps of `past`.
 use mathlib.Core.Path.{_≡_, refl, sym, ap, _∙_}
 use mathlib.Core.Logic.{⊎-elim}
 use mathlib.Core.Bool.{Bool, true, false, _||_}
@@ -8,14 +9,15 @@ use native.Mathlib.Nat.{add-zero}
 use native.Mathlib.Omega.{arith}
 use lib.ListN.{length, getD}
 use lib.Seq.{drop-cons}
-use borrow.Author.Tests.{eq-eqb}
-use Rattle.text.specs.Logic.{false-true, not-true-false, order}
-use Rattle.text.specs.Text.{begins, stands, findIn}
-use Rattle.text.specs.Steps.{find-here, find-next}
+use borrow.Author.Tests.{eq-eqb, ne-eqb}
+use Rattle.text.specs.Logic.{false-true, not-true-false, and-both, order}
+use Rattle.text.specs.Text.{among, blanks, isBlank, past, begins, stands, findIn}
+use Rattle.text.specs.Steps.{past-more, past-stop, find-here, find-next}
 use Rattle.text.specs.Laws.{stands-byte, stands-getD}
+use Rattle.text.specs.declared.Blanks.the-variants.{Space}
 use Rattle.text.specs.declared.Found.{Found}
 use Rattle.text.specs.declared.Found.the-variants.{At, Nothing}
-use Rattle.seek.specs.Seek.{bothAt, anyOf, orNext, Later, NoneBelow}
+use Rattle.seek.specs.Seek.{bothAt, spaceAt, anyOf, allOf, orNext, Later, NoneBelow}
 
 or-false : (a b : Bool) → a || b ≡ false → (a ≡ false) × (b ≡ false)
 or-false true b e = absurd (false-true refl e)
@@ -76,3 +78,17 @@ above-none b s i (suc n) m w h q =
 pub byte-here : (b : ℕ) (s : List ℕ) (i : ℕ) → i < length s → getD s i 0 ≡ b → findIn (b ∷ []) s i ≡ At i
 unfolding stands begins
 byte-here b s i h e = find-here (b ∷ []) s i (rw (drop-cons s i 0 h, eq-eqb (getD s i 0) b e))
+
+-- n spaces from i on are passed over
+pub spaces-all : (s : List ℕ) (i n : ℕ) → i + n ≤ length s → allOf (spaceAt s i) n ≡ true → past (isBlank Space) s i ≡ past (isBlank Space) s (i + n)
+unfolding allOf spaceAt
+spaces-all s i zero w e = ap (past (isBlank Space) s) (sym (add-zero i))
+spaces-all s i (suc n) w e =
+    let q = and-both (allOf (spaceAt s i) n) (spaceAt s i n) e in
+    let z : isBlank Space (getD s (i + n) 0) ≡ true = unfold isBlank among blanks in rw (q .1) in
+    let m : i + n + 1 ≡ i + suc n = omega arith in
+    spaces-all s i n (omega arith) (q .0) ∙ past-more (isBlank Space) s (i + n) (omega arith) z ∙ ap (past (isBlank Space) s) m
+
+-- where no space is, the spaces end
+pub no-space : (s : List ℕ) (i : ℕ) → i < length s → (getD s i 0 ≡ 32 → ⊥) → past (isBlank Space) s i ≡ i
+no-space s i h e = past-stop (isBlank Space) s i h (unfold isBlank among blanks in rw (ne-eqb (getD s i 0) 32 e))

@@ -1,6 +1,6 @@
--- What the steps of a search by blocks promise one another. The search itself promises `text`'s definition, `findIn`, and nothing here.
+-- What the steps of a search by blocks promise one another. The public functions promise `text`'s definitions, `findIn` and `past`, and nothing here.
 use mathlib.Core.Path.{_≡_}
-use mathlib.Core.Bool.{Bool, false, _&&_, _||_}
+use mathlib.Core.Bool.{Bool, true, false, _&&_, _||_}
 use mathlib.Core.List.{List}
 use Prim.Native.Nat.{ℕ, zero, suc, _+_, _≤_, _<_}
 use lib.ListN.{getD}
@@ -12,10 +12,19 @@ use Rattle.text.specs.declared.Found.the-variants.{At, Nothing}
 unfoldable pub bothAt : List ℕ → ℕ → ℕ → ℕ → ℕ → ℕ → Bool
 bothAt s a b d c j = eqb (getD s (a + j) 0) b && eqb (getD s (d + j) 0) c
 
+-- a space stands j bytes on from a
+unfoldable pub spaceAt : List ℕ → ℕ → ℕ → Bool
+spaceAt s a j = eqb (getD s (a + j) 0) 32
+
 -- f holds of a number below n
 unfoldable pub anyOf : (ℕ → Bool) → ℕ → Bool
 anyOf f zero = false
 anyOf f (suc n) = anyOf f n || f n
+
+-- f holds of every number below n
+unfoldable pub allOf : (ℕ → Bool) → ℕ → Bool
+allOf f zero = true
+allOf f (suc n) = allOf f n && f n
 
 -- what was found, or else what the next search finds
 unfoldable pub orNext : Found → Found → Found

@@ -1,12 +1,13 @@
-// The search of `text` for long inputs, a block of places at a time, behind the same contract.
+// The search of `text` and its skip over spaces for long inputs, a block of places at a time, behind the same contracts.
 // A text is looked for by two of its bytes, those at k and l in it. The caller picks two that ordinary traffic seldom has so far apart:
 // they change what a search costs, and nothing else.
 ghost use mathlib.Core.Path.{_≡_};
 ghost use Prim.Native.Nat.{_≤_, _<_, _+_, min};
 ghost use lib.ListN.{length};
 ghost use Rattle.text.specs.Bytes.{bytes};
-ghost use Rattle.text.specs.Text.{stands, findIn};
-ghost use Rattle.seek.specs.Seek.{bothAt, anyOf, orNext, Later, NoneBelow};
+ghost use Rattle.text.specs.Text.{isBlank, past, stands, findIn};
+ghost use Rattle.seek.specs.Seek.{bothAt, spaceAt, anyOf, allOf, orNext, Later, NoneBelow};
+use text::Blanks;
 use text::Found;
 
 // Is there a j below n with b at `at` + j and c at `to` + j? It goes through all n, so that a processor may take many at once.
@@ -177,4 +178,47 @@ pub fn find_cr(s: &[u8], from: usize) -> Found
     }
     let p = pass_plain(s, from);
     find(s, p, b"\r", 0, 0)
+}
+
+// Are the n bytes from `at` on all spaces? It goes through all n, so that a processor may take many at once.
+fn spaces(s: &[u8], at: usize, n: usize) -> bool
+    requires { ⌜ at + n ≤ length (now s) ⌝ }
+    ensures { λ r. ⌜ r ≡ allOf (spaceAt (now (s .entry)) at) n ⌝ }
+{
+    let mut all = true;
+    let mut j = 0;
+    while j < n {
+        all = all & (s[at + j] == b' ');
+        j += 1;
+    }
+    all
+}
+
+// A later place from which the spaces end at the same place: past the blocks of four that are all spaces.
+fn pass_spaces(s: &[u8], from: usize) -> usize
+    requires { ⌜ from ≤ length (now s) ⌝ }
+    ensures { λ r. ⌜ past (isBlank Blanks.Space) (now (s .entry)) from ≡ past (isBlank Blanks.Space) (now (s .entry)) r ⌝ }
+{
+    let mut i = from;
+    while FOUR <= s.len() - i {
+        if !spaces(s, i, FOUR) {
+            return i;
+        }
+        i += FOUR;
+    }
+    i
+}
+
+// The first place at or after `from` whose byte is no space, as `text::skip` has it; one at `from` is told at once.
+pub fn skip_spaces(s: &[u8], from: usize) -> usize
+    ensures { λ r. ⌜ r ≡ past (isBlank Blanks.Space) (now (s .entry)) from ⌝ }
+{
+    if s.len() <= from {
+        return from;
+    }
+    if s[from] != b' ' {
+        return from;
+    }
+    let p = pass_spaces(s, from);
+    text::skip(Blanks::Space, s, p)
 }
