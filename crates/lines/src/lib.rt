@@ -143,7 +143,7 @@ pub fn find_fixed(buf: &[u8], from: usize, fixed: Fixed) -> Found
     find_long(buf, from, fixed)
 }
 
-// The first CRLF at or after `from`.
+// The first CRLF at or after `from`: in a long input at the first CR, or behind it.
 pub fn find_crlf(buf: &[u8], from: usize) -> Found
     ensures { λ r. ⌜ r ≡ findIn crlf (now (buf .entry)) from ⌝ }
 {
@@ -153,7 +153,13 @@ pub fn find_crlf(buf: &[u8], from: usize) -> Found
     if buf.len() < seek::SHORT {
         return text::find(buf, from, &CRLF);
     }
-    seek::find(buf, from, &CRLF, 0, 1)
+    let Found::At(p) = seek::find_cr(buf, from) else {
+        return Found::Nothing;
+    };
+    if text::matches_at(buf, p, &CRLF) {
+        return Found::At(p);
+    }
+    seek::find(buf, p, &CRLF, 0, 1)
 }
 
 // How long the fixed text is, with its CRLFs.
