@@ -170,10 +170,11 @@ pub fn find_cr(s: &[u8], from: usize) -> Found
     if s[from] == b'\r' {
         return Found::At(from);
     }
-    if s.len() - from < BLOCK {
+    if s.len() - from <= BLOCK {
         return text::find(s, from, b"\r");
     }
-    if hit(s, from, b'\r', from, b'\r', BLOCK) {
+    let next = from + 1;
+    if hit(s, next, b'\r', next, b'\r', BLOCK) {
         return text::find(s, from, b"\r");
     }
     let p = pass_plain(s, from);

@@ -33,6 +33,9 @@ find-requires c κs = search needs
 returns-3 : tie.Need-returns-3
 returns-3 c = search needs
 
+add-next : tie.Need-add-next
+add-next c = search needs
+
 hit-requires : tie.Need-hit-requires
 hit-requires c κs = search needs
 
@@ -68,6 +71,7 @@ find-cr-spec =
     slice-aggregate-find
     find-requires
     returns-3
+    add-next
     hit-requires
     slice-aggregate-find-2
     find-requires-2
