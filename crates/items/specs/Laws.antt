@@ -29,7 +29,8 @@ use Rattle.parser.specs.Laws.{numeric-tail}
 use Rattle.parser.specs.declared.Digits.{Digits}
 use Rattle.parser.specs.declared.Numeric.{Numeric}
 use Rattle.parser.specs.declared.Numeric.the-variants as numeric
-use Rattle.places.specs.Places.{placeIn, place-inside}
+use Rattle.places.specs.Places.{placeIn}
+use Rattle.places.specs.Laws as places
 use Rattle.places.specs.declared.Places.{Places}
 use Rattle.answers.specs.declared.Kind.{Kind}
 use Rattle.answers.specs.declared.Kind.the-variants as kind
@@ -238,7 +239,7 @@ module _ (s : List ℕ) (e : ℕ) (p : Places) where
   byte-inside c k q = omega (arith, stands-fits (c ∷ []) s k (omega arith) (found-at (c ∷ []) s e k q .here))
 
   place-some : (l : Fixed) (k : ℕ) → placeIn s p l ≡ At k → k < length s
-  place-some l k q = omega (arith, place-inside s p l k q, fixed-some l)
+  place-some l k q = omega (arith, places.place-inside s p l k q, fixed-some l)
 
 pub place-within : (x : First) (s : List ℕ) (e : ℕ) (p : Places) (k : ℕ) → firstPlace x s e p ≡ At k → k < length s
 place-within first.Greater s e p = byte-inside s e p 62
@@ -249,12 +250,11 @@ place-within first.Modem s e p = place-some s e p fixed.Modem
 
 -- what is sought stands at its first place
 pub place-here : (x : First) (s : List ℕ) (e : ℕ) (p : Places) (k : ℕ) → firstPlace x s e p ≡ At k → stands (sought x) s k ≡ true
-unfolding placeIn
 place-here first.Greater s e p k q = found-at (bytes ">") s e k q .here
 place-here first.Sign s e p k q = found-at (bytes "@") s e k q .here
-place-here first.Cme s e p k q = found-at (fixedText fixed.Cme) s (p .from) k q .here
-place-here first.Cms s e p k q = found-at (fixedText fixed.Cms) s (p .from) k q .here
-place-here first.Modem s e p k q = found-at (fixedText fixed.Modem) s (p .from) k q .here
+place-here first.Cme s e p k q = places.place-here s p fixed.Cme k q
+place-here first.Cms s e p k q = places.place-here s p fixed.Cms k q
+place-here first.Modem s e p k q = places.place-here s p fixed.Modem k q
 
 -- The ways out of `first_from`: idle, nowhere, or by what the rule gives at its place.
 module _ (x : First) (s : List ℕ) (e : ℕ) (p : Places) (d : ℕ) where

@@ -28,8 +28,12 @@ use Rattle.lines.specs.declared.Fixed.the-variants as fixed
 use Rattle.parser.specs.Parser.{noticeAt}
 use Rattle.parser.specs.declared.Notice.{Notice}
 use Rattle.parser.specs.declared.Notice.the-variants as notice
-use Rattle.places.specs.Places.{firstPlaces, placeIn, FirstPlaces, connect-first}
+use Rattle.places.specs.Places.{firstLines, firstPlaces, passed, lineIn, FirstLines}
+use Rattle.places.specs.Laws.{connect-first, passed-ok, Passing, passed-others}
+use Rattle.places.specs.declared.Lines.{Lines}
 use Rattle.places.specs.declared.Places.{Places}
+use Rattle.places.specs.declared.Passed.{Passed}
+use Rattle.places.specs.declared.Passed.the-variants as pass
 use Rattle.answers.specs.declared.Kind.{Kind}
 use Rattle.answers.specs.declared.Kind.the-variants as kind
 use Rattle.answers.specs.declared.Answer.{Answer}
@@ -42,12 +46,14 @@ use Rattle.items.specs.declared.Tried.the-variants as tries
 use Rattle.items.specs.declared.Hints.{Hints}
 use Rattle.items.specs.declared.Level.{Level}
 use Rattle.items.specs.Rules.{orElse, foundOr, skipped, heard, notices, firstCustom, kindOf, success, customSuccess, lineSuccess, throughCrlf, connectAt, firstConnect, connected, connectSuccess, successes, customPrompts, lineTried, notAllowed}
-use Rattle.items.specs.Hints.{promptBytes, firsts, unknown}
+use Rattle.items.specs.Hints.{before, onward, promptBytes, firsts, unknown}
 use Rattle.items.specs.Laws.{partIn, no-more, one-more, text-is, matched}
 use Rattle.items.specs.Connect.{Least, least-connect, connect-bare, begun-fits, connect-begun}
 use Rattle.level.specs.declared.Noticed.{Noticed}
 use Rattle.level.specs.declared.Noticed.the-variants as noticed
-use Rattle.level.specs.Level.{errorsFrom, outermost, below, levelFrom, Unless, SameCustoms, OthersTold}
+use Rattle.level.specs.declared.Succeeded.{Succeeded}
+use Rattle.level.specs.declared.Succeeded.the-variants as succeeded
+use Rattle.level.specs.Level.{errorsFrom, behind, outermost, below, levelFrom, Unless, SameCustoms, OthersTold, PlacesTold}
 
 -- rule 1
 module _ (s : List ℕ) (a : ℕ) (p : a ≡ past (isBlank blanks.Space) s 0) (r : Found) (q : r ≡ findIn crlf s a) where
@@ -127,24 +133,29 @@ module _ (s : List ℕ) (e : ℕ) where
     unfolding customSuccess
     custom-success-none q = matched (λ (y : Occurs). customSuccess y s e) p q
 
-  -- a fixed line at its first place
-  module _ (l : Fixed) (r : Found) where
-    pub line-success-is : (k n : ℕ) → r ≡ At k → n ≡ length (fixedText l) → (u : Tried) → u ≡ success s e k (k + n) → u ≡ lineSuccess s e l r
-    unfolding lineSuccess
-    line-success-is k n q v u w = w ∙ ap (λ (m : ℕ). success s e k (k + m)) v ∙ ap (lineSuccess s e l) (sym q)
+  pub line-success-none : (l : Fixed) (r : Found) → r ≡ Nothing → tries.Next ≡ lineSuccess s e l r
+  unfolding lineSuccess
+  line-success-none l r q = ap (lineSuccess s e l) (sym q)
 
-    pub line-success-none : r ≡ Nothing → tries.Next ≡ lineSuccess s e l r
-    unfolding lineSuccess
-    line-success-none q = ap (lineSuccess s e l) (sym q)
+  -- OK at its first place, by what the pass gave
+  module _ (r : Passed) (p : r ≡ passed s e) where
+    module _ (k : ℕ) (q : r ≡ pass.Ok k) where
+      ok-at : findIn (fixedText fixed.Ok) s e ≡ At k
+      ok-at = passed-ok s e k (sym p ∙ q)
 
-  pub line-room : (l : Fixed) (r : Found) → r ≡ findIn (fixedText l) s e → (k : ℕ) → r ≡ At k → (e ≤ k) × (k + length (fixedText l) ≤ length s)
-  line-room l r p k q =
-      let w = found-at (fixedText l) s e k (sym p ∙ q) in
-      (w .after, stands-fits (fixedText l) s k (fixed-some l) (w .here))
+      pub ok-room : k + length (fixedText fixed.Ok) ≤ length s
+      ok-room = stands-fits (fixedText fixed.Ok) s k (omega arith) (found-at (fixedText fixed.Ok) s e k ok-at .here)
 
-  -- the place asked for is the first one
-  pub success-at : (p : Places) → FirstPlaces s e p → (l : Fixed) (r : Found) → r ≡ placeIn s p l → (u : Tried) → u ≡ lineSuccess s e l r → u ≡ lineSuccess s e l (findIn (fixedText l) s e)
-  success-at p w l r q u v = v ∙ ap (lineSuccess s e l) (q ∙ w l)
+      pub ok-is : (n : ℕ) → n ≡ length (fixedText fixed.Ok) → (u : Tried) → u ≡ success s e k (k + n) → u ≡ lineSuccess s e fixed.Ok (findIn (fixedText fixed.Ok) s e)
+      unfolding lineSuccess
+      ok-is n v u w = w ∙ ap (λ (m : ℕ). success s e k (k + m)) v ∙ ap (lineSuccess s e fixed.Ok) (sym ok-at)
+
+    module _ (x : Lines) (y : Places) (q : r ≡ pass.Others x y) where
+      pub others-passed : Passing s e x y
+      others-passed = passed-others s e x y (sym p ∙ q)
+
+      pub ok-none : tries.Next ≡ lineSuccess s e fixed.Ok (findIn (fixedText fixed.Ok) s e)
+      ok-none = line-success-none fixed.Ok (findIn (fixedText fixed.Ok) s e) (others-passed .none)
 
   -- CONNECT with text: its head at k, the first CRLF behind that sought from `start` on
   module _ (k start : ℕ) (z : start ≡ k + 10) (r : Found) (p : r ≡ findIn crlf s start) where
@@ -168,10 +179,10 @@ module _ (s : List ℕ) (e : ℕ) where
         ∙ ap (λ (x : Found). connected s e k (throughCrlf x)) (sym q) ∙ at-text
 
   -- CONNECT at its first place, r
-  module _ (d : Digester) (p : Places) (w : FirstPlaces s e p) (r : Found) (q : r ≡ connectPlace d (placeIn s p)) where
+  module _ (d : Digester) (x : Lines) (w : FirstLines s e x) (r : Found) (q : r ≡ connectPlace d (lineIn s e x)) where
     first-is : r ≡ firstConnect d s e
     unfolding firstConnect
-    first-is = q ∙ connect-first d s e p w
+    first-is = q ∙ connect-first d s e x w
 
     pub connect-nowhere : r ≡ Nothing → tries.Next ≡ connectSuccess d s e (firstConnect d s e)
     unfolding connectSuccess
@@ -212,19 +223,19 @@ module _ (l : Fixed) (f r : Found) (p : r ≡ f) where
   unfolding lineTried
   line-none q = matched (lineTried l) p q
 
-pub line-at : (s : List ℕ) (e : ℕ) (p : Places) → FirstPlaces s e p → (l : Fixed) (u : Tried) → u ≡ lineTried l (placeIn s p l) → u ≡ lineTried l (findIn (fixedText l) s e)
-line-at s e p w l u v = v ∙ ap (lineTried l) (w l)
+pub line-at : (s : List ℕ) (e : ℕ) (x : Lines) → FirstLines s e x → (l : Fixed) (u : Tried) → u ≡ lineTried l (lineIn s e x l) → u ≡ lineTried l (findIn (fixedText l) s e)
+line-at s e x w l u v = v ∙ ap (lineTried l) (w l)
 
--- what was asked with the level's first places, and on the outermost level with nothing known
-module _ (s : List ℕ) (e : ℕ) (p : Places) (q : p ≡ firstPlaces e) (r : Level) where
-  pub bytes-at : (h : Hints) → h ≡ unknown → r ≡ promptBytes s e p h → r ≡ promptBytes s e (firstPlaces e) unknown
-  bytes-at h z w = w ∙ ap (λ (x : Places). promptBytes s e x h) q ∙ ap (promptBytes s e (firstPlaces e)) z
-
-  pub firsts-at : (h : Hints) → r ≡ firsts s e p h → r ≡ firsts s e (firstPlaces e) h
+-- what was asked with the level's first places, under a table with the same records for rules 4 and 5
+module _ (s : List ℕ) (e : ℕ) (p o : Places) (q : p ≡ o) (r : Level) where
+  pub firsts-at : (h : Hints) → r ≡ firsts s e p h → r ≡ firsts s e o h
   firsts-at h w = w ∙ ap (λ (x : Places). firsts s e x h) q
 
-  pub errors-at : (l m : List Entry) → l ≡ m → (h : Hints) → r ≡ errorsFrom l s e p h → r ≡ errorsFrom m s e (firstPlaces e) h
-  errors-at l m z h w = w ∙ ap (λ (x : Places). errorsFrom l s e x h) q ∙ ap (λ (x : List Entry). errorsFrom x s e (firstPlaces e) h) z
+  pub behind-at : (u t : List ℕ) → SameCustoms u t → r ≡ behind u s e p → r ≡ behind t s e o
+  behind-at u t z w =
+      w
+      ∙ ap (behind u s e) q
+      ∙ (λ i. before (customPrompts (z mark.Prompt refl i) s e) (onward (promptBytes s e o unknown) (errorsFrom (z mark.Error refl i) s e o)))
 
 -- the two kinds of level
 module _ (d : Digester) (t s : List ℕ) (h : Hints) (e : ℕ) (p : e ≡ skipped s) (b : Bool) (r : Level) where
@@ -252,13 +263,13 @@ module _ (s : List ℕ) (e : ℕ) (b : Bool) (p : b ≡ stands (fixedText fixed.
 pub others-told : (t : List ℕ) (r : Noticed) → OthersTold t r → (b : Bool) → r ≡ noticed.Next b → Unless b (SameCustoms [] t)
 others-told t r w b q = rw q at w
 
--- rules 3 and 4 under two tables that have the same records but for the notices
+pub places-told : (s : List ℕ) (e : ℕ) (r : Succeeded) (x : Lines) (p : Places) → r ≡ succeeded.Next x p → PlacesTold s e r → (x ≡ firstLines s e) × (p ≡ firstPlaces s e)
+places-told s e r x p q w = rw q at w
+
+-- rule 3 under two tables that have the same records but for the notices
 module _ (t v : List ℕ) (w : SameCustoms t v) (s : List ℕ) (e : ℕ) (r : Tried) where
   pub same-successes : (d : Digester) → r ≡ successes d (entries mark.Success t 0 0) s e → r ≡ successes d (entries mark.Success v 0 0) s e
   same-successes d q = q ∙ ap (λ (l : List Entry). successes d l s e) (w mark.Success refl)
-
-  pub same-prompts : r ≡ customPrompts (entries mark.Prompt t 0 0) s e → r ≡ customPrompts (entries mark.Prompt v 0 0) s e
-  same-prompts q = q ∙ ap (λ (l : List Entry). customPrompts l s e) (w mark.Prompt refl)
 
 -- The walk of the notices: all records before number n, which begins at `at`, are notices.
 abbrev pub OnlyNotices : List ℕ → ℕ → ℕ → Type 0

@@ -9,7 +9,7 @@ use Rattle.table.specs.Table.{Token, Entry, sameMark, ofMark, entries}
 use Rattle.table.specs.declared.Mark.{Mark}
 use Rattle.table.specs.declared.Mark.the-variants as mark
 use Rattle.lines.specs.declared.Digester.{Digester}
-use Rattle.places.specs.Places.{firstPlaces}
+use Rattle.places.specs.Places.{firstLines, firstPlaces, unsought}
 use Rattle.places.specs.declared.Places.{Places}
 use Rattle.items.specs.declared.Tried.{Tried}
 use Rattle.items.specs.declared.Tried.the-variants as tries
@@ -20,6 +20,8 @@ use Rattle.items.specs.Rules.{skipped, notices, firstCustom, successes, customP
 use Rattle.items.specs.Hints.{before, onward, promptBytes, numerics, firsts, unknown}
 use Rattle.level.specs.declared.Noticed.{Noticed}
 use Rattle.level.specs.declared.Noticed.the-variants as noticed
+use Rattle.level.specs.declared.Succeeded.{Succeeded}
+use Rattle.level.specs.declared.Succeeded.the-variants as succeeded
 
 -- NA, and then the level below
 abbrev pub notAllowedFrom : List ℕ → ℕ → Hints → Level
@@ -31,19 +33,23 @@ unfolding before onward
 errorsFrom l s e p h =
     before (customError (firstCustom l s e)) (onward (numerics s e p h) (λ k. before (lineErrors s e) (notAllowedFrom s e k)))
 
--- rules 2 to 5 on the outermost level
+-- rules 4 and 5 on the outermost level, by these first places of the heads
+abbrev pub behind : List ℕ → List ℕ → ℕ → Places → Level
+behind t s e p =
+    before (customPrompts (entries mark.Prompt t 0 0) s e)
+    (onward (promptBytes s e p unknown) (errorsFrom (entries mark.Error t 0 0) s e p))
+
+-- rules 2 to 5 there
 unfoldable pub outermost : Digester → List ℕ → List ℕ → ℕ → Level
 unfolding before onward errorsFrom
 outermost d t s e =
     before (notices (entries mark.Notice t 0 0) s e)
-    (before (successes d (entries mark.Success t 0 0) s e)
-    (before (customPrompts (entries mark.Prompt t 0 0) s e)
-    (onward (promptBytes s e (firstPlaces e) unknown) (errorsFrom (entries mark.Error t 0 0) s e (firstPlaces e)))))
+    (before (successes d (entries mark.Success t 0 0) s e) (behind t s e (firstPlaces s e)))
 
 -- and on one below it
 unfoldable pub below : List ℕ → List ℕ → ℕ → Hints → Level
 unfolding before onward
-below t s e h = before (notices (entries mark.Notice t 0 0) s e) (onward (firsts s e (firstPlaces e) h) (notAllowedFrom s e))
+below t s e h = before (notices (entries mark.Notice t 0 0) s e) (onward (firsts s e (unsought e) h) (notAllowedFrom s e))
 
 unfoldable pub levelFrom : Bool → Digester → List ℕ → List ℕ → Hints → Level
 unfolding outermost below
@@ -69,6 +75,15 @@ Unless false P = P
 abbrev pub noticedTried : Noticed → Tried
 noticedTried (noticed.Done a) = tries.Done a
 noticedTried (noticed.Next b) = tries.Next
+
+-- what rule 3 gave, and that the places that it hands on are the first ones
+abbrev pub succeededTried : Succeeded → Tried
+succeededTried (succeeded.Done a) = tries.Done a
+succeededTried (succeeded.Next x p) = tries.Next
+
+abbrev pub PlacesTold : List ℕ → ℕ → Succeeded → Type 0
+PlacesTold s e (succeeded.Done a) = Unit {0}
+PlacesTold s e (succeeded.Next x p) = (x ≡ firstLines s e) × (p ≡ firstPlaces s e)
 
 -- Rules 3 to 5 read no UR record: those with another mark are the same in the two tables.
 abbrev pub SameCustoms : List ℕ → List ℕ → Type 0

@@ -27,7 +27,8 @@ use Rattle.parser.specs.Moved.{prompt-moved, custom-moved, shiftNumeric, numeri
 use Rattle.parser.specs.declared.Numeric.{Numeric}
 use Rattle.parser.specs.declared.Numeric.the-variants as numeric
 use Rattle.parser.specs.declared.Notice.{Notice}
-use Rattle.places.specs.Places.{firstPlaces, are-first}
+use Rattle.places.specs.Places.{firstPlaces, unsought}
+use Rattle.places.specs.Laws.{heads-first, sought-first}
 use Rattle.items.specs.declared.Occurs.{Occurs}
 use Rattle.items.specs.declared.Occurs.the-variants as occurs
 use Rattle.items.specs.declared.Tried.{Tried}
@@ -242,12 +243,12 @@ last-says : (s : List ℕ) (e : ℕ) (h : Hints) → Known s e h → Says s e (n
 last-says s e h w = says-of s e (sym (or-next (notAllowed s e))) (notAllowedFrom s e h) (before-says s e (notAllowed s e) tries.Next (level.Next e h) (refl, (refl, w)))
 
 module _ (d : Digester) (t s : List ℕ) (e : ℕ) (l : e ≤ length s) where
-  errors-say : (h : Hints) → Known s e h → Says s e (errors (entries mark.Error t 0 0) s e) (errorsFrom (entries mark.Error t 0 0) s e (firstPlaces e) h)
+  errors-say : (h : Hints) → Known s e h → Says s e (errors (entries mark.Error t 0 0) s e) (errorsFrom (entries mark.Error t 0 0) s e (firstPlaces s e) h)
   unfolding errors errorsFrom
   errors-say h w =
       let rest = orElse (lineErrors s e) (notAllowed s e) in
       before-says s e (customError (firstCustom (entries mark.Error t 0 0) s e)) (orElse (numericErrors s e) rest) _
-      (onward-says s e (numericErrors s e) rest (numerics s e (firstPlaces e) h) _ (numerics-say s e (firstPlaces e) (are-first s e (firstPlaces e) refl) l h w) (λ k v.
+      (onward-says s e (numericErrors s e) rest (numerics s e (firstPlaces s e) h) _ (numerics-say s e (firstPlaces s e) (heads-first s e (firstPlaces s e) refl) l h w) (λ k v.
       before-says s e (lineErrors s e) (notAllowed s e) (notAllowedFrom s e k) (last-says s e k v)))
 
   outermost-says : length s ≤ 4096 → Says s e (tried d (tokens t) s e) (outermost d t s e)
@@ -262,7 +263,7 @@ module _ (d : Digester) (t s : List ℕ) (e : ℕ) (l : e ≤ length s) where
       (before-says s e heard (orElse success (orElse custom (orElse bytes error))) _
       (before-says s e success (orElse custom (orElse bytes error)) _
       (before-says s e custom (orElse bytes error) _
-      (onward-says s e bytes error (promptBytes s e (firstPlaces e) unknown) _ (bytes-say s e (firstPlaces e) (are-first s e (firstPlaces e) refl) l unknown (nothing-known s e g)) errors-say))))
+      (onward-says s e bytes error (promptBytes s e (firstPlaces s e) unknown) _ (bytes-say s e (firstPlaces s e) (heads-first s e (firstPlaces s e) refl) l unknown (nothing-known s e g)) errors-say))))
 
   -- The retry lemma: where the others are gone, a level can only answer a notice, one of the five, or NA.
   below-says : Gone d (tokens t) s e → (h : Hints) → Known s e h → Says s e (tried d (tokens t) s e) (below t s e h)
@@ -271,7 +272,7 @@ module _ (d : Digester) (t s : List ℕ) (e : ℕ) (l : e ≤ length s) where
       let five = orElse (given first.Greater s e) (given first.Sign s e) in
       before-says s e (notices (ofMark mark.Notice 0 (tokens t)) s e) _ _
       (rw (z .success, z .prompt, z .custom, z .error, or-assoc five (numericErrors s e) (notAllowed s e))
-      (onward-says s e _ _ (firsts s e (firstPlaces e) h) _ (firsts-say s e (firstPlaces e) (are-first s e (firstPlaces e) refl) l h w) (last-says s e)))
+      (onward-says s e _ _ (firsts s e (unsought e) h) _ (firsts-say s e (unsought e) (sought-first s e (unsought e) refl) l h w) (last-says s e)))
 
 -- A level says what rules 1 to 5 say.
 pub level-says : (d : Digester) (t s : List ℕ) (h : Hints) (b : Bool) → length s ≤ 4096 → (b ≡ false → GoneAll d (tokens t) s × Known s 0 h) → Says s (skipped s) (tried d (tokens t) s (skipped s)) (levelFrom b d t s h)

@@ -9,9 +9,10 @@ ghost use Rattle.table.specs.declared.Mark.the-variants as mark;
 ghost use Rattle.text.specs.Text.{findIn};
 ghost use Rattle.lines.specs.Lines.{crlf, fixedText};
 ghost use Rattle.parser.specs.Parser.{lineEnding, noticeAt};
-ghost use Rattle.places.specs.Places.{FirstPlaces, placeIn};
-ghost use Rattle.items.specs.Rules.{skipped, heard, notices, firstCustom, kindOf, success, customSuccess, lineSuccess, throughCrlf, firstConnect, connected, connectSuccess, successes, lineTried, lineErrors, notAllowed};
-ghost use Rattle.level.specs.Level.{Unless, SameCustoms, OthersTold, noticedTried, errorsFrom, outermost, below, levelFrom};
+ghost use Rattle.places.specs.Places.{FirstLines, lineIn};
+ghost use Rattle.items.specs.declared.Tried.the-variants as tries;
+ghost use Rattle.items.specs.Rules.{skipped, heard, notices, firstCustom, kindOf, success, customSuccess, throughCrlf, firstConnect, connected, connectSuccess, successes, lineTried, lineErrors, notAllowed};
+ghost use Rattle.level.specs.Level.{Unless, SameCustoms, OthersTold, PlacesTold, noticedTried, succeededTried, errorsFrom, behind, outermost, below, levelFrom};
 use answers::Answer;
 use answers::Kind;
 use items::Hints;
@@ -21,12 +22,19 @@ use items::Tried;
 use lines::Digester;
 use lines::Fixed;
 use parser::Notice;
+use places::Lines;
+use places::Passed;
 use places::Places;
 use table::Mark;
 use table::Next;
-use text::Blanks;
 use text::Found;
 use text::Span;
+
+// What rule 3 gives: an answer, or, where no OK line stands in buf, the first places of what ranks behind it.
+pub enum Succeeded {
+    Done(Answer),
+    Next(Lines, Places),
+}
 
 // What the notices give: an answer, or whether the table may have other records than notices.
 pub enum Noticed {
@@ -38,7 +46,7 @@ pub enum Noticed {
 fn skipped(s: &[u8]) -> usize
     ensures { λ r. ⌜ r ≡ skipped (now (s .entry)) ⌝ }
 {
-    let a = text::skip(Blanks::Space, s, 0);
+    let a = seek::skip_spaces(s, 0);
     match lines::find_crlf(s, a) {
         Found::At(k) => k,
         Found::Nothing => a,
@@ -105,11 +113,11 @@ fn customs(table: &[u8], others: bool) -> &[u8]
 }
 
 // Rule 3: an Ok whose line stands at k and ends at `end`.
-fn success(s: &[u8], e: usize, k: usize, end: usize) -> Tried
-    ensures { λ r. ⌜ r ≡ success (now (s .entry)) e k end ⌝ }
+fn success(s: &[u8], e: usize, k: usize, end: usize) -> Answer
+    ensures { λ r. ⌜ tries.Done r ≡ success (now (s .entry)) e k end ⌝ }
 {
     let before = text::trimmed_part(s, e, k);
-    Tried::Done(answers::with_payload(Kind::Ok, 0, before, end))
+    answers::with_payload(Kind::Ok, 0, before, end)
 }
 
 // Rule 3: the first CS record that occurs.
@@ -120,19 +128,8 @@ fn custom_success(table: &[u8], s: &[u8], e: usize) -> Tried
         return Tried::Next;
     }
     match items::first_custom(table, Mark::Success, s, e) {
-        Occurs::At(_, len, k) => success(s, e, k, k + (len + 4)),
+        Occurs::At(_, len, k) => Tried::Done(success(s, e, k, k + (len + 4))),
         Occurs::Nothing => Tried::Next,
-    }
-}
-
-// Rule 3: a fixed line, by its first place.
-fn line_success(s: &[u8], e: usize, line: Fixed, first: Found) -> Tried
-    requires { ⌜ first ≡ findIn (fixedText line) (now s) e ⌝ }
-    ensures { λ r. ⌜ r ≡ lineSuccess (now (s .entry)) e line first ⌝ }
-{
-    match first {
-        Found::At(k) => success(s, e, k, k + lines::fixed_len(line)),
-        Found::Nothing => Tried::Next,
     }
 }
 
@@ -142,7 +139,7 @@ fn text_success(s: &[u8], e: usize, k: usize) -> Tried
     ensures { λ r. ⌜ r ≡ connected (now (s .entry)) e k (throughCrlf (findIn crlf (now (s .entry)) (k + 10))) ⌝ }
 {
     let start = k + lines::fixed_len(Fixed::ConnectText);
-    let Found::At(end) = lines::find_crlf(s, start) else {
+    let Found::At(end) = lines::search_crlf(s, start) else {
         return Tried::Next;
     };
     let before = text::trimmed_part(s, e, k);
@@ -155,66 +152,68 @@ fn text_success(s: &[u8], e: usize, k: usize) -> Tried
 }
 
 // Rule 3: CONNECT at its first place, with text only where the digester hears it (R-3).
-fn connect_success(digester: Digester, s: &[u8], e: usize, places: Places) -> Tried
-    requires { ⌜ FirstPlaces (now s) e places ⌝ }
+fn connect_success(digester: Digester, s: &[u8], e: usize, lines: Lines) -> Tried
+    requires { ⌜ FirstLines (now s) e lines ⌝ }
     ensures { λ r. ⌜ r ≡ connectSuccess digester (now (s .entry)) e (firstConnect digester (now (s .entry)) e) ⌝ }
 {
-    let Found::At(k) = places::connect(digester, s, places) else {
+    let Found::At(k) = places::connect(digester, s, e, lines) else {
         return Tried::Next;
     };
     if lines::fixed_at(s, k, Fixed::Connect) {
-        return success(s, e, k, k + lines::fixed_len(Fixed::Connect));
+        return Tried::Done(success(s, e, k, k + lines::fixed_len(Fixed::Connect)));
     }
     text_success(s, e, k)
 }
 
-// Rule 3: a custom success; then OK, else CONNECT.
-fn successes(digester: Digester, table: &[u8], s: &[u8], e: usize, places: Places) -> Tried
-    requires { ⌜ FirstPlaces (now s) e places ⌝ }
-    ensures { λ r. ⌜ r ≡ successes digester (entries mark.Success (now (table .entry)) 0 0) (now (s .entry)) e ⌝ }
+// Rule 3: a custom success; then OK, else CONNECT. One pass finds the lines (R-6).
+fn successes(digester: Digester, table: &[u8], s: &[u8], e: usize) -> Succeeded
+    ensures is { λ r. ⌜ succeededTried r ≡ successes digester (entries mark.Success (now (table .entry)) 0 0) (now (s .entry)) e ⌝ }
+    ensures places { λ r. ⌜ PlacesTold (now (s .entry)) e r ⌝ }
 {
     if let Tried::Done(a) = custom_success(table, s, e) {
-        return Tried::Done(a);
+        return Succeeded::Done(a);
     }
-    let ok = places::place(s, places, Fixed::Ok);
-    if let Tried::Done(a) = line_success(s, e, Fixed::Ok, ok) {
-        return Tried::Done(a);
+    match places::pass(s, e) {
+        Passed::Ok(k) => Succeeded::Done(success(s, e, k, k + lines::fixed_len(Fixed::Ok))),
+        Passed::Others(lines, places) => match connect_success(digester, s, e, lines) {
+            Tried::Done(a) => Succeeded::Done(a),
+            Tried::Next => Succeeded::Next(lines, places),
+        },
     }
-    connect_success(digester, s, e, places)
 }
 
 // Rule 5: a fixed line, by its first place.
-fn line_tried(s: &[u8], places: Places, kind: Kind, line: Fixed) -> Tried
+fn line_tried(s: &[u8], e: usize, lines: Lines, kind: Kind, line: Fixed) -> Tried
     requires { ⌜ kind ≡ kindOf line ⌝ }
-    ensures { λ r. ⌜ r ≡ lineTried line (placeIn (now (s .entry)) places line) ⌝ }
+    ensures { λ r. ⌜ r ≡ lineTried line (lineIn (now (s .entry)) e lines line) ⌝ }
 {
-    match places::place(s, places, line) {
+    match places::line(s, e, lines, line) {
         Found::At(k) => Tried::Done(answers::bare(kind, k + lines::fixed_len(line))),
         Found::Nothing => Tried::Next,
     }
 }
 
 // Rule 5: ERROR, COMMAND NOT SUPPORT, NO CARRIER, BUSY, NO ANSWER, NO DIALTONE.
-fn line_errors(s: &[u8], e: usize, places: Places) -> Tried
-    requires { ⌜ FirstPlaces (now s) e places ⌝ }
+fn line_errors(s: &[u8], e: usize, lines: Lines) -> Tried
+    requires { ⌜ FirstLines (now s) e lines ⌝ }
     ensures { λ r. ⌜ r ≡ lineErrors (now (s .entry)) e ⌝ }
 {
-    if let Tried::Done(a) = line_tried(s, places, Kind::Error, Fixed::Error) {
+    if let Tried::Done(a) = line_tried(s, e, lines, Kind::Error, Fixed::Error) {
         return Tried::Done(a);
     }
-    if let Tried::Done(a) = line_tried(s, places, Kind::Error, Fixed::CommandNotSupport) {
+    if let Tried::Done(a) = line_tried(s, e, lines, Kind::Error, Fixed::CommandNotSupport) {
         return Tried::Done(a);
     }
-    if let Tried::Done(a) = line_tried(s, places, Kind::NoCarrier, Fixed::NoCarrier) {
+    if let Tried::Done(a) = line_tried(s, e, lines, Kind::NoCarrier, Fixed::NoCarrier) {
         return Tried::Done(a);
     }
-    if let Tried::Done(a) = line_tried(s, places, Kind::Busy, Fixed::Busy) {
+    if let Tried::Done(a) = line_tried(s, e, lines, Kind::Busy, Fixed::Busy) {
         return Tried::Done(a);
     }
-    if let Tried::Done(a) = line_tried(s, places, Kind::NoAnswer, Fixed::NoAnswer) {
+    if let Tried::Done(a) = line_tried(s, e, lines, Kind::NoAnswer, Fixed::NoAnswer) {
         return Tried::Done(a);
     }
-    line_tried(s, places, Kind::NoDialtone, Fixed::NoDialtone)
+    line_tried(s, e, lines, Kind::NoDialtone, Fixed::NoDialtone)
 }
 
 // Rule 5: NA, at the head of buf only.
@@ -228,8 +227,8 @@ fn not_allowed(s: &[u8], e: usize) -> Tried
 }
 
 // Rule 5, in its order.
-fn errors(table: &[u8], s: &[u8], e: usize, places: Places, hints: Hints) -> Level
-    requires { ⌜ FirstPlaces (now s) e places ⌝ }
+fn errors(table: &[u8], s: &[u8], e: usize, lines: Lines, places: Places, hints: Hints) -> Level
+    requires { ⌜ FirstLines (now s) e lines ⌝ }
     ensures { λ r. ⌜ r ≡ errorsFrom (entries mark.Error (now (table .entry)) 0 0) (now (s .entry)) e places hints ⌝ }
 {
     if let Tried::Done(a) = items::custom_error(table, s, e) {
@@ -238,7 +237,7 @@ fn errors(table: &[u8], s: &[u8], e: usize, places: Places, hints: Hints) -> Lev
     match items::numerics(s, e, places, hints) {
         Level::Done(a) => Level::Done(a),
         Level::Next(_, known) => {
-            if let Tried::Done(a) = line_errors(s, e, places) {
+            if let Tried::Done(a) = line_errors(s, e, lines) {
                 return Level::Done(a);
             }
             match not_allowed(s, e) {
@@ -246,6 +245,20 @@ fn errors(table: &[u8], s: &[u8], e: usize, places: Places, hints: Hints) -> Lev
                 Tried::Next => Level::Next(e, known),
             }
         }
+    }
+}
+
+// Rules 4 and 5 in their order, on the outermost level.
+fn behind(table: &[u8], s: &[u8], e: usize, lines: Lines, places: Places) -> Level
+    requires { ⌜ FirstLines (now s) e lines ⌝ }
+    ensures { λ r. ⌜ r ≡ behind (now (table .entry)) (now (s .entry)) e places ⌝ }
+{
+    if let Tried::Done(a) = items::custom_prompts(table, s, e) {
+        return Level::Done(a);
+    }
+    match items::prompt_bytes(s, e, places, items::unknown()) {
+        Level::Done(a) => Level::Done(a),
+        Level::Next(_, known) => errors(table, s, e, lines, places, known),
     }
 }
 
@@ -258,16 +271,9 @@ fn outermost(digester: Digester, table: &[u8], s: &[u8], e: usize) -> Level
         Noticed::Done(a) => Level::Done(a),
         Noticed::Next(others) => {
             let custom = customs(table, others);
-            let places = places::first_places(e);
-            if let Tried::Done(a) = successes(digester, custom, s, e, places) {
-                return Level::Done(a);
-            }
-            if let Tried::Done(a) = items::custom_prompts(custom, s, e) {
-                return Level::Done(a);
-            }
-            match items::prompt_bytes(s, e, places, items::unknown()) {
-                Level::Done(a) => Level::Done(a),
-                Level::Next(_, known) => errors(custom, s, e, places, known),
+            match successes(digester, custom, s, e) {
+                Succeeded::Done(a) => Level::Done(a),
+                Succeeded::Next(lines, places) => behind(custom, s, e, lines, places),
             }
         }
     }
@@ -281,7 +287,7 @@ fn below(table: &[u8], s: &[u8], e: usize, hints: Hints) -> Level
     if let Noticed::Done(a) = notices(table, s, e) {
         return Level::Done(a);
     }
-    match items::firsts(s, e, places::first_places(e), hints) {
+    match items::firsts(s, e, places::unsought(e), hints) {
         Level::Done(a) => Level::Done(a),
         Level::Next(_, known) => match not_allowed(s, e) {
             Tried::Done(a) => Level::Done(a),

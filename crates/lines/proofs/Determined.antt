@@ -17,3 +17,6 @@ find-crlf-one κs a x y s t = determined
 
 pub fixed-len-one : One calls.fixed_len.Reads.Post
 fixed-len-one κs a x y s t = determined
+
+pub search-crlf-one : One calls.search_crlf.Reads.Post
+search-crlf-one κs a x y s t = determined

@@ -144,12 +144,9 @@ pub fn find_fixed(buf: &[u8], from: usize, fixed: Fixed) -> Found
 }
 
 // The first CRLF at or after `from`: in a long input at the first CR, or behind it.
-pub fn find_crlf(buf: &[u8], from: usize) -> Found
+pub fn search_crlf(buf: &[u8], from: usize) -> Found
     ensures { λ r. ⌜ r ≡ findIn crlf (now (buf .entry)) from ⌝ }
 {
-    if text::matches_at(buf, from, &CRLF) {
-        return Found::At(from);
-    }
     if buf.len() < seek::SHORT {
         return text::find(buf, from, &CRLF);
     }
@@ -160,6 +157,16 @@ pub fn find_crlf(buf: &[u8], from: usize) -> Found
         return Found::At(p);
     }
     seek::find(buf, p, &CRLF, 0, 1)
+}
+
+// The same for whoever expects it at `from`: small, so that it costs no call there.
+pub fn find_crlf(buf: &[u8], from: usize) -> Found
+    ensures { λ r. ⌜ r ≡ findIn crlf (now (buf .entry)) from ⌝ }
+{
+    if text::matches_at(buf, from, &CRLF) {
+        return Found::At(from);
+    }
+    search_crlf(buf, from)
 }
 
 // How long the fixed text is, with its CRLFs.

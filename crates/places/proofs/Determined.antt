@@ -3,11 +3,17 @@ use Rattle.outcome.specs.One.{One}
 use Rattle.text.specs.Logic.{determined}
 use Rattle.places.proofs as calls
 
-pub first-places-one : One calls.first_places.Reads.Post
-first-places-one κs a x y s t = determined
+pub pass-one : One calls.pass.Reads.Post
+pass-one κs a x y s t = determined
 
 pub place-one : One calls.place.Reads.Post
 place-one κs a x y s t = determined
 
 pub connect-one : One calls.connect.Reads.Post
 connect-one κs a x y s t = determined
+
+pub unsought-one : One calls.unsought.Reads.Post
+unsought-one κs a x y s t = determined
+
+pub line-one : One calls.line.Reads.Post
+line-one κs a x y s t = determined

@@ -1,1 +1,3 @@
 pub mod Places
+pub mod Begin
+pub mod Laws

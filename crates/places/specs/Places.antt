@@ -1,71 +1,133 @@
 -- What places are: first places, whoever found them and when.
-use mathlib.Core.Path.{_≡_, sym, ap, _∙_}
-use mathlib.Core.Bool.{Bool, true, false}
+use mathlib.Core.Path.{_≡_}
+use mathlib.Core.Bool.{Bool, true, false, _&&_}
 use mathlib.Core.List.{List}
-use Prim.Native.Nat.{ℕ, _+_, _≤_, _<_}
-use lib.ListN.{length}
-use borrow.Author.Tests.{le-leb, lt-leb}
-use Rattle.text.specs.Text.{findIn}
-use Rattle.text.specs.Laws.{found-at, stands-fits}
+use Prim.Native.Nat.{ℕ, _+_, _-_}
+use lib.ListN.{length, getD}
+use lib.Dec.{leb}
+use Rattle.outcome.specs.Outcome.{if_then_else_}
+use Rattle.text.specs.Text.{stands, findIn}
 use Rattle.text.specs.declared.Found.{Found}
 use Rattle.text.specs.declared.Found.the-variants.{At, Nothing}
-use Rattle.lines.specs.Lines.{hearsText, fixedText, earlier, connectPlace}
-use Rattle.lines.specs.Laws.{fixed-some}
-use Rattle.lines.specs.declared.Digester.{Digester}
+use Rattle.lines.specs.Lines.{fixedText}
 use Rattle.lines.specs.declared.Fixed.{Fixed}
 use Rattle.lines.specs.declared.Fixed.the-variants as fixed
+use Rattle.scan.specs.Scan.{firstEnds}
+use Rattle.places.specs.declared.Lines.{Lines}
 use Rattle.places.specs.declared.Places.{Places}
+use Rattle.places.specs.declared.Passed.{Passed}
+use Rattle.places.specs.declared.Passed.the-variants.{Ok, Others}
 
-abbrev pub firstPlaces : ℕ → Places
-firstPlaces e = record { from = e }
+-- The lines and the heads by the ends of the eleven, in the order of the pass; the first is OK's.
+abbrev pub linesAt : List ℕ → Lines
+linesAt n =
+    record {
+      connect = getD n 1 0;
+      error = getD n 2 0;
+      unsupported = getD n 3 0;
+      carrier = getD n 4 0;
+      busy = getD n 5 0;
+      answer = getD n 6 0;
+      dialtone = getD n 7 0;
+    }
+
+abbrev pub headsAt : ℕ → List ℕ → Places
+headsAt e n = record { from = e; passed = true; cme = getD n 8 0; cms = getD n 9 0; modem = getD n 10 0 }
+
+-- R-6: what the pass finds in s at or after e: the first OK line, or, where there is none, where the others first end.
+abbrev pub firstLines : List ℕ → ℕ → Lines
+firstLines s e = linesAt (firstEnds e s)
+
+abbrev pub firstPlaces : List ℕ → ℕ → Places
+firstPlaces s e = headsAt e (firstEnds e s)
+
+unfoldable pub passedBy : Found → List ℕ → ℕ → Passed
+passedBy (At k) s e = Ok k
+passedBy Nothing s e = Others (firstLines s e) (firstPlaces s e)
+
+abbrev pub passed : List ℕ → ℕ → Passed
+passed s e = passedBy (findIn (fixedText fixed.Ok) s e) s e
+
+-- a level of the retry has the heads sought when they are asked for
+abbrev pub unsought : ℕ → Places
+unsought e = record { from = e; passed = false; cme = 0; cms = 0; modem = 0 }
+
+-- The texts whose ends these are, and where each ends.
+abbrev pub isLine : Fixed → Bool
+isLine fixed.Ok = false
+isLine fixed.Connect = true
+isLine fixed.Error = true
+isLine fixed.CommandNotSupport = true
+isLine fixed.NoCarrier = true
+isLine fixed.Busy = true
+isLine fixed.NoAnswer = true
+isLine fixed.NoDialtone = true
+isLine fixed.Na = false
+isLine fixed.Cme = false
+isLine fixed.Cms = false
+isLine fixed.Modem = false
+isLine fixed.ConnectText = false
+
+abbrev pub lineEnd : Lines → Fixed → ℕ
+lineEnd x fixed.Ok = 0
+lineEnd x fixed.Connect = x .connect
+lineEnd x fixed.Error = x .error
+lineEnd x fixed.CommandNotSupport = x .unsupported
+lineEnd x fixed.NoCarrier = x .carrier
+lineEnd x fixed.Busy = x .busy
+lineEnd x fixed.NoAnswer = x .answer
+lineEnd x fixed.NoDialtone = x .dialtone
+lineEnd x fixed.Na = 0
+lineEnd x fixed.Cme = 0
+lineEnd x fixed.Cms = 0
+lineEnd x fixed.Modem = 0
+lineEnd x fixed.ConnectText = 0
+
+abbrev pub isHead : Fixed → Bool
+isHead fixed.Ok = false
+isHead fixed.Connect = false
+isHead fixed.Error = false
+isHead fixed.CommandNotSupport = false
+isHead fixed.NoCarrier = false
+isHead fixed.Busy = false
+isHead fixed.NoAnswer = false
+isHead fixed.NoDialtone = false
+isHead fixed.Na = false
+isHead fixed.Cme = true
+isHead fixed.Cms = true
+isHead fixed.Modem = true
+isHead fixed.ConnectText = false
+
+abbrev pub headEnd : Places → Fixed → ℕ
+headEnd p fixed.Ok = 0
+headEnd p fixed.Connect = 0
+headEnd p fixed.Error = 0
+headEnd p fixed.CommandNotSupport = 0
+headEnd p fixed.NoCarrier = 0
+headEnd p fixed.Busy = 0
+headEnd p fixed.NoAnswer = 0
+headEnd p fixed.NoDialtone = 0
+headEnd p fixed.Na = 0
+headEnd p fixed.Cme = p .cme
+headEnd p fixed.Cms = p .cms
+headEnd p fixed.Modem = p .modem
+headEnd p fixed.ConnectText = 0
+
+-- The first place of a text: where it is known to end at n, 0 for nowhere, it counts only where the text stands there, and not before the place e; else it is sought.
+unfoldable pub placeOf : List ℕ → List ℕ → ℕ → Bool → ℕ → Found
+placeOf t s e known n =
+    if known then (if leb (e + length t) n && stands t s (n - length t) then At (n - length t) else Nothing)
+    else findIn t s e
 
 unfoldable pub placeIn : List ℕ → Places → Fixed → Found
-placeIn s p l = findIn (fixedText l) s (p .from)
+placeIn s p l = placeOf (fixedText l) s (p .from) (p .passed && isHead l) (headEnd p l)
+
+unfoldable pub lineIn : List ℕ → ℕ → Lines → Fixed → Found
+lineIn s e x l = placeOf (fixedText l) s e (isLine l) (lineEnd x l)
 
 -- Each is the text's first place in s at or after e.
 abbrev pub FirstPlaces : List ℕ → ℕ → Places → Type 0
 FirstPlaces s e p = (l : Fixed) → placeIn s p l ≡ findIn (fixedText l) s e
 
-pub are-first : (s : List ℕ) (e : ℕ) (p : Places) → p ≡ firstPlaces e → FirstPlaces s e p
-unfolding placeIn
-are-first s e p q l = ap (λ (x : Places). findIn (fixedText l) s (x .from)) q
-
--- a place lies in the input, whoever made the places, and so does the text's end
-pub place-inside : (s : List ℕ) (p : Places) (l : Fixed) (k : ℕ) → placeIn s p l ≡ At k → k + length (fixedText l) ≤ length s
-unfolding placeIn
-place-inside s p l k q = stands-fits (fixedText l) s k (fixed-some l) (found-at (fixedText l) s (p .from) k q .here)
-
--- The ways out of `earlier`.
-module _ (a b : Found) where
-  pub earlier-second : a ≡ Nothing → b ≡ earlier a b
-  unfolding earlier
-  earlier-second p = rw p
-
-  module _ (j : ℕ) (p : a ≡ At j) where
-    pub earlier-alone : b ≡ Nothing → At j ≡ earlier a b
-    unfolding earlier
-    earlier-alone q = rw (p, q)
-
-    module _ (k : ℕ) (q : b ≡ At k) where
-      pub earlier-first : j ≤ k → At j ≡ earlier a b
-      unfolding earlier
-      earlier-first h = rw (p, q, le-leb j k h)
-
-      pub earlier-later : k < j → At k ≡ earlier a b
-      unfolding earlier
-      earlier-later h = rw (p, q, lt-leb j k h)
-
--- and of `connect`: a is the bare line's first place
-module _ (d : Digester) (f : Fixed → Found) (b : Bool) (e : b ≡ hearsText d) (a : Found) (p : a ≡ f fixed.Connect) where
-  pub connect-bare : b ≡ false → a ≡ connectPlace d f
-  unfolding connectPlace
-  connect-bare q = rw (sym e ∙ q) p
-
-  pub connect-either : b ≡ true → (t : Found) → t ≡ f fixed.ConnectText → (r : Found) → r ≡ earlier a t → r ≡ connectPlace d f
-  unfolding connectPlace
-  connect-either q t z r w = rw (sym e ∙ q) (w ∙ ap (λ (x : Found). earlier x t) p ∙ ap (earlier (f fixed.Connect)) z)
-
--- where the places are the first ones, CONNECT's is
-pub connect-first : (d : Digester) (s : List ℕ) (e : ℕ) (p : Places) → FirstPlaces s e p → connectPlace d (placeIn s p) ≡ connectPlace d (λ l. findIn (fixedText l) s e)
-unfolding connectPlace
-connect-first d s e p w = rw (w fixed.Connect, w fixed.ConnectText)
+abbrev pub FirstLines : List ℕ → ℕ → Lines → Type 0
+FirstLines s e x = (l : Fixed) → lineIn s e x l ≡ findIn (fixedText l) s e

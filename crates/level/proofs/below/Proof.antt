@@ -22,8 +22,8 @@ returns c =
 enum-told : tie.Need-enum-told
 enum-told c = search needs
 
-first-places-requires : tie.Need-first-places-requires
-first-places-requires c κs = search needs
+unsought-requires : tie.Need-unsought-requires
+unsought-requires c κs = search needs
 
 firsts-requires : tie.Need-firsts-requires
 firsts-requires c κs = search needs
@@ -47,35 +47,35 @@ returns-2 : tie.Need-returns-2
 unfolding below
 returns-2 c =
     let args = c .before .before .before .before .before .before .before .before .before .before .args in
-    let first-places = c .before .before .before .before .first-places in
+    let unsought = c .before .before .before .before .unsought in
     let firsts = c .before .before .before .firsts in
     let notices = c .before .before .before .before .before .before .before .notices in
     let enum-told = c .before .before .before .before .before .enum-told in
-    onward-hit _ _ _ _ (firsts-at (args .s .now) (args .e) _ (first-places .ensures) _ _ (firsts .ensures)) (c .before .a2 .given .1) ∙ before-miss _ _ _ (notices .ensures .0) (ap noticedTried (enum-told .given .1))
+    onward-hit _ _ _ _ (firsts-at (args .s .now) (args .e) _ _ (unsought .ensures) _ _ (firsts .ensures)) (c .before .a2 .given .1) ∙ before-miss _ _ _ (notices .ensures .0) (ap noticedTried (enum-told .given .1))
 
 returns-3 : tie.Need-returns-3
 unfolding below
 returns-3 c =
     let not-allowed = c .before .before .before .not-allowed in
     let args = c .before .before .before .before .before .before .before .before .before .before .before .before .before .before .args in
-    let first-places = c .before .before .before .before .before .before .before .before .first-places in
+    let unsought = c .before .before .before .before .before .before .before .before .unsought in
     let firsts = c .before .before .before .before .before .before .before .firsts in
     let known = c .before .before .before .before .before .known in
     let notices = c .before .before .before .before .before .before .before .before .before .before .before .notices in
     let enum-told = c .before .before .before .before .before .before .before .before .before .enum-told in
-    before-hit _ _ _ _ (not-allowed .ensures) (c .before .a3 .given .1) ∙ onward-miss _ _ _ _ _ (firsts-at (args .s .now) (args .e) _ (first-places .ensures) _ _ (firsts .ensures)) (known .given .1) ∙ before-miss _ _ _ (notices .ensures .0) (ap noticedTried (enum-told .given .1))
+    before-hit _ _ _ _ (not-allowed .ensures) (c .before .a3 .given .1) ∙ onward-miss _ _ _ _ _ (firsts-at (args .s .now) (args .e) _ _ (unsought .ensures) _ _ (firsts .ensures)) (known .given .1) ∙ before-miss _ _ _ (notices .ensures .0) (ap noticedTried (enum-told .given .1))
 
 returns-4 : tie.Need-returns-4
 unfolding below
 returns-4 c =
     let not-allowed = c .before .before .not-allowed in
     let args = c .before .before .before .before .before .before .before .before .before .before .before .before .before .args in
-    let first-places = c .before .before .before .before .before .before .before .first-places in
+    let unsought = c .before .before .before .before .before .before .before .unsought in
     let firsts = c .before .before .before .before .before .before .firsts in
     let known = c .before .before .before .before .known in
     let notices = c .before .before .before .before .before .before .before .before .before .before .notices in
     let enum-told = c .before .before .before .before .before .before .before .before .enum-told in
-    before-miss _ _ _ (not-allowed .ensures) (c .enum-told2 .given .1) ∙ onward-miss _ _ _ _ _ (firsts-at (args .s .now) (args .e) _ (first-places .ensures) _ _ (firsts .ensures)) (known .given .1) ∙ before-miss _ _ _ (notices .ensures .0) (ap noticedTried (enum-told .given .1))
+    before-miss _ _ _ (not-allowed .ensures) (c .enum-told2 .given .1) ∙ onward-miss _ _ _ _ _ (firsts-at (args .s .now) (args .e) _ _ (unsought .ensures) _ _ (firsts .ensures)) (known .given .1) ∙ before-miss _ _ _ (notices .ensures .0) (ap noticedTried (enum-told .given .1))
 
 pub below-spec : {M : Type 1} → statement M
 below-spec =
@@ -85,7 +85,7 @@ below-spec =
     enum-known-a
     returns
     enum-told
-    first-places-requires
+    unsought-requires
     firsts-requires
     enum-known-a-2
     enum-known-known

@@ -19,7 +19,7 @@ returns c =
     let args = c .before .before .before .before .args in
     let pre = c .before .before .before .before .pre in
     let connect = c .before .before .connect in
-    connect-nowhere (args .s .now) (args .e) (args .digester) (args .places) pre _ (connect .ensures) (c .enum-told .given .1)
+    connect-nowhere (args .s .now) (args .e) (args .digester) (args .lines) pre _ (connect .ensures) (c .enum-told .given .1)
 
 fixed-at-requires : tie.Need-fixed-at-requires
 fixed-at-requires c κs = search needs
@@ -34,7 +34,7 @@ add-success c =
     let connect = c .before .before .before .before .before .before .connect in
     let k = c .before .before .before .before .k in
     let fixed-at = c .before .before .fixed-at in
-    record { fits = omega (arith, c .fixed-len .ensures, bare-room (args .s .now) (args .e) (args .digester) (args .places) pre _ (connect .ensures) _ (k .given .1) _ (fixed-at .ensures) (c .before .if1 .taken)) }
+    record { fits = omega (arith, c .fixed-len .ensures, bare-room (args .s .now) (args .e) (args .digester) (args .lines) pre _ (connect .ensures) _ (k .given .1) _ (fixed-at .ensures) (c .before .if1 .taken)) }
 
 success-requires : tie.Need-success-requires
 success-requires c κs = search needs
@@ -46,7 +46,7 @@ returns-2 c =
     let connect = c .before .before .before .before .before .before .before .connect in
     let k = c .before .before .before .before .before .k in
     let fixed-at = c .before .before .before .fixed-at in
-    bare-is (args .s .now) (args .e) (args .digester) (args .places) pre _ (connect .ensures) _ (k .given .1) _ (fixed-at .ensures) (c .before .before .if1 .taken) _ (c .before .fixed-len .ensures) _ (c .success .ensures)
+    bare-is (args .s .now) (args .e) (args .digester) (args .lines) pre _ (connect .ensures) _ (k .given .1) _ (fixed-at .ensures) (c .before .before .if1 .taken) _ (c .before .fixed-len .ensures) _ (c .success .ensures)
 
 text-success-requires : tie.Need-text-success-requires
 text-success-requires c κs =
@@ -54,7 +54,7 @@ text-success-requires c κs =
     let pre = c .before .before .before .before .before .before .before .pre in
     let connect = c .before .before .before .before .before .connect in
     let k = c .before .before .before .k in
-    connect-inside (args .s .now) (args .e) (args .digester) (args .places) pre _ (connect .ensures) _ (k .given .1) .1
+    connect-inside (args .s .now) (args .e) (args .digester) (args .lines) pre _ (connect .ensures) _ (k .given .1) .1
 
 returns-3 : tie.Need-returns-3
 returns-3 c =
@@ -63,7 +63,7 @@ returns-3 c =
     let connect = c .before .before .before .before .before .before .connect in
     let k = c .before .before .before .before .k in
     let fixed-at = c .before .before .fixed-at in
-    texted-is (args .s .now) (args .e) (args .digester) (args .places) pre _ (connect .ensures) _ (k .given .1) _ (fixed-at .ensures) (c .before .if1 .left) _ (c .text-success .ensures)
+    texted-is (args .s .now) (args .e) (args .digester) (args .lines) pre _ (connect .ensures) _ (k .given .1) _ (fixed-at .ensures) (c .before .if1 .left) _ (c .text-success .ensures)
 
 pub connect-success-spec : {M : Type 1} → statement M
 connect-success-spec =

@@ -20,7 +20,7 @@ returns c =
     let args = c .before .before .before .before .before .args in
     let pre = c .before .before .before .before .before .pre in
     let line-tried = c .before .before .before .line-tried in
-    hit _ _ _ _ (line-at (args .s .now) (args .e) (args .places) pre fixed.Error _ (line-tried .ensures)) (c .before .a .given .1)
+    hit _ _ _ _ (line-at (args .s .now) (args .e) (args .lines) pre fixed.Error _ (line-tried .ensures)) (c .before .a .given .1)
 
 enum-told : tie.Need-enum-told
 enum-told c = search needs
@@ -39,7 +39,7 @@ returns-2 c =
     let line-tried2 = c .before .before .before .line-tried2 in
     let line-tried = c .before .before .before .before .before .before .line-tried in
     let enum-told = c .before .before .before .before .enum-told in
-    hit _ _ _ _ (line-at (args .s .now) (args .e) (args .places) pre fixed.CommandNotSupport _ (line-tried2 .ensures)) (c .before .a2 .given .1) ∙ miss _ _ _ (line-at (args .s .now) (args .e) (args .places) pre fixed.Error _ (line-tried .ensures)) (enum-told .given .1)
+    hit _ _ _ _ (line-at (args .s .now) (args .e) (args .lines) pre fixed.CommandNotSupport _ (line-tried2 .ensures)) (c .before .a2 .given .1) ∙ miss _ _ _ (line-at (args .s .now) (args .e) (args .lines) pre fixed.Error _ (line-tried .ensures)) (enum-told .given .1)
 
 enum-told-2 : tie.Need-enum-told-2
 enum-told-2 c = search needs
@@ -60,7 +60,7 @@ returns-3 c =
     let enum-told2 = c .before .before .before .before .enum-told2 in
     let line-tried = c .before .before .before .before .before .before .before .before .before .line-tried in
     let enum-told = c .before .before .before .before .before .before .before .enum-told in
-    hit _ _ _ _ (line-at (args .s .now) (args .e) (args .places) pre fixed.NoCarrier _ (line-tried3 .ensures)) (c .before .a3 .given .1) ∙ miss _ _ _ (line-at (args .s .now) (args .e) (args .places) pre fixed.CommandNotSupport _ (line-tried2 .ensures)) (enum-told2 .given .1) ∙ miss _ _ _ (line-at (args .s .now) (args .e) (args .places) pre fixed.Error _ (line-tried .ensures)) (enum-told .given .1)
+    hit _ _ _ _ (line-at (args .s .now) (args .e) (args .lines) pre fixed.NoCarrier _ (line-tried3 .ensures)) (c .before .a3 .given .1) ∙ miss _ _ _ (line-at (args .s .now) (args .e) (args .lines) pre fixed.CommandNotSupport _ (line-tried2 .ensures)) (enum-told2 .given .1) ∙ miss _ _ _ (line-at (args .s .now) (args .e) (args .lines) pre fixed.Error _ (line-tried .ensures)) (enum-told .given .1)
 
 enum-told-3 : tie.Need-enum-told-3
 enum-told-3 c = search needs
@@ -83,7 +83,7 @@ returns-4 c =
     let enum-told2 = c .before .before .before .before .before .before .before .enum-told2 in
     let line-tried = c .before .before .before .before .before .before .before .before .before .before .before .before .line-tried in
     let enum-told = c .before .before .before .before .before .before .before .before .before .before .enum-told in
-    hit _ _ _ _ (line-at (args .s .now) (args .e) (args .places) pre fixed.Busy _ (line-tried4 .ensures)) (c .before .a4 .given .1) ∙ miss _ _ _ (line-at (args .s .now) (args .e) (args .places) pre fixed.NoCarrier _ (line-tried3 .ensures)) (enum-told3 .given .1) ∙ miss _ _ _ (line-at (args .s .now) (args .e) (args .places) pre fixed.CommandNotSupport _ (line-tried2 .ensures)) (enum-told2 .given .1) ∙ miss _ _ _ (line-at (args .s .now) (args .e) (args .places) pre fixed.Error _ (line-tried .ensures)) (enum-told .given .1)
+    hit _ _ _ _ (line-at (args .s .now) (args .e) (args .lines) pre fixed.Busy _ (line-tried4 .ensures)) (c .before .a4 .given .1) ∙ miss _ _ _ (line-at (args .s .now) (args .e) (args .lines) pre fixed.NoCarrier _ (line-tried3 .ensures)) (enum-told3 .given .1) ∙ miss _ _ _ (line-at (args .s .now) (args .e) (args .lines) pre fixed.CommandNotSupport _ (line-tried2 .ensures)) (enum-told2 .given .1) ∙ miss _ _ _ (line-at (args .s .now) (args .e) (args .lines) pre fixed.Error _ (line-tried .ensures)) (enum-told .given .1)
 
 enum-told-4 : tie.Need-enum-told-4
 enum-told-4 c = search needs
@@ -108,7 +108,7 @@ returns-5 c =
     let enum-told2 = c .before .before .before .before .before .before .before .before .before .before .enum-told2 in
     let line-tried = c .before .before .before .before .before .before .before .before .before .before .before .before .before .before .before .line-tried in
     let enum-told = c .before .before .before .before .before .before .before .before .before .before .before .before .before .enum-told in
-    hit _ _ _ _ (line-at (args .s .now) (args .e) (args .places) pre fixed.NoAnswer _ (line-tried5 .ensures)) (c .before .a5 .given .1) ∙ miss _ _ _ (line-at (args .s .now) (args .e) (args .places) pre fixed.Busy _ (line-tried4 .ensures)) (enum-told4 .given .1) ∙ miss _ _ _ (line-at (args .s .now) (args .e) (args .places) pre fixed.NoCarrier _ (line-tried3 .ensures)) (enum-told3 .given .1) ∙ miss _ _ _ (line-at (args .s .now) (args .e) (args .places) pre fixed.CommandNotSupport _ (line-tried2 .ensures)) (enum-told2 .given .1) ∙ miss _ _ _ (line-at (args .s .now) (args .e) (args .places) pre fixed.Error _ (line-tried .ensures)) (enum-told .given .1)
+    hit _ _ _ _ (line-at (args .s .now) (args .e) (args .lines) pre fixed.NoAnswer _ (line-tried5 .ensures)) (c .before .a5 .given .1) ∙ miss _ _ _ (line-at (args .s .now) (args .e) (args .lines) pre fixed.Busy _ (line-tried4 .ensures)) (enum-told4 .given .1) ∙ miss _ _ _ (line-at (args .s .now) (args .e) (args .lines) pre fixed.NoCarrier _ (line-tried3 .ensures)) (enum-told3 .given .1) ∙ miss _ _ _ (line-at (args .s .now) (args .e) (args .lines) pre fixed.CommandNotSupport _ (line-tried2 .ensures)) (enum-told2 .given .1) ∙ miss _ _ _ (line-at (args .s .now) (args .e) (args .lines) pre fixed.Error _ (line-tried .ensures)) (enum-told .given .1)
 
 enum-told-5 : tie.Need-enum-told-5
 enum-told-5 c = search needs
@@ -130,7 +130,7 @@ returns-6 c =
     let enum-told2 = c .before .before .before .before .before .before .before .before .before .before .enum-told2 in
     let line-tried = c .before .before .before .before .before .before .before .before .before .before .before .before .before .before .before .line-tried in
     let enum-told = c .before .before .before .before .before .before .before .before .before .before .before .before .before .enum-told in
-    line-at (args .s .now) (args .e) (args .places) pre fixed.NoDialtone _ (c .line-tried6 .ensures) ∙ or-next _ ∙ miss _ _ _ (line-at (args .s .now) (args .e) (args .places) pre fixed.NoAnswer _ (line-tried5 .ensures)) (c .before .enum-told5 .given .1) ∙ miss _ _ _ (line-at (args .s .now) (args .e) (args .places) pre fixed.Busy _ (line-tried4 .ensures)) (enum-told4 .given .1) ∙ miss _ _ _ (line-at (args .s .now) (args .e) (args .places) pre fixed.NoCarrier _ (line-tried3 .ensures)) (enum-told3 .given .1) ∙ miss _ _ _ (line-at (args .s .now) (args .e) (args .places) pre fixed.CommandNotSupport _ (line-tried2 .ensures)) (enum-told2 .given .1) ∙ miss _ _ _ (line-at (args .s .now) (args .e) (args .places) pre fixed.Error _ (line-tried .ensures)) (enum-told .given .1)
+    line-at (args .s .now) (args .e) (args .lines) pre fixed.NoDialtone _ (c .line-tried6 .ensures) ∙ or-next _ ∙ miss _ _ _ (line-at (args .s .now) (args .e) (args .lines) pre fixed.NoAnswer _ (line-tried5 .ensures)) (c .before .enum-told5 .given .1) ∙ miss _ _ _ (line-at (args .s .now) (args .e) (args .lines) pre fixed.Busy _ (line-tried4 .ensures)) (enum-told4 .given .1) ∙ miss _ _ _ (line-at (args .s .now) (args .e) (args .lines) pre fixed.NoCarrier _ (line-tried3 .ensures)) (enum-told3 .given .1) ∙ miss _ _ _ (line-at (args .s .now) (args .e) (args .lines) pre fixed.CommandNotSupport _ (line-tried2 .ensures)) (enum-told2 .given .1) ∙ miss _ _ _ (line-at (args .s .now) (args .e) (args .lines) pre fixed.Error _ (line-tried .ensures)) (enum-told .given .1)
 
 pub line-errors-spec : {M : Type 1} → statement M
 line-errors-spec =

@@ -1,14 +1,14 @@
 -- `line_tried` meets its contract.
 use mathlib.Core.Path.{sym, _∙_}
 use native.Mathlib.Omega.{arith}
-use Rattle.places.specs.Places.{place-inside}
+use Rattle.places.specs.Laws.{line-inside}
 use Rattle.level.specs.Laws.{line-is, line-none}
 use borrow.Author.Needs.{needs}
 use Rattle.level.proofs.line_tried.Statement.{statement}
 use Rattle.level.proofs.line_tried.Tie as tie
 
-place-requires : tie.Need-place-requires
-place-requires c κs = search needs
+line-requires : tie.Need-line-requires
+line-requires c κs = search needs
 
 enum-known-k : tie.Need-enum-known-k
 enum-known-k c = search needs
@@ -19,9 +19,9 @@ fixed-len-requires c κs = search needs
 add-bare : tie.Need-add-bare
 add-bare c =
     let args = c .before .before .before .before .before .before .args in
-    let place = c .before .before .before .before .place in
+    let line = c .before .before .before .before .line in
     let k = c .before .before .k in
-    record { fits = omega (arith, c .fixed-len .ensures, place-inside (args .s .now) (args .places) (args .line) _ (sym (place .ensures) ∙ k .given .1)) }
+    record { fits = omega (arith, c .fixed-len .ensures, line-inside (args .s .now) (args .e) (args .lines) (args .line) _ (sym (line .ensures) ∙ k .given .1)) }
 
 bare-requires : tie.Need-bare-requires
 bare-requires c κs = search needs
@@ -32,22 +32,22 @@ enum-told c = search needs
 returns : tie.Need-returns
 returns c =
     let args = c .before .before .before .before .before .before .before .args in
-    let place = c .before .before .before .before .before .place in
+    let line = c .before .before .before .before .before .line in
     let k = c .before .before .before .k in
     let pre = c .before .before .before .before .before .before .before .pre in
-    line-is (args .line) _ _ (place .ensures) _ _ (k .given .1) (c .before .fixed-len .ensures) _ pre _ (c .bare .ensures)
+    line-is (args .line) _ _ (line .ensures) _ _ (k .given .1) (c .before .fixed-len .ensures) _ pre _ (c .bare .ensures)
 
 returns-2 : tie.Need-returns-2
 returns-2 c =
     let args = c .before .before .before .before .args in
-    let place = c .before .before .place in
-    line-none (args .line) _ _ (place .ensures) (c .enum-told .given .1)
+    let line = c .before .before .line in
+    line-none (args .line) _ _ (line .ensures) (c .enum-told .given .1)
 
 pub line-tried-spec : {M : Type 1} → statement M
 line-tried-spec =
     tie.close
     (tie.spec
-    place-requires
+    line-requires
     enum-known-k
     fixed-len-requires
     add-bare

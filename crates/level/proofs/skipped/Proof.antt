@@ -4,8 +4,8 @@ use borrow.Author.Needs.{needs}
 use Rattle.level.proofs.skipped.Statement.{statement}
 use Rattle.level.proofs.skipped.Tie as tie
 
-skip-requires : tie.Need-skip-requires
-skip-requires c κs = search needs
+skip-spaces-requires : tie.Need-skip-spaces-requires
+skip-spaces-requires c κs = search needs
 
 find-crlf-requires : tie.Need-find-crlf-requires
 find-crlf-requires c κs = search needs
@@ -18,13 +18,13 @@ enum-told c = search needs
 
 returns : tie.Need-returns
 returns c =
-    let skip = c .before .before .before .before .skip in
+    let skip = c .before .before .before .before .skip-spaces in
     let find-crlf = c .before .before .before .find-crlf in
     skipped-at _ _ (skip .ensures) _ (find-crlf .ensures) _ (c .before .k .given .1)
 
 returns-2 : tie.Need-returns-2
 returns-2 c =
-    let skip = c .before .before .before .skip in
+    let skip = c .before .before .before .skip-spaces in
     let find-crlf = c .before .before .find-crlf in
     skipped-none _ _ (skip .ensures) _ (find-crlf .ensures) (c .enum-told .given .1)
 
@@ -32,7 +32,7 @@ pub skipped-spec : {M : Type 1} → statement M
 skipped-spec =
     tie.close
     (tie.spec
-    skip-requires
+    skip-spaces-requires
     find-crlf-requires
     enum-known-k
     enum-told

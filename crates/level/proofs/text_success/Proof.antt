@@ -13,8 +13,8 @@ add-start c =
     let pre = c .before .before .pre in
     record { fits = omega (arith, c .fixed-len .ensures, pre) }
 
-find-crlf-requires : tie.Need-find-crlf-requires
-find-crlf-requires c κs = search needs
+search-crlf-requires : tie.Need-search-crlf-requires
+search-crlf-requires c κs = search needs
 
 enum-known-end : tie.Need-enum-known-end
 enum-known-end c = search needs
@@ -26,8 +26,8 @@ returns : tie.Need-returns
 returns c =
     let args = c .before .before .before .before .before .args in
     let fixed-len = c .before .before .before .fixed-len in
-    let find-crlf = c .before .before .find-crlf in
-    text-none (args .s .now) (args .e) (args .k) _ (omega (arith, fixed-len .ensures)) _ (find-crlf .ensures) (c .enum-told .given .1)
+    let search-crlf = c .before .before .search-crlf in
+    text-none (args .s .now) (args .e) (args .k) _ (omega (arith, fixed-len .ensures)) _ (search-crlf .ensures) (c .enum-told .given .1)
 
 trimmed-part-requires : tie.Need-trimmed-part-requires
 trimmed-part-requires c κs = search needs
@@ -36,17 +36,17 @@ sub-len : tie.Need-sub-len
 sub-len c =
     let args = c .before .before .before .before .before .before .before .args in
     let fixed-len = c .before .before .before .before .before .fixed-len in
-    let find-crlf = c .before .before .before .before .find-crlf in
+    let search-crlf = c .before .before .before .before .search-crlf in
     let end = c .before .before .end in
-    text-room (args .s .now) (args .e) (args .k) _ (omega (arith, fixed-len .ensures)) _ (find-crlf .ensures) _ (end .given .1) .0
+    text-room (args .s .now) (args .e) (args .k) _ (omega (arith, fixed-len .ensures)) _ (search-crlf .ensures) _ (end .given .1) .0
 
 add-with-text : tie.Need-add-with-text
 add-with-text c =
     let args = c .before .before .before .before .before .before .before .args in
     let fixed-len = c .before .before .before .before .before .fixed-len in
-    let find-crlf = c .before .before .before .before .find-crlf in
+    let search-crlf = c .before .before .before .before .search-crlf in
     let end = c .before .before .end in
-    record { fits = omega (arith, text-room (args .s .now) (args .e) (args .k) _ (omega (arith, fixed-len .ensures)) _ (find-crlf .ensures) _ (end .given .1) .1) }
+    record { fits = omega (arith, text-room (args .s .now) (args .e) (args .k) _ (omega (arith, fixed-len .ensures)) _ (search-crlf .ensures) _ (end .given .1) .1) }
 
 with-text-requires : tie.Need-with-text-requires
 with-text-requires c κs = search needs
@@ -55,9 +55,9 @@ returns-2 : tie.Need-returns-2
 returns-2 c =
     let args = c .before .before .before .before .before .before .before .before .args in
     let fixed-len = c .before .before .before .before .before .before .fixed-len in
-    let find-crlf = c .before .before .before .before .before .find-crlf in
+    let search-crlf = c .before .before .before .before .before .search-crlf in
     let end = c .before .before .before .end in
-    text-ended (args .s .now) (args .e) (args .k) _ (omega (arith, fixed-len .ensures)) _ (find-crlf .ensures) _ (end .given .1) _ (c .before .trimmed-part .ensures) _ (c .with-text .ensures)
+    text-ended (args .s .now) (args .e) (args .k) _ (omega (arith, fixed-len .ensures)) _ (search-crlf .ensures) _ (end .given .1) _ (c .before .trimmed-part .ensures) _ (c .with-text .ensures)
 
 pub text-success-spec : {M : Type 1} → statement M
 text-success-spec =
@@ -65,7 +65,7 @@ text-success-spec =
     (tie.spec
     fixed-len-requires
     add-start
-    find-crlf-requires
+    search-crlf-requires
     enum-known-end
     enum-told
     returns

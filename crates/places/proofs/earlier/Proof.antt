@@ -1,5 +1,5 @@
 -- `earlier` meets its contract.
-use Rattle.places.specs.Places.{earlier-second, earlier-alone, earlier-first, earlier-later}
+use Rattle.places.specs.Laws.{earlier-second, earlier-alone, earlier-first, earlier-later}
 use borrow.Author.Needs.{needs}
 use Rattle.places.proofs.earlier.Statement.{statement}
 use Rattle.places.proofs.earlier.Tie as tie
