@@ -137,6 +137,11 @@ module _ (s : List ℕ) (e : ℕ) where
   unfolding lineSuccess
   line-success-none l r q = ap (lineSuccess s e l) (sym q)
 
+  pub line-room : (l : Fixed) (r : Found) → r ≡ findIn (fixedText l) s e → (k : ℕ) → r ≡ At k → (e ≤ k) × (k + length (fixedText l) ≤ length s)
+  line-room l r p k q =
+      let w = found-at (fixedText l) s e k (sym p ∙ q) in
+      (w .after, stands-fits (fixedText l) s k (fixed-some l) (w .here))
+
   -- OK at its first place, by what the pass gave
   module _ (r : Passed) (p : r ≡ passed s e) where
     module _ (k : ℕ) (q : r ≡ pass.Ok k) where
@@ -144,7 +149,7 @@ module _ (s : List ℕ) (e : ℕ) where
       ok-at = passed-ok s e k (sym p ∙ q)
 
       pub ok-room : k + length (fixedText fixed.Ok) ≤ length s
-      ok-room = stands-fits (fixedText fixed.Ok) s k (omega arith) (found-at (fixedText fixed.Ok) s e k ok-at .here)
+      ok-room = line-room fixed.Ok (findIn (fixedText fixed.Ok) s e) refl k ok-at .1
 
       pub ok-is : (n : ℕ) → n ≡ length (fixedText fixed.Ok) → (u : Tried) → u ≡ success s e k (k + n) → u ≡ lineSuccess s e fixed.Ok (findIn (fixedText fixed.Ok) s e)
       unfolding lineSuccess

@@ -57,7 +57,7 @@ second-half = refl
 all-right : every (rightRow texts words classes) 0 table ≡ true
 all-right = every-join (rightRow texts words classes) 0 49 table first-half second-half
 
-pub table-long : length table ≡ 98
+table-long : length table ≡ 98
 unfolding table
 table-long = refl
 
@@ -68,7 +68,7 @@ module _ (q : ℕ) (h : q < 98) where
       let row = getD table q [] in
       and-both (eqb (length row) 32) (every (right texts words classes (word q)) 0 row) (at (rightRow texts words classes) [] table all-right q (rw table-long h))
 
-  pub row-long : length (getD table q []) ≡ 32
+  row-long : length (getD table q []) ≡ 32
   row-long = eqb-true (length (getD table q [])) 32 (row-right .0)
 
   module _ (c : ℕ) (g : c < 32) where

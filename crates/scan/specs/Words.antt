@@ -34,7 +34,7 @@ opens w [] = false
 opens [] (y ∷ t) = true
 opens (x ∷ w) (y ∷ t) = let r = opens w t in eqb x y && r
 
--- is one of the texts?
+-- is one of the texts still open after w?
 unfoldable pub isOpen : List (List ℕ) → List ℕ → Bool
 isOpen [] w = false
 isOpen (t ∷ ts) w = let r = isOpen ts w in opens w t || r
