@@ -28,12 +28,14 @@ use Rattle.lines.specs.declared.Fixed.the-variants as fixed
 use Rattle.parser.specs.Parser.{noticeAt}
 use Rattle.parser.specs.declared.Notice.{Notice}
 use Rattle.parser.specs.declared.Notice.the-variants as notice
-use Rattle.places.specs.Places.{firstLines, firstPlaces, passed, lineIn, FirstLines}
-use Rattle.places.specs.Laws.{connect-first, passed-ok, Passing, passed-others}
+use Rattle.places.specs.Places.{lineIn, FirstLines}
+use Rattle.places.specs.Laws.{connect-first}
+use Rattle.pass.specs.Pass.{firstLines, firstPlaces, passed}
+use Rattle.pass.specs.Laws.{passed-ok, Passing, passed-others}
 use Rattle.places.specs.declared.Lines.{Lines}
 use Rattle.places.specs.declared.Places.{Places}
-use Rattle.places.specs.declared.Passed.{Passed}
-use Rattle.places.specs.declared.Passed.the-variants as pass
+use Rattle.pass.specs.declared.Passed.{Passed}
+use Rattle.pass.specs.declared.Passed.the-variants as pass
 use Rattle.answers.specs.declared.Kind.{Kind}
 use Rattle.answers.specs.declared.Kind.the-variants as kind
 use Rattle.answers.specs.declared.Answer.{Answer}
@@ -264,6 +266,10 @@ module _ (s : List ℕ) (e : ℕ) (b : Bool) (p : b ≡ stands (fixedText fixed.
   pub na-miss : b ≡ false → tries.Next ≡ notAllowed s e
   unfolding notAllowed
   na-miss q = rw (sym p ∙ q)
+
+-- a table without a byte has no record
+pub none-others : (t : List ℕ) → length t ≡ 0 → SameCustoms [] t
+none-others t g m h = entries-past m [] 0 0 (omega arith) ∙ sym (entries-past m t 0 0 (omega arith))
 
 pub others-told : (t : List ℕ) (r : Noticed) → OthersTold t r → (b : Bool) → r ≡ noticed.Next b → Unless b (SameCustoms [] t)
 others-told t r w b q = rw q at w

@@ -9,7 +9,8 @@ use Rattle.table.specs.Table.{Token, Entry, sameMark, ofMark, entries}
 use Rattle.table.specs.declared.Mark.{Mark}
 use Rattle.table.specs.declared.Mark.the-variants as mark
 use Rattle.lines.specs.declared.Digester.{Digester}
-use Rattle.places.specs.Places.{firstLines, firstPlaces, unsought}
+use Rattle.places.specs.Places.{unsought}
+use Rattle.pass.specs.Pass.{firstLines, firstPlaces}
 use Rattle.places.specs.declared.Places.{Places}
 use Rattle.items.specs.declared.Tried.{Tried}
 use Rattle.items.specs.declared.Tried.the-variants as tries

@@ -27,8 +27,10 @@ use Rattle.parser.specs.Moved.{prompt-moved, custom-moved, shiftNumeric, numeri
 use Rattle.parser.specs.declared.Numeric.{Numeric}
 use Rattle.parser.specs.declared.Numeric.the-variants as numeric
 use Rattle.parser.specs.declared.Notice.{Notice}
-use Rattle.places.specs.Places.{firstPlaces, unsought}
-use Rattle.places.specs.Laws.{heads-first, sought-first}
+use Rattle.places.specs.Places.{unsought}
+use Rattle.pass.specs.Pass.{firstPlaces}
+use Rattle.places.specs.Laws.{sought-first}
+use Rattle.pass.specs.Laws.{heads-first}
 use Rattle.items.specs.declared.Occurs.{Occurs}
 use Rattle.items.specs.declared.Occurs.the-variants as occurs
 use Rattle.items.specs.declared.Tried.{Tried}

@@ -22,8 +22,8 @@ use items::Tried;
 use lines::Digester;
 use lines::Fixed;
 use parser::Notice;
+use pass::Passed;
 use places::Lines;
-use places::Passed;
 use places::Places;
 use table::Mark;
 use table::Next;
@@ -77,6 +77,9 @@ fn notices(table: &[u8], s: &[u8], e: usize) -> Noticed
     ensures is { λ r. ⌜ noticedTried r ≡ notices (entries mark.Notice (now (table .entry)) 0 0) (now (s .entry)) e ⌝ }
     ensures others { λ r. ⌜ OthersTold (now (table .entry)) r ⌝ }
 {
+    if table.len() == 0 {
+        return Noticed::Next(false);
+    }
     let ending = parser::line_ending(s, e);
     let mut at = 0;
     let mut n = 0;
@@ -173,7 +176,7 @@ fn successes(digester: Digester, table: &[u8], s: &[u8], e: usize) -> Succeeded
     if let Tried::Done(a) = custom_success(table, s, e) {
         return Succeeded::Done(a);
     }
-    match places::pass(s, e) {
+    match pass::pass(s, e) {
         Passed::Ok(k) => Succeeded::Done(success(s, e, k, k + lines::fixed_len(Fixed::Ok))),
         Passed::Others(lines, places) => match connect_success(digester, s, e, lines) {
             Tried::Done(a) => Succeeded::Done(a),

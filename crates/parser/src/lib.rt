@@ -118,10 +118,10 @@ pub fn tail_at(buf: &[u8], place: usize) -> Numeric
 pub fn find_byte(buf: &[u8], from: usize, byte: u8) -> Found
     ensures { λ r. ⌜ r ≡ findIn (byte ∷ []) (now (buf .entry)) from ⌝ }
 {
-    let one = [byte];
     if buf.len() < seek::SHORT {
-        return text::find(buf, from, &one);
+        return seek::find_byte(buf, from, byte);
     }
+    let one = [byte];
     seek::find(buf, from, &one, 0, 0)
 }
 

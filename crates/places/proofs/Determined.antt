@@ -3,9 +3,6 @@ use Rattle.outcome.specs.One.{One}
 use Rattle.text.specs.Logic.{determined}
 use Rattle.places.proofs as calls
 
-pub pass-one : One calls.pass.Reads.Post
-pass-one κs a x y s t = determined
-
 pub place-one : One calls.place.Reads.Post
 place-one κs a x y s t = determined
 

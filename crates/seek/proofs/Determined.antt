@@ -11,3 +11,6 @@ find-cr-one κs a x y s t = determined
 
 pub skip-spaces-one : One calls.skip_spaces.Reads.Post
 skip-spaces-one κs a x y s t = determined
+
+pub find-byte-one : One calls.find_byte.Reads.Post
+find-byte-one κs a x y s t = determined

@@ -79,6 +79,10 @@ pub byte-here : (b : ℕ) (s : List ℕ) (i : ℕ) → i < length s → getD s i
 unfolding stands begins
 byte-here b s i h e = find-here (b ∷ []) s i (rw (drop-cons s i 0 h, eq-eqb (getD s i 0) b e))
 
+-- and where another is
+pub byte-not : (b : ℕ) (s : List ℕ) (i : ℕ) → i < length s → (getD s i 0 ≡ b → ⊥) → findIn (b ∷ []) s i ≡ findIn (b ∷ []) s (i + 1)
+byte-not b s i h e = find-next (b ∷ []) s i h (not-true-false (stands (b ∷ []) s i) (λ p. e (stands-byte b [] s i p .1 .0)))
+
 -- n spaces from i on are passed over
 pub spaces-all : (s : List ℕ) (i n : ℕ) → i + n ≤ length s → allOf (spaceAt s i) n ≡ true → past (isBlank Space) s i ≡ past (isBlank Space) s (i + n)
 unfolding allOf spaceAt

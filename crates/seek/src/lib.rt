@@ -2,6 +2,7 @@
 // A text is looked for by two of its bytes, those at k and l in it. The caller picks two that ordinary traffic seldom has so far apart:
 // they change what a search costs, and nothing else.
 ghost use mathlib.Core.Path.{_≡_};
+ghost use mathlib.Core.List.{[], _∷_};
 ghost use Prim.Native.Nat.{_≤_, _<_, _+_, min};
 ghost use lib.ListN.{length};
 ghost use Rattle.text.specs.Bytes.{bytes};
@@ -126,6 +127,20 @@ pub fn find(s: &[u8], from: usize, t: &[u8], k: usize, l: usize) -> Found
     find_long(s, from, e, t, k, l)
 }
 
+// The first place at or after `from` that has the byte, one by one.
+pub fn find_byte(s: &[u8], from: usize, byte: u8) -> Found
+    ensures { λ r. ⌜ r ≡ findIn (byte ∷ []) (now (s .entry)) from ⌝ }
+{
+    let mut i = from;
+    while i < s.len() {
+        if s[i] == byte {
+            return Found::At(i);
+        }
+        i += 1;
+    }
+    Found::Nothing
+}
+
 // The least of the n bytes from `at` on, of which the search asks only that none is below it. It goes through all n, so that a processor may take many at once.
 fn least(s: &[u8], at: usize, n: usize) -> u8
     requires { ⌜ at + n ≤ length (now s) ⌝ }
@@ -171,14 +186,16 @@ pub fn find_cr(s: &[u8], from: usize) -> Found
         return Found::At(from);
     }
     if s.len() - from <= BLOCK {
-        return text::find(s, from, b"\r");
+        return find_byte(s, from, b'\r');
     }
     let next = from + 1;
     if hit(s, next, b'\r', next, b'\r', BLOCK) {
-        return text::find(s, from, b"\r");
+        return find_byte(s, from, b'\r');
     }
-    let p = pass_plain(s, from);
-    find(s, p, b"\r", 0, 0)
+    let plain = pass_plain(s, from);
+    let far = pass(s, plain, s.len(), b"\r", 0, 0, FOUR);
+    let near = pass(s, far, s.len(), b"\r", 0, 0, BLOCK);
+    find_byte(s, near, b'\r')
 }
 
 // Are the n bytes from `at` on all spaces? It goes through all n, so that a processor may take many at once.

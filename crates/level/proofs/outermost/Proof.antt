@@ -2,7 +2,7 @@
 use Rattle.level.specs.Laws.{others-told, places-told, same-successes, behind-at}
 use Rattle.level.specs.Level.{noticedTried, succeededTried, outermost}
 use Rattle.items.specs.Laws.{before-hit, before-miss}
-use Rattle.places.specs.Laws.{lines-first}
+use Rattle.pass.specs.Laws.{lines-first}
 use mathlib.Core.Path.{ap, _∙_}
 use borrow.Author.Needs.{needs}
 use Rattle.level.proofs.outermost.Statement.{statement}

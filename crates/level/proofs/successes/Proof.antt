@@ -2,7 +2,7 @@
 use Rattle.level.specs.Laws.{ok-room, ok-is, others-passed, ok-none}
 use Rattle.items.specs.Laws.{hit, miss}
 use Rattle.items.specs.Rules.{successes}
-use Rattle.places.specs.Laws.{lines-first}
+use Rattle.pass.specs.Laws.{lines-first}
 use native.Mathlib.Omega.{arith}
 use mathlib.Core.Path.{refl, sym, _∙_}
 use borrow.Author.Needs.{needs}

@@ -1,10 +1,10 @@
--- `find_cr` meets its contract: a CR at the first place is the first, each search promises the rest, and the pass leaves the answer as it was.
-use mathlib.Core.Path.{sym, _∙_}
-use native.Mathlib.Omega.{arith}
-use borrow.Author.Needs.{needs}
-use Rattle.text.specs.Bytes.{bytes}
-use Rattle.text.specs.Laws.{find-late}
+-- `find_cr` meets its contract: a CR at the first place is the first, each search promises the rest, and the passes leave the answer as it was.
 use Rattle.seek.specs.Laws.{byte-here}
+use Rattle.text.specs.Laws.{find-late}
+use Rattle.text.specs.Bytes.{bytes}
+use native.Mathlib.Omega.{arith}
+use mathlib.Core.Path.{sym, _∙_}
+use borrow.Author.Needs.{needs}
 use Rattle.seek.proofs.find_cr.Statement.{statement}
 use Rattle.seek.proofs.find_cr.Tie as tie
 
@@ -24,11 +24,8 @@ returns-2 c =
 sub-if3 : tie.Need-sub-if3
 sub-if3 c = search needs
 
-slice-aggregate-find : tie.Need-slice-aggregate-find
-slice-aggregate-find c = search needs
-
-find-requires : tie.Need-find-requires
-find-requires c κs = search needs
+find-byte-requires : tie.Need-find-byte-requires
+find-byte-requires c κs = search needs
 
 returns-3 : tie.Need-returns-3
 returns-3 c = search needs
@@ -39,11 +36,8 @@ add-next c = search needs
 hit-requires : tie.Need-hit-requires
 hit-requires c κs = search needs
 
-slice-aggregate-find-2 : tie.Need-slice-aggregate-find-2
-slice-aggregate-find-2 c = search needs
-
-find-requires-2 : tie.Need-find-requires-2
-find-requires-2 c κs = search needs
+find-byte-requires-2 : tie.Need-find-byte-requires-2
+find-byte-requires-2 c κs = search needs
 
 returns-4 : tie.Need-returns-4
 returns-4 c = search needs
@@ -51,14 +45,26 @@ returns-4 c = search needs
 pass-plain-requires : tie.Need-pass-plain-requires
 pass-plain-requires c κs = search needs
 
-slice-aggregate-find-3 : tie.Need-slice-aggregate-find-3
-slice-aggregate-find-3 c = search needs
+slice-aggregate-pass : tie.Need-slice-aggregate-pass
+slice-aggregate-pass c = search needs
 
-find-requires-3 : tie.Need-find-requires-3
-find-requires-3 c κs = search needs
+pass-requires : tie.Need-pass-requires
+pass-requires c κs = search needs
+
+slice-aggregate-pass-2 : tie.Need-slice-aggregate-pass-2
+slice-aggregate-pass-2 c = search needs
+
+pass-requires-2 : tie.Need-pass-requires-2
+pass-requires-2 c κs = search needs
+
+find-byte-requires-3 : tie.Need-find-byte-requires-3
+find-byte-requires-3 c κs = search needs
 
 returns-5 : tie.Need-returns-5
-returns-5 c = c .find3 .ensures ∙ sym (c .before .before .pass-plain .ensures .same)
+returns-5 c =
+    let pass-plain = c .before .before .before .before .before .pass-plain in
+    let pass = c .before .before .before .pass in
+    c .find-byte3 .ensures ∙ sym (pass-plain .ensures .same ∙ pass .ensures .same ∙ c .before .pass2 .ensures .same)
 
 pub find-cr-spec : {M : Type 1} → statement M
 find-cr-spec =
@@ -68,15 +74,16 @@ find-cr-spec =
     shared-slice-read-if2
     returns-2
     sub-if3
-    slice-aggregate-find
-    find-requires
+    find-byte-requires
     returns-3
     add-next
     hit-requires
-    slice-aggregate-find-2
-    find-requires-2
+    find-byte-requires-2
     returns-4
     pass-plain-requires
-    slice-aggregate-find-3
-    find-requires-3
+    slice-aggregate-pass
+    pass-requires
+    slice-aggregate-pass-2
+    pass-requires-2
+    find-byte-requires-3
     returns-5)

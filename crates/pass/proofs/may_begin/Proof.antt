@@ -1,9 +1,9 @@
 -- `may_begin` meets its contract, which has the same test.
-use Rattle.places.specs.Begin.{mayBegin}
+use Rattle.pass.specs.Begin.{mayBegin}
 use mathlib.Core.Path.{refl}
 use borrow.Author.Needs.{needs}
-use Rattle.places.proofs.may_begin.Statement.{statement}
-use Rattle.places.proofs.may_begin.Tie as tie
+use Rattle.pass.proofs.may_begin.Statement.{statement}
+use Rattle.pass.proofs.may_begin.Tie as tie
 
 add-b : tie.Need-add-b
 add-b c = search needs

@@ -1,11 +1,11 @@
 -- `pass` meets its contract: by what may begin, and by what the table finds.
-use Rattle.places.specs.Laws.{pass-none, pass-ok, pass-room, pass-found, pass-others}
-use Rattle.places.specs.Begin.{clear-here}
+use Rattle.pass.specs.Laws.{pass-none, pass-ok, pass-here, pass-room, pass-found, pass-others}
+use Rattle.pass.specs.Begin.{clear-here}
 use native.Mathlib.Omega.{arith}
 use mathlib.Core.Path.{sym, _∙_}
 use borrow.Author.Needs.{needs}
-use Rattle.places.proofs.pass.Statement.{statement}
-use Rattle.places.proofs.pass.Tie as tie
+use Rattle.pass.proofs.pass.Statement.{statement}
+use Rattle.pass.proofs.pass.Tie as tie
 
 lines-at-requires : tie.Need-lines-at-requires
 lines-at-requires c κs = search needs
@@ -44,26 +44,47 @@ returns-3 c =
     let begin-from = c .before .before .before .begin-from in
     pass-ok (args .s .now) (args .e) _ (begin-from .ensures) (sym (c .before .fixed-at .ensures) ∙ c .if3 .taken)
 
-scan-requires : tie.Need-scan-requires
-scan-requires c κs = search needs
+add-begin-from : tie.Need-add-begin-from
+add-begin-from c = omega arith
 
-array-read-if4 : tie.Need-array-read-if4
-array-read-if4 c = search needs
+begin-from-requires-2 : tie.Need-begin-from-requires-2
+begin-from-requires-2 c κs = omega arith
 
-array-read-t23 : tie.Need-array-read-t23
-array-read-t23 c = search needs
+lines-here-requires : tie.Need-lines-here-requires
+lines-here-requires c κs = search needs
 
-sub-t24 : tie.Need-sub-t24
-sub-t24 c =
-    let args = c .before .before .before .before .before .before .before .before .before .args in
-    let begin-from = c .before .before .before .before .before .before .begin-from in
-    let scan = c .before .before .scan in
-    pass-room (args .s .now) (args .e) _ (begin-from .ensures) _ (scan .ensures .1) (omega arith)
+heads-here-requires : tie.Need-heads-here-requires
+heads-here-requires c κs = search needs
 
 returns-4 : tie.Need-returns-4
 returns-4 c =
-    let args = c .before .before .before .before .before .before .before .before .before .args in
-    let begin-from = c .before .before .before .before .before .before .begin-from in
+    let args = c .before .before .before .before .before .before .before .before .before .before .args in
+    let begin-from = c .before .before .before .before .before .before .before .begin-from in
+    let begin-from2 = c .before .before .before .begin-from2 in
+    let fixed-at = c .before .before .before .before .before .fixed-at in
+    let if3 = c .before .before .before .before .if3 in
+    pass-here (args .s .now) (args .e) _ (begin-from .ensures) (omega arith) _ (begin-from2 .ensures) (omega arith) (sym (fixed-at .ensures) ∙ if3 .left) _ (c .before .lines-here .ensures) _ (c .heads-here .ensures)
+
+scan-requires : tie.Need-scan-requires
+scan-requires c κs = search needs
+
+array-read-if5 : tie.Need-array-read-if5
+array-read-if5 c = search needs
+
+array-read-t27 : tie.Need-array-read-t27
+array-read-t27 c = search needs
+
+sub-t28 : tie.Need-sub-t28
+sub-t28 c =
+    let args = c .before .before .before .before .before .before .before .before .before .before .before .args in
+    let begin-from = c .before .before .before .before .before .before .before .before .begin-from in
+    let scan = c .before .before .scan in
+    pass-room (args .s .now) (args .e) _ (begin-from .ensures) _ (scan .ensures .1) (omega arith)
+
+returns-5 : tie.Need-returns-5
+returns-5 c =
+    let args = c .before .before .before .before .before .before .before .before .before .before .before .args in
+    let begin-from = c .before .before .before .before .before .before .before .before .begin-from in
     let scan = c .before .before .scan in
     pass-found (args .s .now) (args .e) _ (begin-from .ensures) _ (scan .ensures .1) (omega arith)
 
@@ -73,10 +94,10 @@ lines-at-requires-3 c κs = search needs
 heads-at-requires-3 : tie.Need-heads-at-requires-3
 heads-at-requires-3 c κs = search needs
 
-returns-5 : tie.Need-returns-5
-returns-5 c =
-    let args = c .before .before .before .before .before .before .before .before .before .before .before .before .before .args in
-    let begin-from = c .before .before .before .before .before .before .before .before .before .before .begin-from in
+returns-6 : tie.Need-returns-6
+returns-6 c =
+    let args = c .before .before .before .before .before .before .before .before .before .before .before .before .before .before .before .args in
+    let begin-from = c .before .before .before .before .before .before .before .before .before .before .before .before .begin-from in
     let scan = c .before .before .before .before .before .before .scan in
     let lines-at3 = c .before .before .lines-at3 in
     pass-others (args .s .now) (args .e) _ (begin-from .ensures) _ (scan .ensures .1) _ (lines-at3 .ensures) _ (c .heads-at3 .ensures) (omega arith)
@@ -94,11 +115,16 @@ pass-spec =
     returns-2
     fixed-at-requires
     returns-3
-    scan-requires
-    array-read-if4
-    array-read-t23
-    sub-t24
+    add-begin-from
+    begin-from-requires-2
+    lines-here-requires
+    heads-here-requires
     returns-4
+    scan-requires
+    array-read-if5
+    array-read-t27
+    sub-t28
+    returns-5
     lines-at-requires-3
     heads-at-requires-3
-    returns-5)
+    returns-6)

@@ -1,12 +1,12 @@
 -- `any_begins` meets its contract: what was met so far is what the first j have. The measure is what is left of n.
-use Rattle.places.specs.Begin.{beginFrom}
+use Rattle.pass.specs.Begin.{beginFrom}
 use Rattle.seek.specs.Seek.{anyOf}
 use native.Mathlib.Omega.{arith}
 use native.Mathlib.Numerals.{add-one}
 use Prim.Native.Nat.{_-_, _≤_}
 use mathlib.Core.Path.{_≡_, refl, ap, _∙_}
-use Rattle.places.proofs.any_begins.Statement.{statement}
-use Rattle.places.proofs.any_begins.Tie as tie
+use Rattle.pass.proofs.any_begins.Statement.{statement}
+use Rattle.pass.proofs.any_begins.Tie as tie
 
 abbrev Inv-loop : tie.InvT-loop
 Inv-loop s at n any₀ j₀ any j = (j ≤ n) × (any ≡ anyOf (beginFrom s at) j)

@@ -1,12 +1,12 @@
 -- `begin_from` meets its contract, which is its invariant: nothing begins before the next CR, nor in a block where nothing may. The measure is the places left.
-use Rattle.places.specs.Begin.{Clear, clear-here, clear-join, clear-block, clear-none, cr-inside, clear-cr}
+use Rattle.pass.specs.Begin.{Clear, clear-here, clear-join, clear-block, clear-none, cr-inside, clear-cr}
 use lib.ListN.{length}
 use borrow.Author.Needs.{needs}
 use native.Mathlib.Omega.{arith}
 use Prim.Native.Nat.{_-_, _≤_}
 use mathlib.Core.Path.{sym, _∙_}
-use Rattle.places.proofs.begin_from.Statement.{statement}
-use Rattle.places.proofs.begin_from.Tie as tie
+use Rattle.pass.proofs.begin_from.Statement.{statement}
+use Rattle.pass.proofs.begin_from.Tie as tie
 
 abbrev Inv-loop : tie.InvT-loop
 Inv-loop s from i₀ i = (i ≤ length s) × Clear s from i

@@ -1,11 +1,11 @@
 -- `begin_near` meets its contract, which is its invariant: nothing begins before p. The measure is the places left.
-use Rattle.places.specs.Begin.{Clear, clear-here, clear-join, clear-one, clear-end}
+use Rattle.pass.specs.Begin.{Clear, clear-here, clear-join, clear-one, clear-end}
 use lib.ListN.{length}
 use Prim.Native.Nat.{_+_, _-_, _≤_}
 use mathlib.Core.Path.{sym, _∙_}
 use native.Mathlib.Omega.{arith}
-use Rattle.places.proofs.begin_near.Statement.{statement}
-use Rattle.places.proofs.begin_near.Tie as tie
+use Rattle.pass.proofs.begin_near.Statement.{statement}
+use Rattle.pass.proofs.begin_near.Tie as tie
 
 abbrev Inv-loop : tie.InvT-loop
 Inv-loop s from p₀ p = (p ≤ length s) × Clear s from p

@@ -1,8 +1,8 @@
 -- `begins_at` meets its contract: without the LF none may begin.
-use Rattle.places.specs.Begin.{no-begin}
+use Rattle.pass.specs.Begin.{no-begin}
 use borrow.Author.Needs.{needs}
-use Rattle.places.proofs.begins_at.Statement.{statement}
-use Rattle.places.proofs.begins_at.Tie as tie
+use Rattle.pass.proofs.begins_at.Statement.{statement}
+use Rattle.pass.proofs.begins_at.Tie as tie
 
 add-if1 : tie.Need-add-if1
 add-if1 c = search needs

@@ -1,0 +1,3 @@
+pub mod Pass
+pub mod Begin
+pub mod Laws
