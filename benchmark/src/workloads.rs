@@ -67,6 +67,7 @@ pub fn all() -> Vec<Workload> {
     error("NO ANSWER", empty, b"NO ANSWER");
     error("NO DIALTONE", empty, b"NO DIALTONE");
     error("NA", empty, b"NA");
+    error("BUSY, then ERROR", empty, b"BUSY\r\n\r\nERROR");
     error("custom error", Table::CustomError, b"SIM BUSY");
 
     let group = "notices";

@@ -33,7 +33,7 @@ pub struct Shape {
 }
 
 /// The long inputs: workloads at 4,096 bytes, and at several lengths what shows how work grows.
-pub const SHAPES: [Shape; 9] = [
+pub const SHAPES: [Shape; 10] = [
     Shape { name: "one long line, OK", input: |len| joined(&[b"\r\n", &letters(len - 10), b"\r\n", OK]) },
     Shape { name: "one long line, no CRLF before it, OK", input: |len| joined(&[&letters(len - 6), OK]) },
     Shape { name: "many lines, OK", input: |len| lines(OK, len) },
@@ -41,6 +41,7 @@ pub const SHAPES: [Shape; 9] = [
     Shape { name: "no CR", input: letters },
     Shape { name: "spaces", input: |len| vec![b' '; len] },
     Shape { name: "CRLFs", input: |len| over_and_over(b"\r\n", len) },
+    Shape { name: "CRLF NO CRLF over and over", input: |len| over_and_over(b"\r\nNO\r\n", len) },
     Shape { name: "CRLF +CME ERROR over and over", input: |len| over_and_over(b"\r\n+CME ERROR", len) },
     Shape { name: "CRLF +CME ERROR: over and over", input: |len| over_and_over(b"\r\n+CME ERROR:", len) },
 ];

@@ -47,7 +47,7 @@ use Rattle.items.specs.declared.Hinted.the-variants as hint
 use Rattle.items.specs.declared.Hints.{Hints}
 use Rattle.items.specs.declared.Level.{Level}
 use Rattle.items.specs.declared.Level.the-variants as level
-use Rattle.items.specs.Rules.{orElse, notices, occursOr, firstCustom, promptTried, customPrompts, customError, kindOf, numericTried}
+use Rattle.items.specs.Rules.{orElse, occursOr, firstCustom, promptTried, customPrompts, customError, kindOf, numericTried}
 use Rattle.items.specs.Hints.{sought, firstPlace, decided, orHint, foundHint, firstFrom, before, hinted, onward, promptBytes, numerics, firsts, allIdle}
 
 -- A chain of rules: u is what the first rule t gave. It answered; or it didn't, and the rest r decides.
@@ -134,10 +134,6 @@ module _ (m : Mark) (t : List ℕ) (at n : ℕ) (q : Next) (p : q ≡ nextOf m t
 pub none-first : (m : Mark) (t s : List ℕ) (e : ℕ) → length t ≡ 0 → occurs.Nothing ≡ firstCustom (entries m t 0 0) s e
 unfolding firstCustom
 none-first m t s e h = sym (ap (λ (l : List Entry). firstCustom l s e) (entries-past m t 0 0 (omega arith)))
-
-pub none-notices : (t s : List ℕ) (e : ℕ) → length t ≡ 0 → tries.Next ≡ notices (entries mark.Notice t 0 0) s e
-unfolding notices
-none-notices t s e h = sym (ap (λ (l : List Entry). notices l s e) (entries-past mark.Notice t 0 0 (omega arith)))
 
 pub none-prompts : (t s : List ℕ) (e : ℕ) → length t ≡ 0 → tries.Next ≡ customPrompts (entries mark.Prompt t 0 0) s e
 unfolding customPrompts

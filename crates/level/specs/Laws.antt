@@ -267,10 +267,6 @@ module _ (s : List ℕ) (e : ℕ) (b : Bool) (p : b ≡ stands (fixedText fixed.
   unfolding notAllowed
   na-miss q = rw (sym p ∙ q)
 
--- a table without a byte has no record
-pub none-others : (t : List ℕ) → length t ≡ 0 → SameCustoms [] t
-none-others t g m h = entries-past m [] 0 0 (omega arith) ∙ sym (entries-past m t 0 0 (omega arith))
-
 pub others-told : (t : List ℕ) (r : Noticed) → OthersTold t r → (b : Bool) → r ≡ noticed.Next b → Unless b (SameCustoms [] t)
 others-told t r w b q = rw q at w
 

@@ -77,9 +77,6 @@ fn notices(table: &[u8], s: &[u8], e: usize) -> Noticed
     ensures is { λ r. ⌜ noticedTried r ≡ notices (entries mark.Notice (now (table .entry)) 0 0) (now (s .entry)) e ⌝ }
     ensures others { λ r. ⌜ OthersTold (now (table .entry)) r ⌝ }
 {
-    if table.len() == 0 {
-        return Noticed::Next(false);
-    }
     let ending = parser::line_ending(s, e);
     let mut at = 0;
     let mut n = 0;

@@ -7,8 +7,8 @@ use Rattle.table.specs.Table.{entries}
 use Rattle.table.specs.declared.Mark.the-variants as mark
 use Rattle.items.specs.Rules.{notices}
 use Rattle.level.specs.Level.{Unless}
-use Rattle.items.specs.Laws.{none-notices, next-room}
-use Rattle.level.specs.Laws.{none-others, notices-end, notices-hit, notices-more}
+use Rattle.items.specs.Laws.{next-room}
+use Rattle.level.specs.Laws.{notices-end, notices-hit, notices-more}
 use Rattle.level.specs.Laws.{OnlyNotices, only-more, only-end}
 use Rattle.level.proofs.notices.Statement.{statement}
 use Rattle.level.proofs.notices.Tie as tie
@@ -18,11 +18,6 @@ Inv-loop table s e ending at₀ n₀ others₀ at n others = (notices (entries m
 
 abbrev μ-loop : tie.MeasureT-loop
 μ-loop table s e ending at₀ n₀ others₀ at n others = 64 - n
-
-returns : tie.Need-returns Inv-loop μ-loop
-returns c =
-    let args = c .before .before .before .args in
-    (none-notices (args .table .now) (args .s .now) (args .e) (omega arith), none-others (args .table .now) (omega arith))
 
 line-ending-requires : tie.Need-line-ending-requires Inv-loop μ-loop
 line-ending-requires c κs = search needs
@@ -36,9 +31,9 @@ next-of-requires c κs = search needs
 enum-told : tie.Need-enum-told Inv-loop μ-loop
 enum-told c = search needs
 
-returns-2 : tie.Need-returns-2 Inv-loop μ-loop
-returns-2 c =
-    let args = c .before .before .before .before .before .before .before .before .args in
+returns : tie.Need-returns Inv-loop μ-loop
+returns c =
+    let args = c .before .before .before .before .before .before .before .args in
     let loop = c .before .before .before .loop in
     let next-of = c .before .before .next-of in
     (notices-end (args .table .now) (args .s .now) (args .e) (loop .at) (loop .n) (loop .inv .0) _ (next-of .ensures) (c .enum-told .given .1), only-end (args .table .now) (loop .at) (loop .n) (loop .others) (loop .inv .1))
@@ -48,7 +43,7 @@ enum-known-r c = search needs
 
 add-end : tie.Need-add-end Inv-loop μ-loop
 add-end c =
-    let args = c .before .before .before .before .before .before .before .before .before .before .args in
+    let args = c .before .before .before .before .before .before .before .before .before .args in
     let loop = c .before .before .before .before .before .loop in
     let next-of = c .before .before .before .before .next-of in
     let r = c .before .before .r in
@@ -56,7 +51,7 @@ add-end c =
 
 sub-x : tie.Need-sub-x Inv-loop μ-loop
 sub-x c =
-    let args = c .before .before .before .before .before .before .before .before .before .before .args in
+    let args = c .before .before .before .before .before .before .before .before .before .args in
     let loop = c .before .before .before .before .before .loop in
     let next-of = c .before .before .before .before .next-of in
     let r = c .before .before .r in
@@ -64,7 +59,7 @@ sub-x c =
 
 part-x-start : tie.Need-part-x-start Inv-loop μ-loop
 part-x-start c =
-    let args = c .before .before .before .before .before .before .before .before .before .before .args in
+    let args = c .before .before .before .before .before .before .before .before .before .args in
     let loop = c .before .before .before .before .before .loop in
     let next-of = c .before .before .before .before .next-of in
     let r = c .before .before .r in
@@ -72,7 +67,7 @@ part-x-start c =
 
 part-x-end : tie.Need-part-x-end Inv-loop μ-loop
 part-x-end c =
-    let args = c .before .before .before .before .before .before .before .before .before .before .args in
+    let args = c .before .before .before .before .before .before .before .before .before .args in
     let loop = c .before .before .before .before .before .loop in
     let next-of = c .before .before .before .before .next-of in
     let r = c .before .before .r in
@@ -80,7 +75,7 @@ part-x-end c =
 
 cast-one-notice : tie.Need-cast-one-notice Inv-loop μ-loop
 cast-one-notice c =
-    let args = c .before .before .before .before .before .before .before .before .before .before .before .args in
+    let args = c .before .before .before .before .before .before .before .before .before .before .args in
     let loop = c .before .before .before .before .before .before .loop in
     let next-of = c .before .before .before .before .before .next-of in
     let r = c .before .before .before .r in
@@ -88,16 +83,16 @@ cast-one-notice c =
 
 one-notice-requires : tie.Need-one-notice-requires Inv-loop μ-loop
 one-notice-requires c κs =
-    let pre = c .before .before .before .before .before .before .before .before .before .before .before .pre in
+    let pre = c .before .before .before .before .before .before .before .before .before .before .pre in
     let line-ending = c .before .before .before .before .before .before .before .line-ending in
     (pre, line-ending .ensures)
 
 enum-known-a : tie.Need-enum-known-a Inv-loop μ-loop
 enum-known-a c = search needs
 
-returns-3 : tie.Need-returns-3 Inv-loop μ-loop
-returns-3 c =
-    let args = c .before .before .before .before .before .before .before .before .before .before .before .before .before .before .before .args in
+returns-2 : tie.Need-returns-2 Inv-loop μ-loop
+returns-2 c =
+    let args = c .before .before .before .before .before .before .before .before .before .before .before .before .before .before .args in
     let loop = c .before .before .before .before .before .before .before .before .before .before .loop in
     let next-of = c .before .before .before .before .before .before .before .before .before .next-of in
     let r = c .before .before .before .before .before .before .before .r in
@@ -109,7 +104,7 @@ enum-told-2 c = search needs
 
 add-n : tie.Need-add-n Inv-loop μ-loop
 add-n c =
-    let args = c .before .before .before .before .before .before .before .before .before .before .before .before .before .before .args in
+    let args = c .before .before .before .before .before .before .before .before .before .before .before .before .before .args in
     let loop = c .before .before .before .before .before .before .before .before .before .loop in
     let next-of = c .before .before .before .before .before .before .before .before .next-of in
     let r = c .before .before .before .before .before .before .r in
@@ -117,7 +112,7 @@ add-n c =
 
 loop-less : tie.Need-loop-less Inv-loop μ-loop
 loop-less c =
-    let args = c .before .before .before .before .before .before .before .before .before .before .before .before .before .before .args in
+    let args = c .before .before .before .before .before .before .before .before .before .before .before .before .before .args in
     let loop = c .before .before .before .before .before .before .before .before .before .loop in
     let next-of = c .before .before .before .before .before .before .before .before .next-of in
     let r = c .before .before .before .before .before .before .r in
@@ -125,7 +120,7 @@ loop-less c =
 
 loop-again : tie.Need-loop-again Inv-loop μ-loop
 loop-again c =
-    let args = c .before .before .before .before .before .before .before .before .before .before .before .before .before .before .args in
+    let args = c .before .before .before .before .before .before .before .before .before .before .before .before .before .args in
     let loop = c .before .before .before .before .before .before .before .before .before .loop in
     let next-of = c .before .before .before .before .before .before .before .before .next-of in
     let r = c .before .before .before .before .before .before .r in
@@ -138,12 +133,11 @@ notices-spec =
     (tie.spec
     Inv-loop
     μ-loop
-    returns
     line-ending-requires
     loop-holds
     next-of-requires
     enum-told
-    returns-2
+    returns
     enum-known-r
     add-end
     sub-x
@@ -152,7 +146,7 @@ notices-spec =
     cast-one-notice
     one-notice-requires
     enum-known-a
-    returns-3
+    returns-2
     enum-told-2
     add-n
     loop-less
