@@ -19,6 +19,7 @@ use Rattle.lines.specs.Laws.{fixed-some}
 use Rattle.lines.specs.declared.Fixed.{Fixed}
 use Rattle.lines.specs.declared.Fixed.the-variants.{Ok, Connect, Error, CommandNotSupport, NoCarrier, Busy, NoAnswer, NoDialtone, Na, Cme, Cms, Modem, ConnectText}
 use Rattle.seek.specs.Seek.{anyOf}
+use Rattle.seek.specs.Laws.{or-false}
 
 -- The eleven: all but NA and CONNECT with text.
 abbrev pub isEleventh : Fixed → Bool
@@ -86,10 +87,6 @@ module _ (t s : List ℕ) (p : ℕ) (w : Begins t) (q : stands t s p ≡ true) w
 
   begins-cr : stands (bytes "\r") s p ≡ true
   begins-cr = stands-front (bytes "\r") (drop 1 t) s p (ap (λ (u : List ℕ). stands u s p) (sym (w .cr)) ∙ q)
-
-or-false : (a b : Bool) → a || b ≡ false → (a ≡ false) × (b ≡ false)
-or-false true b e = absurd (false-true refl e)
-or-false false b e = (refl, e)
 
 module _ (s : List ℕ) where
   pub clear-here : (i : ℕ) → Clear s i i

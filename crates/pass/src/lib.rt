@@ -40,7 +40,7 @@ fn any_begins(s: &[u8], at: usize, n: usize) -> bool
     any
 }
 
-// The same for one place alone: most have no LF there.
+// May one begin at p? Of a place by itself the LF is asked first: most have none there.
 fn begins_at(s: &[u8], p: usize) -> bool
     requires { ⌜ p + 5 ≤ length (now s) ⌝ }
     ensures { λ r. ⌜ r ≡ mayBegin (now (s .entry)) p ⌝ }
@@ -130,7 +130,7 @@ fn end_here(s: &[u8], p: usize, text: Fixed) -> usize
     p + lines::fixed_len(text)
 }
 
-// The lines but OK, and the heads, where nothing but what stands at p may stand.
+// The lines but OK, where nothing but what stands at p may stand.
 fn lines_here(s: &[u8], p: usize) -> Lines
     ensures { λ r. ⌜ r ≡ linesHere (now (s .entry)) p ⌝ }
 {
@@ -145,6 +145,7 @@ fn lines_here(s: &[u8], p: usize) -> Lines
     }
 }
 
+// And the heads, from e on.
 fn heads_here(s: &[u8], e: usize, p: usize) -> Places
     ensures { λ r. ⌜ r ≡ headsHere (now (s .entry)) e p ⌝ }
 {

@@ -62,6 +62,7 @@ fn is_line(text: Fixed) -> bool
     }
 }
 
+// Where the line ends, as the pass found it.
 fn line_end(lines: Lines, text: Fixed) -> usize
     ensures { λ r. ⌜ r ≡ lineEnd lines text ⌝ }
 {
@@ -103,6 +104,7 @@ fn is_head(text: Fixed) -> bool
     }
 }
 
+// Where the head ends, as the pass found it.
 fn head_end(places: Places, text: Fixed) -> usize
     ensures { λ r. ⌜ r ≡ headEnd places text ⌝ }
 {

@@ -19,7 +19,7 @@ use Rattle.text.specs.declared.Found.{Found}
 use Rattle.text.specs.declared.Found.the-variants.{At, Nothing}
 use Rattle.seek.specs.Seek.{bothAt, spaceAt, anyOf, allOf, orNext, Later, NoneBelow}
 
-or-false : (a b : Bool) → a || b ≡ false → (a ≡ false) × (b ≡ false)
+pub or-false : (a b : Bool) → a || b ≡ false → (a ≡ false) × (b ≡ false)
 or-false true b e = absurd (false-true refl e)
 or-false false b e = (refl, e)
 
