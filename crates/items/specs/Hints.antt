@@ -1,6 +1,6 @@
 -- What a level of the retry knows from the levels above it, so that nothing is searched twice. No promise of a public call of 01 cites it.
 use mathlib.Core.Path.{_≡_}
-use mathlib.Core.Bool.{Bool, _&&_}
+use mathlib.Core.Bool.{Bool, true, false, _&&_}
 use mathlib.Core.List.{List}
 use Prim.Native.Nat.{ℕ, _+_, _-_, _≤_}
 use lib.ListN.{length}
@@ -75,6 +75,15 @@ foundHint x s Nothing = hint.Next 0
 unfoldable pub firstFrom : First → List ℕ → ℕ → Places → ℕ → Hinted
 unfolding foundHint
 firstFrom x s e p d = if leb d (length s - e) then hint.Next d else foundHint x s (firstPlace x s e p)
+
+-- the hint where what is looked for is nowhere
+unfoldable pub nowhereHint : ℕ → ℕ → ℕ
+nowhereHint d left = if leb d left then d else 0
+
+-- neither `>` nor `@` is there from e on, where it is said so
+abbrev pub NoPrompt : List ℕ → ℕ → Bool → Type 0
+NoPrompt s e true = (findIn (bytes ">") s e ≡ Nothing) × (findIn (bytes "@") s e ≡ Nothing)
+NoPrompt s e false = Unit {0}
 
 -- What of a level comes next: behind a rule without a hint; behind one with a hint, which goes on; behind some with theirs.
 unfoldable pub before : Tried → Level → Level

@@ -1,18 +1,20 @@
 -- The ways out of the items' functions, over plain lists, and what holds of a chain of rules.
-use mathlib.Core.Path.{_≡_, refl, sym, ap, _∙_}
-use mathlib.Core.Bool.{Bool, true, false}
+use mathlib.Core.Path.{_≡_, refl, sym, ap, ap₂, _∙_}
+use mathlib.Core.Bool.{Bool, true, false, _||_}
 use mathlib.Core.List.{List, [], _∷_}
 use Prim.Native.Nat.{ℕ, _+_, _-_, _≤_, _<_}
 use native.Mathlib.Omega.{arith}
-use lib.ListN.{length, take, drop, length-append}
-use lib.Dec.{leb}
-use borrow.Author.Tests.{le-leb, lt-leb, leb-true}
+use lib.ListN.{length, getD, take, drop, length-append}
+use lib.Dec.{eqb, leb}
+use borrow.Author.Tests.{le-leb, lt-leb, leb-true, eqb-false}
+use Rattle.outcome.specs.Outcome.{if_then_else_}
 use Rattle.text.specs.Logic.{and-both}
 use Rattle.text.specs.Bytes.{bytes}
 use Rattle.text.specs.Text.{stands, findIn}
 use Rattle.text.specs.Laws.{found-at, stands-fits}
 use Rattle.text.specs.declared.Found.{Found}
 use Rattle.text.specs.declared.Found.the-variants.{At, Nothing}
+use Rattle.seek.specs.Laws.{or-false, byte-not}
 use Rattle.table.specs.Table.{tokenOf, Entry, entryOf, textOf, nextOf, entries}
 use Rattle.table.specs.Laws.{next-nothing, next-first, entries-past, text-length, text-part}
 use Rattle.table.specs.declared.Mark.{Mark}
@@ -48,7 +50,7 @@ use Rattle.items.specs.declared.Hints.{Hints}
 use Rattle.items.specs.declared.Level.{Level}
 use Rattle.items.specs.declared.Level.the-variants as level
 use Rattle.items.specs.Rules.{orElse, occursOr, firstCustom, promptTried, customPrompts, customError, kindOf, numericTried}
-use Rattle.items.specs.Hints.{sought, firstPlace, decided, orHint, foundHint, firstFrom, before, hinted, onward, promptBytes, numerics, firsts, allIdle}
+use Rattle.items.specs.Hints.{nowhereHint, NoPrompt, sought, firstPlace, decided, orHint, foundHint, firstFrom, before, hinted, onward, promptBytes, numerics, firsts, allIdle}
 
 -- A chain of rules: u is what the first rule t gave. It answered; or it didn't, and the rest r decides.
 pub hit : (t r u : Tried) (a : Answer) → u ≡ t → u ≡ tries.Done a → tries.Done a ≡ orElse t r
@@ -255,6 +257,44 @@ place-here first.Sign s e p k q = found-at (bytes "@") s e k q .here
 place-here first.Cme s e p k q = places.place-here s p fixed.Cme k q
 place-here first.Cms s e p k q = places.place-here s p fixed.Cms k q
 place-here first.Modem s e p k q = places.place-here s p fixed.Modem k q
+
+-- The ways out of `no_prompt`, of `nowhere`, and of `prompt_bytes` where neither byte is there.
+pub no-prompt-on : (s : List ℕ) (i : ℕ) → i < length s → eqb (getD s i 0) 62 || eqb (getD s i 0) 64 ≡ false → (findIn (bytes ">") s i ≡ findIn (bytes ">") s (i + 1)) × (findIn (bytes "@") s i ≡ findIn (bytes "@") s (i + 1))
+no-prompt-on s i h q =
+    let w = or-false (eqb (getD s i 0) 62) (eqb (getD s i 0) 64) q in
+    (byte-not 62 s i h (eqb-false (getD s i 0) 62 (w .0)), byte-not 64 s i h (eqb-false (getD s i 0) 64 (w .1)))
+
+pub prompt-free : (s : List ℕ) (e : ℕ) (b : Bool) → b ≡ true → NoPrompt s e b → NoPrompt s e true
+prompt-free s e b q w = rw q at w
+
+pub nowhere-idle : (d left : ℕ) → d ≤ left → d ≡ nowhereHint d left
+unfolding nowhereHint
+nowhere-idle d left h = rw (le-leb d left h)
+
+pub nowhere-all : (d left : ℕ) → left < d → 0 ≡ nowhereHint d left
+unfolding nowhereHint
+nowhere-all d left h = rw (lt-leb d left h)
+
+module _ (s : List ℕ) (e : ℕ) (p : Places) (h : Hints) where
+  from-neither : (x : First) → firstPlace x s e p ≡ Nothing → (d : ℕ) → hint.Next (nowhereHint d (length s - e)) ≡ firstFrom x s e p d
+  unfolding firstFrom nowhereHint
+  from-neither x q d = go (leb d (length s - e))
+    where
+      go : (b : Bool) → hint.Next (if b then d else 0) ≡ (if b then hint.Next d else foundHint x s (firstPlace x s e p))
+      go true = refl
+      go false = unfold foundHint in rw q
+
+  pub prompts-none : NoPrompt s e true → (left g n : ℕ) → left ≡ length s - e → g ≡ nowhereHint (h .greater) left → n ≡ nowhereHint (h .sign) left → level.Next e (record { greater = g; sign = n; cme = h .cme; cms = h .cms; modem = h .modem }) ≡ promptBytes s e p h
+  unfolding promptBytes
+  prompts-none w left g n l a b =
+      let f : ℕ → ℕ → Level = λ x y. level.Next e (record { greater = x; sign = y; cme = h .cme; cms = h .cms; modem = h .modem }) in
+      let u = from-neither first.Greater (w .0) (h .greater) in
+      let v = from-neither first.Sign (w .1) (h .sign) in
+      let c : g ≡ nowhereHint (h .greater) (length s - e) = a ∙ ap (nowhereHint (h .greater)) l in
+      let d : n ≡ nowhereHint (h .sign) (length s - e) = b ∙ ap (nowhereHint (h .sign)) l in
+      ap₂ f c d
+      ∙ hinted-miss (firstFrom first.Sign s e p (h .sign)) (f (nowhereHint (h .greater) (length s - e))) _ _ v refl
+      ∙ hinted-miss (firstFrom first.Greater s e p (h .greater)) (λ x. hinted (firstFrom first.Sign s e p (h .sign)) (f x)) _ _ u refl
 
 -- The ways out of `first_from`: idle, nowhere, or by what the rule gives at its place.
 module _ (x : First) (s : List ℕ) (e : ℕ) (p : Places) (d : ℕ) where

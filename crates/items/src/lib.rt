@@ -11,7 +11,7 @@ ghost use Rattle.text.specs.declared.Found.the-variants as found;
 ghost use Rattle.lines.specs.Lines.{fixedText};
 ghost use Rattle.parser.specs.Parser.{onlyBlanks, numericAt};
 ghost use Rattle.items.specs.Rules.{firstCustom, kindOf, customPrompts, promptTried, customError, numericTried};
-ghost use Rattle.items.specs.Hints.{sought, firstPlace, decided, firstFrom, promptBytes, numerics, firsts, unknown, allIdle};
+ghost use Rattle.items.specs.Hints.{sought, firstPlace, decided, firstFrom, nowhereHint, NoPrompt, promptBytes, numerics, firsts, unknown, allIdle};
 use answers::Answer;
 use answers::Kind;
 use lines::Fixed;
@@ -231,8 +231,8 @@ fn first_from(rule: First, s: &[u8], e: usize, places: Places, d: usize) -> Hint
     }
 }
 
-// Rule 4 behind the custom prompts: the bytes `>`, then `@`.
-pub fn prompt_bytes(s: &[u8], e: usize, places: Places, hints: Hints) -> Level
+// Rule 4 behind the custom prompts: the bytes `>`, then `@`, each looked for by itself.
+fn prompt_each(s: &[u8], e: usize, places: Places, hints: Hints) -> Level
     ensures { λ r. ⌜ r ≡ promptBytes (now (s .entry)) e places hints ⌝ }
 {
     match first_from(First::Greater, s, e, places, hints.greater) {
@@ -251,6 +251,51 @@ pub fn prompt_bytes(s: &[u8], e: usize, places: Places, hints: Hints) -> Level
             ),
         },
     }
+}
+
+// Is there neither a `>` nor an `@` from e on?
+fn no_prompt(s: &[u8], e: usize) -> bool
+    ensures { λ r. ⌜ NoPrompt (now (s .entry)) e r ⌝ }
+{
+    let mut i = e;
+    while i < s.len() {
+        if (s[i] == b'>') | (s[i] == b'@') {
+            return false;
+        }
+        i += 1;
+    }
+    true
+}
+
+// The hint of a rule that has nothing to find: it covers every place, unless one from above covers this one.
+fn nowhere(d: usize, left: usize) -> usize
+    ensures { λ r. ⌜ r ≡ nowhereHint d left ⌝ }
+{
+    if d <= left {
+        return d;
+    }
+    0
+}
+
+// The same, in a short input in one go where neither is there: most answers have neither.
+pub fn prompt_bytes(s: &[u8], e: usize, places: Places, hints: Hints) -> Level
+    ensures { λ r. ⌜ r ≡ promptBytes (now (s .entry)) e places hints ⌝ }
+{
+    if seek::SHORT <= s.len() {
+        return prompt_each(s, e, places, hints);
+    }
+    if !no_prompt(s, e) {
+        return prompt_each(s, e, places, hints);
+    }
+    let left = behind(s, e);
+    let known = Hints {
+        greater: nowhere(hints.greater, left),
+        sign: nowhere(hints.sign, left),
+        cme: hints.cme,
+        cms: hints.cms,
+        modem: hints.modem,
+    };
+    Level::Next(e, known)
 }
 
 // Rule 5: CME, CMS, MODEM ERROR.

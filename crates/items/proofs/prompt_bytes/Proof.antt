@@ -1,61 +1,52 @@
--- `prompt_bytes` meets its contract: the two in their order.
-use mathlib.Core.Path.{_∙_}
-use Rattle.items.specs.Hints.{promptBytes}
-use Rattle.items.specs.Laws.{hinted-hit, hinted-miss}
+-- `prompt_bytes` meets its contract: where neither byte is there both hints say so.
+use Rattle.items.specs.Laws.{prompt-free, prompts-none}
+use borrow.Author.Tests.{not-false}
 use borrow.Author.Needs.{needs}
 use Rattle.items.proofs.prompt_bytes.Statement.{statement}
 use Rattle.items.proofs.prompt_bytes.Tie as tie
 
-first-from-requires : tie.Need-first-from-requires
-first-from-requires c κs = search needs
-
-enum-known-a : tie.Need-enum-known-a
-enum-known-a c = search needs
-
-enum-known-greater : tie.Need-enum-known-greater
-enum-known-greater c = search needs
-
-first-from-requires-2 : tie.Need-first-from-requires-2
-first-from-requires-2 c κs = search needs
-
-enum-known-a-2 : tie.Need-enum-known-a-2
-enum-known-a-2 c = search needs
-
-enum-known-sign : tie.Need-enum-known-sign
-enum-known-sign c = search needs
+prompt-each-requires : tie.Need-prompt-each-requires
+prompt-each-requires c κs = search needs
 
 returns : tie.Need-returns
-unfolding promptBytes
-returns c =
-    let first-from = c .before .before .before .first-from in
-    hinted-hit _ _ _ _ (first-from .ensures) (c .before .a .given .1)
+returns c = search needs
+
+no-prompt-requires : tie.Need-no-prompt-requires
+no-prompt-requires c κs = search needs
+
+prompt-each-requires-2 : tie.Need-prompt-each-requires-2
+prompt-each-requires-2 c κs = search needs
 
 returns-2 : tie.Need-returns-2
-unfolding promptBytes
-returns-2 c =
-    let first-from2 = c .before .before .before .first-from2 in
-    let first-from = c .before .before .before .before .before .before .before .first-from in
-    let greater = c .before .before .before .before .before .greater in
-    hinted-hit _ _ _ _ (first-from2 .ensures) (c .before .a2 .given .1) ∙ hinted-miss _ _ _ _ (first-from .ensures) (greater .given .1)
+returns-2 c = search needs
+
+behind-requires : tie.Need-behind-requires
+behind-requires c κs = search needs
+
+nowhere-requires : tie.Need-nowhere-requires
+nowhere-requires c κs = search needs
+
+nowhere-requires-2 : tie.Need-nowhere-requires-2
+nowhere-requires-2 c κs = search needs
 
 returns-3 : tie.Need-returns-3
-unfolding promptBytes
 returns-3 c =
-    let first-from2 = c .before .before .before .first-from2 in
-    let first-from = c .before .before .before .before .before .before .before .first-from in
-    let greater = c .before .before .before .before .before .greater in
-    hinted-miss _ _ _ _ (first-from2 .ensures) (c .before .sign .given .1) ∙ hinted-miss _ _ _ _ (first-from .ensures) (greater .given .1)
+    let args = c .before .before .before .before .before .before .before .args in
+    let if2 = c .before .before .before .if2 in
+    let no-prompt = c .before .before .before .before .no-prompt in
+    let behind = c .before .before .behind in
+    prompts-none (args .s .now) (args .e) (args .places) (args .hints) (prompt-free (args .s .now) (args .e) (no-prompt .result) (not-false _ (if2 .left)) (no-prompt .ensures)) _ _ _ (behind .ensures) (c .before .nowhere .ensures) (c .nowhere2 .ensures)
 
 pub prompt-bytes-spec : {M : Type 1} → statement M
 prompt-bytes-spec =
     tie.close
     (tie.spec
-    first-from-requires
-    enum-known-a
-    enum-known-greater
-    first-from-requires-2
-    enum-known-a-2
-    enum-known-sign
+    prompt-each-requires
     returns
+    no-prompt-requires
+    prompt-each-requires-2
     returns-2
+    behind-requires
+    nowhere-requires
+    nowhere-requires-2
     returns-3)
