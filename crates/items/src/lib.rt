@@ -281,21 +281,20 @@ fn nowhere(d: usize, left: usize) -> usize
 pub fn prompt_bytes(s: &[u8], e: usize, places: Places, hints: Hints) -> Level
     ensures { λ r. ⌜ r ≡ promptBytes (now (s .entry)) e places hints ⌝ }
 {
-    if seek::SHORT <= s.len() {
-        return prompt_each(s, e, places, hints);
+    if s.len() < seek::SHORT {
+        if no_prompt(s, e) {
+            let left = behind(s, e);
+            let known = Hints {
+                greater: nowhere(hints.greater, left),
+                sign: nowhere(hints.sign, left),
+                cme: hints.cme,
+                cms: hints.cms,
+                modem: hints.modem,
+            };
+            return Level::Next(e, known);
+        }
     }
-    if !no_prompt(s, e) {
-        return prompt_each(s, e, places, hints);
-    }
-    let left = behind(s, e);
-    let known = Hints {
-        greater: nowhere(hints.greater, left),
-        sign: nowhere(hints.sign, left),
-        cme: hints.cme,
-        cms: hints.cms,
-        modem: hints.modem,
-    };
-    Level::Next(e, known)
+    prompt_each(s, e, places, hints)
 }
 
 // Rule 5: CME, CMS, MODEM ERROR.
