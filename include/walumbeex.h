@@ -99,12 +99,13 @@
  * The stack: a digest recurses once for each CRLF at the front of what is left. It took 138 bytes of stack for each byte of the input, or of the bytes in the
  * buffer, where that is all CRLFs: 549 KiB for WX_LONGEST. No proof covers it: where the stack is too short, as for 2,048 CRLFs (4,096 bytes) on a thread with
  * 512 KiB, the program ends by SIGSEGV. Give a thread 160 bytes for each byte of the buffer, 640 KiB for WX_LONGEST (the tests run that), or lend a shorter buffer.
+ * Where nothing recurses a digest took 5 KB, 3 of them for a table of transitions: give a thread 8 KB at least.
  * WX_NUMERIC doesn't recurse: its stack is the same for every input, and small. wx_list_read recurses once for each element, of which there are at most WX_ELEMENTS: it
  * took 176 bytes for each, and 45 KB at most, whatever the payload.
  *
  * Work: a digest's grows with its input, and no faster: twice the input takes at most 2.2 times the instructions (docs/BENCHMARKS.md; at most some 1.2 million for
  * 4,096 bytes). An advance or write digests again all that is in the buffer, so that a stream handed over in pieces that finish nothing costs the square of its
- * length: 1,024 bytes one by one took 36 million instructions, and 4,096 took 540 million. WX_NUMERIC walks over its input once; the same limit holds for it, and for
+ * length: 1,024 bytes one by one took 29 million instructions, and 4,096 took 448 million. WX_NUMERIC walks over its input once; the same limit holds for it, and for
  * wx_list_read, which walks over a payload that it accepts twice: it judges all of it before it writes. An answer of 1,024 bytes with 31 operators took 55,000.
  *
  * Licence: Apache-2.0 (see LICENSE and NOTICE).
