@@ -277,7 +277,7 @@ fn nowhere(d: usize, left: usize) -> usize
     0
 }
 
-// The same, in a short input in one go where neither is there: most answers have neither.
+// Rule 4 behind the custom prompts, on the outermost level: in a short input in one go where neither byte is there, as in most answers.
 pub fn prompt_bytes(s: &[u8], e: usize, places: Places, hints: Hints) -> Level
     ensures { λ r. ⌜ r ≡ promptBytes (now (s .entry)) e places hints ⌝ }
 {
@@ -351,7 +351,7 @@ pub fn firsts(s: &[u8], e: usize, places: Places, hints: Hints) -> Level
     if idle(hints, behind(s, e)) {
         return Level::Next(e, hints);
     }
-    match prompt_bytes(s, e, places, hints) {
+    match prompt_each(s, e, places, hints) {
         Level::Done(a) => Level::Done(a),
         Level::Next(_, known) => numerics(s, e, places, known),
     }

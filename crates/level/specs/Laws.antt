@@ -298,3 +298,12 @@ module _ (t : List ℕ) (at n : ℕ) (b : Bool) (w : Unless b (OnlyNotices t at 
       go true v d z = tt
       go false v true z = tt
       go false v false z = λ m h. entries-past m [] 0 0 (omega arith) ∙ sym (v m h ∙ entries-past m t at n (ltb-false at (length t) z))
+
+-- an empty table has no notice, and no other record
+module _ (t : List ℕ) (z : length t ≡ 0) where
+  pub none-noticed : (s : List ℕ) (e : ℕ) → tries.Next ≡ notices (entries mark.Notice t 0 0) s e
+  unfolding notices
+  none-noticed s e = sym (ap (λ (l : List Entry). notices l s e) (entries-past mark.Notice t 0 0 (omega arith)))
+
+  pub none-other : SameCustoms [] t
+  none-other m h = entries-past m [] 0 0 (omega arith) ∙ sym (entries-past m t 0 0 (omega arith))

@@ -101,6 +101,18 @@ fn notices(table: &[u8], s: &[u8], e: usize) -> Noticed
     }
 }
 
+// The same on the outermost level, where an empty table costs no call.
+fn outer_notices(table: &[u8], s: &[u8], e: usize) -> Noticed
+    requires { ⌜ e ≤ length (now s) ⌝ }
+    ensures is { λ r. ⌜ noticedTried r ≡ notices (entries mark.Notice (now (table .entry)) 0 0) (now (s .entry)) e ⌝ }
+    ensures others { λ r. ⌜ OthersTold (now (table .entry)) r ⌝ }
+{
+    if table.len() == 0 {
+        return Noticed::Next(false);
+    }
+    notices(table, s, e)
+}
+
 // The table for rules 3 to 5; an empty one does where there are only notices.
 fn customs(table: &[u8], others: bool) -> &[u8]
     requires { ⌜ Unless others (SameCustoms [] (now table)) ⌝ }
@@ -267,7 +279,7 @@ fn outermost(digester: Digester, table: &[u8], s: &[u8], e: usize) -> Level
     requires { ⌜ e ≤ length (now s) ⌝ }
     ensures { λ r. ⌜ r ≡ outermost digester (now (table .entry)) (now (s .entry)) e ⌝ }
 {
-    match notices(table, s, e) {
+    match outer_notices(table, s, e) {
         Noticed::Done(a) => Level::Done(a),
         Noticed::Next(others) => {
             let custom = customs(table, others);

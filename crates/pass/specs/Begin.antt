@@ -9,6 +9,7 @@ use native.Mathlib.Omega.{arith}
 use lib.ListN.{length, getD, drop}
 use lib.Dec.{eqb, leb}
 use borrow.Author.Tests.{ne-eqb}
+use Rattle.outcome.specs.Outcome.{if_then_else_}
 use Rattle.text.specs.Bytes.{bytes}
 use Rattle.text.specs.Logic.{false-true, not-true-false, order}
 use Rattle.text.specs.Text.{stands, findIn}
@@ -18,6 +19,8 @@ use Rattle.lines.specs.Lines.{fixedText}
 use Rattle.lines.specs.Laws.{fixed-some}
 use Rattle.lines.specs.declared.Fixed.{Fixed}
 use Rattle.lines.specs.declared.Fixed.the-variants.{Ok, Connect, Error, CommandNotSupport, NoCarrier, Busy, NoAnswer, NoDialtone, Na, Cme, Cms, Modem, ConnectText}
+use Rattle.places.specs.declared.Lines.{Lines}
+use Rattle.places.specs.declared.Places.{Places}
 use Rattle.seek.specs.Seek.{anyOf}
 use Rattle.seek.specs.Laws.{or-false}
 
@@ -141,3 +144,22 @@ module _ (s : List ℕ) where
 
   pub clear-none : (i r : ℕ) → findIn (bytes "\r") s i ≡ Nothing → i ≤ r → Clear s i r
   clear-none i r e g = record { after = g; none = λ l h j a b. not-true-false (stands (fixedText l) s j) (λ q. false-true (begins-cr (fixedText l) s j (each-begins l h) q) (found-none (bytes "\r") s i e j a)) }
+
+-- Where the lines and the heads end if only what stands at p may stand.
+unfoldable pub endHere : List ℕ → ℕ → Fixed → ℕ
+endHere s p l = if stands (fixedText l) s p then p + length (fixedText l) else 0
+
+abbrev pub linesHere : List ℕ → ℕ → Lines
+linesHere s p =
+    record {
+      connect = endHere s p Connect;
+      error = endHere s p Error;
+      unsupported = endHere s p CommandNotSupport;
+      carrier = endHere s p NoCarrier;
+      busy = endHere s p Busy;
+      answer = endHere s p NoAnswer;
+      dialtone = endHere s p NoDialtone;
+    }
+
+abbrev pub headsHere : List ℕ → ℕ → ℕ → Places
+headsHere s e p = record { from = e; passed = true; cme = endHere s p Cme; cms = endHere s p Cms; modem = endHere s p Modem }

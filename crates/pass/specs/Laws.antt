@@ -23,8 +23,8 @@ use Rattle.scan.specs.Scan.{endOf, firstEnds}
 use Rattle.places.specs.Places.{placeOf, placeIn, lineIn, FirstPlaces, FirstLines}
 use Rattle.places.specs.declared.Lines.{Lines}
 use Rattle.places.specs.declared.Places.{Places}
-use Rattle.pass.specs.Pass.{linesAt, headsAt, endHere, linesHere, headsHere, firstLines, firstPlaces, passedBy, passed}
-use Rattle.pass.specs.Begin.{isEleventh, Clear}
+use Rattle.pass.specs.Pass.{linesAt, headsAt, firstLines, firstPlaces, passedBy, passed}
+use Rattle.pass.specs.Begin.{isEleventh, Clear, endHere, linesHere, headsHere}
 use Rattle.pass.specs.declared.Passed.the-variants.{Ok, Others}
 
 -- what is said to end where the first occurrence ends is the first occurrence

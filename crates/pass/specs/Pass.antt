@@ -1,14 +1,12 @@
 -- What one pass finds: the first OK line, or where the other texts that may stand anywhere first end.
 use mathlib.Core.Bool.{true}
 use mathlib.Core.List.{List}
-use Prim.Native.Nat.{ℕ, _+_}
-use lib.ListN.{length, getD}
-use Rattle.outcome.specs.Outcome.{if_then_else_}
-use Rattle.text.specs.Text.{stands, findIn}
+use Prim.Native.Nat.{ℕ}
+use lib.ListN.{getD}
+use Rattle.text.specs.Text.{findIn}
 use Rattle.text.specs.declared.Found.{Found}
 use Rattle.text.specs.declared.Found.the-variants.{At, Nothing}
 use Rattle.lines.specs.Lines.{fixedText}
-use Rattle.lines.specs.declared.Fixed.{Fixed}
 use Rattle.lines.specs.declared.Fixed.the-variants as fixed
 use Rattle.scan.specs.Scan.{firstEnds}
 use Rattle.places.specs.declared.Lines.{Lines}
@@ -31,25 +29,6 @@ linesAt n =
 
 abbrev pub headsAt : ℕ → List ℕ → Places
 headsAt e n = record { from = e; passed = true; cme = getD n 8 0; cms = getD n 9 0; modem = getD n 10 0 }
-
--- The same where only what stands at p may stand.
-unfoldable pub endHere : List ℕ → ℕ → Fixed → ℕ
-endHere s p l = if stands (fixedText l) s p then p + length (fixedText l) else 0
-
-abbrev pub linesHere : List ℕ → ℕ → Lines
-linesHere s p =
-    record {
-      connect = endHere s p fixed.Connect;
-      error = endHere s p fixed.Error;
-      unsupported = endHere s p fixed.CommandNotSupport;
-      carrier = endHere s p fixed.NoCarrier;
-      busy = endHere s p fixed.Busy;
-      answer = endHere s p fixed.NoAnswer;
-      dialtone = endHere s p fixed.NoDialtone;
-    }
-
-abbrev pub headsHere : List ℕ → ℕ → ℕ → Places
-headsHere s e p = record { from = e; passed = true; cme = endHere s p fixed.Cme; cms = endHere s p fixed.Cms; modem = endHere s p fixed.Modem }
 
 -- R-6: what the pass finds in s at or after e: the first OK line, or, where there is none, where the others first end.
 abbrev pub firstLines : List ℕ → ℕ → Lines

@@ -4,8 +4,8 @@ ghost use mathlib.Core.Path.{_≡_};
 ghost use Prim.Native.Nat.{_≤_, _+_};
 ghost use lib.ListN.{length};
 ghost use Rattle.seek.specs.Seek.{anyOf};
-ghost use Rattle.pass.specs.Pass.{linesAt, headsAt, endHere, linesHere, headsHere, passed};
-ghost use Rattle.pass.specs.Begin.{mayBegin, beginFrom, Clear};
+ghost use Rattle.pass.specs.Pass.{linesAt, headsAt, passed};
+ghost use Rattle.pass.specs.Begin.{mayBegin, beginFrom, Clear, endHere, linesHere, headsHere};
 use lines::Fixed;
 use places::Lines;
 use places::Places;
@@ -56,14 +56,19 @@ fn begin_near(s: &[u8], from: usize) -> usize
     requires { ⌜ from ≤ length (now s) ⌝ }
     ensures { λ r. ⌜ Clear (now (s .entry)) from r ⌝ }
 {
+    let len = s.len();
+    if len < 5 {
+        return len;
+    }
+    let end = len - 4;
     let mut p = from;
-    while 5 <= s.len() - p {
+    while p < end {
         if begins_at(s, p) {
             return p;
         }
         p += 1;
     }
-    s.len()
+    len
 }
 
 // The places that are passed over at once where none may begin, and how many bytes are looked at for that.
@@ -71,7 +76,7 @@ const BLOCK: usize = 64;
 
 const BLOCK_BYTES: usize = 68;
 
-// The same for long inputs: from CR to CR, and over blocks of places.
+// The same from CR to CR, and over blocks of places.
 fn begin_from(s: &[u8], from: usize) -> usize
     requires { ⌜ from ≤ length (now s) ⌝ }
     ensures { λ r. ⌜ Clear (now (s .entry)) from r ⌝ }
@@ -90,6 +95,17 @@ fn begin_from(s: &[u8], from: usize) -> usize
         i = p + BLOCK;
     }
     begin_near(s, i)
+}
+
+// The same: in a short input place by place, without a call.
+fn begin(s: &[u8], from: usize) -> usize
+    requires { ⌜ from ≤ length (now s) ⌝ }
+    ensures { λ r. ⌜ Clear (now (s .entry)) from r ⌝ }
+{
+    if s.len() < BLOCK_BYTES {
+        return begin_near(s, from);
+    }
+    begin_from(s, from)
 }
 
 // By the ends that the table gave, in its order: those of the lines but OK.
@@ -167,7 +183,7 @@ pub fn pass(s: &[u8], e: usize) -> Passed
     if s.len() <= e {
         return Passed::Others(lines_at(&none), heads_at(e, &none));
     }
-    let p = begin_from(s, e);
+    let p = begin(s, e);
     if s.len() <= p {
         return Passed::Others(lines_at(&none), heads_at(e, &none));
     }

@@ -18,8 +18,8 @@ returns c =
     let behind = c .before .before .behind in
     all-idle (args .s .now) (args .e) (args .places) (args .hints) _ (behind .ensures) _ (c .before .idle .ensures) (c .if1 .taken)
 
-prompt-bytes-requires : tie.Need-prompt-bytes-requires
-prompt-bytes-requires c κs = search needs
+prompt-each-requires : tie.Need-prompt-each-requires
+prompt-each-requires c κs = search needs
 
 enum-known-a : tie.Need-enum-known-a
 enum-known-a c = search needs
@@ -33,15 +33,15 @@ numerics-requires c κs = search needs
 returns-2 : tie.Need-returns-2
 unfolding firsts
 returns-2 c =
-    let prompt-bytes = c .before .before .before .prompt-bytes in
-    onward-hit _ _ _ _ (prompt-bytes .ensures) (c .before .a .given .1)
+    let prompt-each = c .before .before .before .prompt-each in
+    onward-hit _ _ _ _ (prompt-each .ensures) (c .before .a .given .1)
 
 returns-3 : tie.Need-returns-3
 unfolding firsts
 returns-3 c =
-    let prompt-bytes = c .before .before .before .before .prompt-bytes in
+    let prompt-each = c .before .before .before .before .prompt-each in
     let known = c .before .before .known in
-    c .numerics .ensures ∙ onward-miss _ _ _ _ _ (prompt-bytes .ensures) (known .given .1)
+    c .numerics .ensures ∙ onward-miss _ _ _ _ _ (prompt-each .ensures) (known .given .1)
 
 pub firsts-spec : {M : Type 1} → statement M
 firsts-spec =
@@ -50,7 +50,7 @@ firsts-spec =
     behind-requires
     idle-requires
     returns
-    prompt-bytes-requires
+    prompt-each-requires
     enum-known-a
     enum-known-known
     numerics-requires

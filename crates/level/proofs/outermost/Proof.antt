@@ -8,8 +8,8 @@ use borrow.Author.Needs.{needs}
 use Rattle.level.proofs.outermost.Statement.{statement}
 use Rattle.level.proofs.outermost.Tie as tie
 
-notices-requires : tie.Need-notices-requires
-notices-requires c κs = search needs
+outer-notices-requires : tie.Need-outer-notices-requires
+outer-notices-requires c κs = search needs
 
 enum-known-a : tie.Need-enum-known-a
 enum-known-a c = search needs
@@ -20,7 +20,7 @@ enum-known-others c = search needs
 customs-requires : tie.Need-customs-requires
 customs-requires c κs =
     let args = c .before .before .before .before .before .before .args in
-    let notices = c .before .before .before .notices in
+    let notices = c .before .before .before .outer-notices in
     others-told (args .table .now) _ (notices .ensures .1) _ (c .before .others .given .1)
 
 successes-requires : tie.Need-successes-requires
@@ -41,7 +41,7 @@ behind-requires c κs =
 returns : tie.Need-returns
 unfolding outermost
 returns c =
-    let notices = c .before .before .before .notices in
+    let notices = c .before .before .before .outer-notices in
     before-hit _ _ _ _ (notices .ensures .0) (ap noticedTried (c .before .a .given .1))
 
 returns-2 : tie.Need-returns-2
@@ -50,7 +50,7 @@ returns-2 c =
     let args = c .before .before .before .before .before .before .before .before .before .before .before .args in
     let customs = c .before .before .before .before .customs in
     let successes = c .before .before .before .successes in
-    let notices = c .before .before .before .before .before .before .before .before .notices in
+    let notices = c .before .before .before .before .before .before .before .before .outer-notices in
     let others = c .before .before .before .before .before .before .others in
     before-hit _ _ _ _ (same-successes _ (args .table .now) (customs .ensures) (args .s .now) (args .e) _ (args .digester) (successes .ensures .0)) (ap succeededTried (c .before .a2 .given .1)) ∙ before-miss _ _ _ (notices .ensures .0) (ap noticedTried (others .given .1))
 
@@ -61,7 +61,7 @@ returns-3 c =
     let lines = c .before .before .lines in
     let successes = c .before .before .before .before .successes in
     let customs = c .before .before .before .before .before .customs in
-    let notices = c .before .before .before .before .before .before .before .before .before .notices in
+    let notices = c .before .before .before .before .before .before .before .before .before .outer-notices in
     let others = c .before .before .before .before .before .before .before .others in
     behind-at (args .s .now) (args .e) _ _ (places-told (args .s .now) (args .e) _ _ _ (lines .given .1) (successes .ensures .1) .1) _ _ (args .table .now) (customs .ensures) (c .behind .ensures) ∙ before-miss _ _ _ (same-successes _ (args .table .now) (customs .ensures) (args .s .now) (args .e) _ (args .digester) (successes .ensures .0)) (ap succeededTried (lines .given .1)) ∙ before-miss _ _ _ (notices .ensures .0) (ap noticedTried (others .given .1))
 
@@ -69,7 +69,7 @@ pub outermost-spec : {M : Type 1} → statement M
 outermost-spec =
     tie.close
     (tie.spec
-    notices-requires
+    outer-notices-requires
     enum-known-a
     enum-known-others
     customs-requires
