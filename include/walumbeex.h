@@ -10,7 +10,7 @@
  *
  * What the proofs take from the caller, as for any C function:
  *   - a pointer p with its count n points to n bytes, and is not NULL, also where n is 0;
- *   - `state` and `old` point to WX_NUMBERS numbers, `out` and `answer` to WX_OUT numbers, `elements` to WX_ELEMENTS * WX_ELEMENT numbers;
+ *   - `state` and `old` point to WX_NUMBERS numbers, `findings` to WX_FINDINGS, `out` and `answer` to WX_OUT, `elements` to WX_ELEMENTS * WX_ELEMENT numbers;
  *   - what a call may write (no `const`) does not overlap anything else that is handed to the same call;
  *   - no other thread uses any of it during the call;
  *   - the archive is of this header's version: once, before all else, stop where wx_version() is not WX_VERSION;
@@ -20,6 +20,19 @@
  * A program: check the version; wx_slot_new, wx_queue_new and wx_ingress_clear on one array of WX_NUMBERS numbers; then, for what each read of the device gave,
  * wx_ingress_write, wx_slot_lookup where an answer is held, wx_queue_take until it is empty; and wx_slot_reset with the next serial number before each command that
  * is sent, or, in a program that sends none, behind each answer. bindings/c/hear.c is one that sends none.
+ *
+ * One byte at a time. Where a board hands over single bytes, wx_feed_write and wx_feed_advance take the place of wx_ingress_write and wx_ingress_advance. They answer,
+ * consume and leave the same, and have findings beside the state: what was found so far in the bytes that are in the buffer, so that each new byte is looked at
+ * once for the fixed lines. The plain calls digest all that is in the buffer again; for whole answers in one piece they are the cheaper ones (below, Work).
+ *     uint64_t findings[WX_FINDINGS] = {0};       // those of an empty buffer: with a first state
+ *     refusal = wx_feed_write(state, findings, &byte, 1, WX_VERBOSE, table, table_len, ...);
+ *     memset(findings, 0, sizeof findings);       // and with each wx_ingress_clear(state)
+ *   - That is promised of genuine findings: those that these calls or wx_findings_start gave for these very bytes, or zeros for none.
+ *   - After a plain call, or where the bytes in the buffer were changed by hand, they aren't genuine any more: wx_findings_start makes them anew from the bytes.
+ *     Another table or digester between two calls is fine.
+ *   - With any other numbers, the first of which is END, the answer hangs on them too: a finished line may be passed over. Nothing trips, no more is consumed than
+ *     there is, and no memory outside is touched.
+ * bindings/c/bytes.c is a program that is handed one byte at a time.
  *
  * Late answers. A client gives up, sends the next command, and the late answer fills its slot. So the slot has the serial number of its command, WX_SERIAL: 0 in a
  * new slot, then that of the last reset that wasn't refused. An answer bears the number in force when it was stored, which is out[4] of wx_slot_lookup.
@@ -36,10 +49,10 @@
  * Where a piece is cut changes what is heard. A `>` or `@` with only blanks (space, tab, CR, LF) behind it is a prompt, and so is a custom prompt's text, so a
  * piece that ends at such a byte inside a line is heard as a prompt:
  *     AT+CGDCONT?\r\r\n+CGDCONT: 1,"IP","me@apn"\r\n\r\nOK\r\n
- * is an Ok with the payload +CGDCONT: 1,"IP","me@apn"; cut behind the @ it is a prompt @ and then an Ok with none. So hand over what a read gave, never single
- * bytes; where its last byte that is no blank is > or @, wait a moment for the line to go quiet, and hand it over with what still came. An error hangs on the cut
- * too: `ERROR` and an `OK` behind it in one piece are an Ok. Two answers hang on nothing that comes behind them: an Ok by the line OK under a table with no CS record,
- * and a notice with no CRLF before its own (docs/WAITING.md).
+ * is an Ok with the payload +CGDCONT: 1,"IP","me@apn"; cut behind the @ it is a prompt @ and then an Ok with none. So hand over what a read gave, single bytes
+ * only where there is no more; where its last byte that is no blank is > or @, wait a moment for the line to go quiet, and hand it over with what still came. An error
+ * hangs on the cut too: `ERROR` and an `OK` behind it in one piece are an Ok, and byte by byte each is answered when it comes. Two answers hang on nothing that comes
+ * behind them: an Ok by the line OK under a table with no CS record, and a notice with no CRLF before its own (docs/WAITING.md).
  * With WX_NUMERIC the cut between a CR and its LF changes what is heard, and only in an information line that is exactly one of the digits listed below:
  *     0\r, then \n       an Ok and a stray LF; 0\r\n in one piece is such a line, and nothing that is finished
  *     0\r, then \n0\r    an Ok, and the second is lost, since no line starts behind a stray LF; 0\r\n0\r in one piece is an Ok with the payload 0
@@ -50,6 +63,7 @@
  *   2. take a notice, which makes room, and advance by 0, which delivers the notice that waits; again from 2 where that is WX_FULL;
  *   3. write the rest of the piece. A write that takes 0 of a piece that isn't empty has found no room, and digests nothing: advance by 0;
  *   4. if there is still no room, no further byte can finish what is there: wx_ingress_clear drops it.
+ * With findings it is the same by wx_feed_advance and wx_feed_write, and a clear makes the findings zeros.
  * With a buffer of 0 bytes, or a queue below WX_RECORD bytes under a table with notices or with WX_NUMERIC, this goes round for ever; a buffer over WX_LONGEST
  * bytes is refused by every call.
  *
@@ -99,14 +113,18 @@
  * The stack: a digest recurses once for each CRLF at the front of what is left. It took 138 bytes of stack for each byte of the input, or of the bytes in the
  * buffer, where that is all CRLFs: 549 KiB for WX_LONGEST. No proof covers it: where the stack is too short, as for 2,048 CRLFs (4,096 bytes) on a thread with
  * 512 KiB, the program ends by SIGSEGV. Give a thread 160 bytes for each byte of the buffer, 640 KiB for WX_LONGEST (the tests run that), or lend a shorter buffer.
- * Where nothing recurses a digest took 5 KB, 3 of them for a table of transitions: give a thread 8 KB at least.
+ * Where nothing recurses a digest took 5 KB, 3 of them for a table of transitions, and a call with findings 6: give a thread 8 KB at least.
  * WX_NUMERIC doesn't recurse: its stack is the same for every input, and small. wx_list_read recurses once for each element, of which there are at most WX_ELEMENTS: it
  * took 176 bytes for each, and 45 KB at most, whatever the payload.
  *
  * Work: a digest's grows with its input, and no faster: twice the input takes at most 2.2 times the instructions (docs/BENCHMARKS.md; at most some 1.2 million for
  * 4,096 bytes). An advance or write digests again all that is in the buffer, so that a stream handed over in pieces that finish nothing costs the square of its
- * length: 1,024 bytes one by one took 29 million instructions, and 4,096 took 448 million. WX_NUMERIC walks over its input once; the same limit holds for it, and for
- * wx_list_read, which walks over a payload that it accepts twice: it judges all of it before it writes. An answer of 1,024 bytes with 31 operators took 55,000.
+ * length: 1,024 bytes one by one took 29 million instructions, and 4,096 took 448 million. By wx_feed_write they took 1.2 and 4.7 million: about a thousand for
+ * a byte that finishes nothing, however many lie before it, and a search by blocks of 16 bytes where no CRLF came yet, or with WX_CONNECT. It digests again all that is
+ * in the buffer where the byte may finish something; with WX_NUMERIC; under a table that isn't empty, once a line has ended; and behind a line that is no error for its
+ * code, such as +CME ERROR: 65536.
+ * WX_NUMERIC walks over its input once; the same limit holds for it, and for wx_list_read, which walks over a payload that it accepts twice: it judges all of it
+ * before it writes. An answer of 1,024 bytes with 31 operators took 55,000.
  *
  * Licence: Apache-2.0 (see LICENSE and NOTICE).
  */
@@ -130,7 +148,8 @@ extern "C" {
  * Version 5: the slot has a serial number, WX_SERIAL; WX_NUMBERS, 9 before, is 10. wx_slot_reset takes the next one and may be refused with WX_REPEATED;
  * wx_slot_lookup has it at out[4]. A state of nine numbers that was kept is one of ten with 0 behind it.
  * Version 6: a notice has up to 1,024 bytes, 128 before; WX_RECORD, 132 before, is 1029, and a record has the mark UX and a length of two bytes. wx_queue_convert,
- * which may be refused with WX_TOO_FEW, makes such a queue of one that was kept. Added to it since: wx_list_read. */
+ * which may be refused with WX_TOO_FEW, makes such a queue of one that was kept. Added to it since: wx_list_read; wx_feed_advance, wx_feed_write and
+ * wx_findings_start. */
 #define WX_VERSION 6u
 
 /* What a function that returns uint32_t returns (but wx_version): 0, or the number of the refusal. Of those that a call can give, the lowest is given; of
@@ -141,6 +160,7 @@ extern "C" {
 #define WX_BAD_TABLE 2u /* the table breaks a rule; out[0] is the first faulty record's number (64 for a 65th record);
                            with WX_NUMERIC: the table isn't empty, whatever its bytes; out[0] is 0 */
 #define WX_BAD_STATE 3u /* END is past the buffer, LEN past the slot's memory, START or COUNT outside its bounds,
+                           the findings are about more or fewer bytes than END,
                            or the record to be taken, or one to be converted, has a wrong mark or length */
 #define WX_NO_ROOM 4u   /* the commit is more than the room behind END */
 #define WX_FULL 5u      /* a notice of 1 to 1,024 bytes meets a full queue: the earlier steps are done, the notice and what lay
@@ -216,6 +236,11 @@ enum {
     WX_QUEUE_LOST = 8, /* notices lost for a payload of 0 or over 1,024 bytes; it stays at 4,294,967,295 */
     WX_SERIAL = 9      /* the slot's serial number in force, 0 in a new slot; wx_slot_reset gives it the next one */
 };
+
+/* Findings, sixteen numbers: how many bytes they are about; the state of a table of transitions behind those bytes; then ends, one past the last byte, 0 for none:
+ * of the first OK, CONNECT, ERROR, COMMAND NOT SUPPORT, NO CARRIER, BUSY, NO ANSWER and NO DIALTONE line, of the first +CME ERROR:, +CMS ERROR: and MODEM ERROR:
+ * behind a CRLF, of the first NA line, of the last byte that is no blank, and of the last LF. Every array may be handed in; which are genuine stands above. */
+#define WX_FINDINGS 16
 
 /* The kinds of an answer. A number over 13 that is handed in as a kind reads as WX_NONE.
  * WX_CME, WX_CMS and WX_UNKNOWN are the numeric errors. Their digits are those of the line as they came, leading zeros included, of which there may be any
@@ -369,8 +394,26 @@ uint32_t wx_ingress_write(uint64_t state[WX_NUMBERS], const uint8_t *piece, size
                           const uint8_t *table, size_t table_len, uint8_t *buf, size_t buf_len, uint8_t *slot_mem,
                           size_t slot_mem_len, uint8_t *queue_mem, size_t queue_mem_len, uint64_t out[WX_OUT]);
 
-/* Drops what is in the buffer: END becomes 0, and the other numbers stay. */
+/* Drops what is in the buffer: END becomes 0, and the other numbers stay. Findings beside it are to be made zeros. */
 void wx_ingress_clear(uint64_t state[WX_NUMBERS]);
+
+/* wx_ingress_advance with findings (above).
+ * findings: about the bytes in the buffer; after WX_DONE and WX_FULL about those that are there then. The others are those of wx_ingress_advance.
+ * With genuine findings it answers, consumes and leaves what that does.
+ * Refusals: as of that, and WX_BAD_STATE also where findings[0] isn't END, on a commit of 0 too. 1 to 4 leave the findings too. */
+uint32_t wx_feed_advance(uint64_t state[WX_NUMBERS], uint64_t findings[WX_FINDINGS], size_t commit, uint32_t digester, const uint8_t *table,
+                         size_t table_len, uint8_t *buf, size_t buf_len, uint8_t *slot_mem, size_t slot_mem_len, uint8_t *queue_mem,
+                         size_t queue_mem_len, uint64_t out[WX_OUT]);
+
+/* wx_ingress_write with findings, which are those of wx_feed_advance. The others are those of wx_ingress_write.
+ * Refusals: as of that, and WX_BAD_STATE also where findings[0] isn't END, on an empty piece too. 1 to 4 leave the findings too. */
+uint32_t wx_feed_write(uint64_t state[WX_NUMBERS], uint64_t findings[WX_FINDINGS], const uint8_t *piece, size_t piece_len, uint32_t digester,
+                       const uint8_t *table, size_t table_len, uint8_t *buf, size_t buf_len, uint8_t *slot_mem, size_t slot_mem_len,
+                       uint8_t *queue_mem, size_t queue_mem_len, uint64_t out[WX_OUT]);
+
+/* Makes the findings those of the bytes in the buffer, whatever they were: after a plain call, after a change by hand, on a state that was kept.
+ * state: of which END alone is read; one that is past the buffer counts as its end. */
+void wx_findings_start(uint64_t findings[WX_FINDINGS], const uint64_t state[WX_NUMBERS], const uint8_t *buf, size_t buf_len);
 
 /* Reads what stands behind the colon of an answer or a notice as a parameter list (above).
  * payload, payload_len: those bytes, of any length.

@@ -387,6 +387,7 @@ class World:
         self.signalled, self.kind, self.number, self.length, self.slot_lost = False, "ok", None, 0, 0
         self.serial = 0  # R-11: "0 in a new slot"
         self.start, self.count, self.queue_lost = 0, 0, 0
+        self.findings = 0  # R-14: how many bytes the findings are about; genuine ones change no answer, so their length is all that is kept
 
     # -- the slot --
 
@@ -511,6 +512,24 @@ class World:
             except Refused as r:
                 raise Refused(r.number, taken=taken)
         return taken
+
+    # -- the same with findings (R-14) --
+
+    def find(self):
+        """Findings started "afresh over what is there". Reading: where the end lies past the buffer, that is the whole buffer."""
+        self.findings = min(self.end, len(self.buf))
+
+    def with_findings(self, call, x):
+        """A write or an advance with findings: refusals 1 to 3 as without them, and "refusal 3 also when the findings' length isn't the buffer's end before the
+        piece", a piece of nothing too, everything as it was. Reading: so 4 comes behind it. Those handed back, after refusal 5 too, are about what then lies in
+        the buffer; in numeric mode they are kept up all the same."""
+        self.checked()
+        if self.findings != self.end:
+            raise Refused(3)
+        try:
+            return call(x)
+        finally:
+            self.find()
 
 
 # ---- R-4: parameter lists with brackets ----
@@ -666,7 +685,7 @@ def numbers_of(text, many):
 def op_of(text):
     """One op as (letter, argument)."""
     letter, rest = text[:1], text[1:]
-    if letter in ("W", "A", "O"):
+    if letter in ("W", "A", "F", "G", "O"):
         return letter, data_of(rest)
     if letter == "E":
         code, comma, digits = rest.partition(",")
@@ -677,7 +696,7 @@ def op_of(text):
         return letter, number_of(rest, limits[letter])
     if letter == "R" and rest:
         return letter, number_of(rest, MOST)
-    if letter in ("C", "R", "T", "L", "B"):
+    if letter in ("C", "X", "R", "T", "L", "B"):
         if rest:
             raise BadLine
         return letter, None
@@ -687,13 +706,17 @@ def op_of(text):
 def perform(w, letter, x):
     """Does one op and says what it answered."""
     if letter == "W":
-        return "took %d" % w.write(x)
-    if letter == "A":
-        if len(x) <= len(w.buf) - w.end:  # else nothing is put, and advance refuses
-            w.buf[w.end:w.end + len(x)] = x
-        return advanced(w, len(x))
-    if letter == "M":
-        return advanced(w, x)
+        return "took %d" % afresh(w, w.write, x)
+    if letter == "F":
+        return "took %d" % w.with_findings(w.write, x)
+    if letter in ("A", "G") and len(x) <= len(w.buf) - w.end:  # else nothing is put, and advance refuses
+        w.buf[w.end:w.end + len(x)] = x
+    if letter in ("A", "M"):
+        afresh(w, w.advance, x if letter == "M" else len(x))
+        return "advanced"
+    if letter == "G":
+        w.with_findings(w.advance, len(x))
+        return "advanced"
     if letter == "T":
         got = w.take()
         return "nothing" if got is None else "notice %d %s" % (got[0], shown(got[1]))
@@ -702,6 +725,9 @@ def perform(w, letter, x):
         return "nothing" if got is None else "held %s %s %s serial %d" % (got[0], dashed(got[1]), shown(got[2]), got[3])
     if letter == "C":
         w.end = 0  # "Clear takes the end alone, makes it 0 and has no refusal"
+        w.findings = 0  # "`C` gives empty ones"
+    elif letter == "X":
+        w.findings = 0  # "replaces the findings by empty ones without telling the buffer"
     elif letter == "R":
         w.reset((w.serial + 1) % (MOST + 1) if x is None else x)
     elif letter == "E":
@@ -711,10 +737,12 @@ def perform(w, letter, x):
     return "done"
 
 
-def advanced(w, n):
-    """Advance by n."""
-    w.advance(n)
-    return "advanced"
+def afresh(w, call, x):
+    """A call without findings, which are started afresh over what it leaves. Reading: where it is refused, too."""
+    try:
+        return call(x)
+    finally:
+        w.find()
 
 
 def dashed(number):
@@ -744,12 +772,16 @@ def state(w):
 def scripted(w, ops):
     """All ops of a line, one part each, and the last state."""
     said = ""
-    for letter, x in [] if ops == "-" else [op_of(op) for op in ops.split(";")]:
+    done = [] if ops == "-" else [op_of(op) for op in ops.split(";")]
+    w.find()  # reading: the first findings are those of what the buffer holds at the start
+    for letter, x in done:
         try:
             said += perform(w, letter, x) + ";"
         except Refused as r:
             said += refusal(r) + ";"
-    return said + " " + state(w)
+    said += " " + state(w)
+    # The notation prints their length on lines that have an op with findings only.
+    return said + " findings %d" % w.findings if any(letter in "FGX" for letter, _ in done) else said
 
 
 def digest_case(mode, table, data):

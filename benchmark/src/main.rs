@@ -2,8 +2,8 @@
 //!
 //! `count` runs each workload once between the two marks that icount.c looks for, ours and then the Rust's, and prints its name, and `count vast` the vast
 //! one; `count growth` does so with ours alone, at a length and at twice that, and with notices through our queue and parameter lists, and `judge` fails where
-//! a digest or a list grew too fast; `time` prints median nanoseconds; `report` makes the page and the drawing of all. Before any workload is measured the two sides' answers to it are
-//! compared; of the vast one, what the counted calls answer.
+//! a digest, a listing byte by byte or a list grew too fast; `time` prints median nanoseconds; `report` makes the page and the drawing of all. Before any workload
+//! is measured the two sides' answers to it are compared; of the vast one, what the counted calls answer.
 
 mod heard;
 mod measure;
@@ -60,12 +60,9 @@ fn pair_under<P: Parser + 'static>(w: &Workload, table: Vec<u8>, mut digester: A
                 }),
             })
         }
-        Way::Pieces(n) => {
-            let mut ours = ours::Ingress::new(&table);
-            let mut theirs = theirs::Ingress::<P>::new();
-            same(w, sides::outcome(&mut ours, input, n), sides::outcome(&mut theirs, input, n))?;
-            Ok(Pair { ours: sides::exchanging(ours, input, n), theirs: sides::exchanging(theirs, input, n) })
-        }
+        // For longer pieces the calls without findings are the cheaper ones.
+        Way::Pieces(1) => exchange_pair(w, ours::Fed::new(&table), theirs::Ingress::<P>::new(), input, 1),
+        Way::Pieces(n) => exchange_pair(w, ours::Ingress::new(&table), theirs::Ingress::<P>::new(), input, n),
         Way::Signal => {
             let mut ours = ours::Ingress::new(&table);
             let mut theirs = theirs::Ingress::<P>::new();
@@ -82,6 +79,15 @@ fn pair_under<P: Parser + 'static>(w: &Workload, table: Vec<u8>, mut digester: A
     }
 }
 
+fn exchange_pair<O, T>(w: &Workload, mut ours: O, mut theirs: T, input: &'static [u8], n: usize) -> Result<Pair, String>
+where
+    O: Ears + 'static,
+    T: Ears + 'static,
+{
+    same(w, sides::outcome(&mut ours, input, n), sides::outcome(&mut theirs, input, n))?;
+    Ok(Pair { ours: sides::exchanging(ours, input, n), theirs: sides::exchanging(theirs, input, n) })
+}
+
 fn same<T: PartialEq + std::fmt::Debug>(w: &Workload, ours: T, theirs: T) -> Result<(), String> {
     if ours == theirs {
         return Ok(());
@@ -91,9 +97,9 @@ fn same<T: PartialEq + std::fmt::Debug>(w: &Workload, ours: T, theirs: T) -> Res
 
 /// The vast workload: each side runs it once, between the marks, and what came of it is compared.
 fn count_vast(w: &Workload) -> Result<(), String> {
-    let Way::Pieces(n) = w.way else { return Err(format!("\"{}\" is no exchange", w.name)) };
+    let Way::Pieces(n @ 1) = w.way else { return Err(format!("\"{}\" is no exchange byte by byte", w.name)) };
     let input = paged(&w.input);
-    let mut ours = ours::Ingress::new(&[]);
+    let mut ours = ours::Fed::new(&[]);
     let mut theirs = theirs::Ingress::<Empty>::new();
     let (mut ours_said, mut theirs_said) = (None, None);
     println!("{}\tours", w.name);
@@ -108,9 +114,9 @@ fn count_vast(w: &Workload) -> Result<(), String> {
 fn count_growth() -> Result<(), String> {
     for shape in SHAPES {
         count_digests(shape.name, &[], shape.input)?;
-        for len in growth::STREAM {
+        for len in growth::LENS {
             let input = paged(&(shape.input)(len));
-            let mut ours = ours::Ingress::new(&[]);
+            let mut ours = ours::Fed::new(&[]);
             let (taken, ..) = sides::outcome(&mut ours, input, 1);
             assert_eq!(taken, len, "our ingress has no room for \"{}\"", shape.name);
             println!("{}\tstream\t{len}", shape.name);
@@ -129,7 +135,7 @@ fn count_growth() -> Result<(), String> {
 /// Two digests that are answered by different rules say nothing of how work grows: their answers are compared. So no call between the marks is the first, which
 /// may have names to look up.
 fn count_digests(name: &str, table: &[u8], input: impl Fn(usize) -> Vec<u8>) -> Result<(), String> {
-    let [once, twice] = growth::DIGEST.map(|len| {
+    let [once, twice] = growth::LENS.map(|len| {
         let input = paged(&input(len));
         let heard = ours::heard(table, input);
         println!("{name}\tdigest\t{len}");

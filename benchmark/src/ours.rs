@@ -11,6 +11,9 @@ type State = [u64; 10];
 const QUEUE_LOST: usize = 8;
 const SERIAL: usize = 9;
 
+/// The findings about the bytes in a buffer; of none they are zeros.
+type Findings = [u64; 16];
+
 /// The bytes of a record in the queue's memory; before R-9 they were 132.
 const RECORD: usize = 1029;
 
@@ -26,6 +29,22 @@ extern "C" {
     fn wx_list_read(payload: *const u8, payload_len: usize, elements: *mut [u64; 1536], out: *mut [u64; 9]) -> u32;
     fn wx_ingress_write(
         state: *mut State,
+        piece: *const u8,
+        piece_len: usize,
+        digester: u32,
+        table: *const u8,
+        table_len: usize,
+        buf: *mut u8,
+        buf_len: usize,
+        slot_mem: *mut u8,
+        slot_mem_len: usize,
+        queue_mem: *mut u8,
+        queue_mem_len: usize,
+        out: *mut [u64; 9],
+    ) -> u32;
+    fn wx_feed_write(
+        state: *mut State,
+        findings: *mut Findings,
         piece: *const u8,
         piece_len: usize,
         digester: u32,
@@ -192,6 +211,71 @@ impl Ears for Ingress {
     fn waiting(&mut self) -> Vec<u8> {
         assert_eq!(self.state[7], 0, "a workload of the ingress has a notice");
         self.buf[..self.state[0] as usize].to_vec()
+    }
+}
+
+/// The same with findings, for a stream that comes byte by byte.
+pub struct Fed {
+    ingress: Ingress,
+    findings: Findings,
+}
+
+impl Fed {
+    pub fn new(table: &[u8]) -> Self {
+        Self { ingress: Ingress::new(table), findings: [0; 16] }
+    }
+}
+
+impl Ears for Fed {
+    #[inline]
+    fn clear(&mut self) {
+        self.ingress.clear();
+        self.findings = [0; 16];
+    }
+
+    #[inline]
+    fn write(&mut self, piece: &[u8]) -> usize {
+        let mut out = [0; 9];
+        let ours = &mut self.ingress;
+        // SAFETY: as above, and `findings` is an array of sixteen.
+        let refusal = unsafe {
+            wx_feed_write(
+                &mut ours.state,
+                &mut self.findings,
+                piece.as_ptr(),
+                piece.len(),
+                VERBOSE,
+                ours.table.as_ptr(),
+                ours.table.len(),
+                ours.buf.as_mut_ptr(),
+                ours.buf.len(),
+                ours.slot_mem.as_mut_ptr(),
+                ours.slot_mem.len(),
+                ours.queue_mem.as_mut_ptr(),
+                ours.queue_mem.len(),
+                &mut out,
+            )
+        };
+        assert_eq!(refusal, 0, "our ingress refused a workload");
+        out[0] as usize
+    }
+
+    #[inline]
+    fn signal(&mut self, payload: &[u8]) {
+        self.ingress.signal(payload);
+    }
+
+    #[inline]
+    fn reset(&mut self) {
+        self.ingress.reset();
+    }
+
+    fn held(&mut self) -> Held {
+        self.ingress.held()
+    }
+
+    fn waiting(&mut self) -> Vec<u8> {
+        self.ingress.waiting()
     }
 }
 

@@ -1,5 +1,6 @@
 /* Calls every function of include/walumbeex.h and compares what it answers and leaves: document 01's known examples, its refusals, and that what
- * must stay stays. The expected numbers are written by hand from document 01, those of a parameter list from R-4.
+ * must stay stays. The expected numbers are written by hand from document 01, those of a parameter list from R-4 and of findings from R-14; a call with findings
+ * is held to the same call without.
  * Each difference is a line on standard error; status 0 where there is none. */
 #include "walumbeex.h"
 
@@ -12,7 +13,7 @@
 #define TABLE "UR\7+UUSORD"
 
 /* A caller's arrays are of this length: where one of these changes, so does the version. */
-#if WX_VERSION != 6u || WX_NUMBERS != 10 || WX_OUT != 9 || WX_ELEMENTS != 256 || WX_ELEMENT != 6
+#if WX_VERSION != 6u || WX_NUMBERS != 10 || WX_OUT != 9 || WX_ELEMENTS != 256 || WX_ELEMENT != 6 || WX_FINDINGS != 16
 #error "an array has changed: raise WX_VERSION and wx_version, and write the new lengths here"
 #endif
 
@@ -1132,6 +1133,310 @@ static void serial_stays(void)
     }
 }
 
+/* The findings of bytes, by hand from R-14. Each case but the first ends in a byte that begins no text, behind which the table is in its first state, 0. */
+static void findings(void)
+{
+    static const struct {
+        const char *held;
+        uint64_t expected[WX_FINDINGS];
+    } cases[] = {
+        {"", {0, 0, 0, 0, 0, 0, 0, 0, 0, 0, 0, 0, 0, 0, 0, 0}},
+        {"x", {1, 0, 0, 0, 0, 0, 0, 0, 0, 0, 0, 0, 0, 0, 1, 0}},
+        {" \t\n\f", {4, 0, 0, 0, 0, 0, 0, 0, 0, 0, 0, 0, 0, 0, 4, 3}},
+        {"AT\r\r\n+CSQ: 17,99\r\nx ", {20, 0, 0, 0, 0, 0, 0, 0, 0, 0, 0, 0, 0, 0, 19, 18}},
+        /* texts that lack something, and a longer CONNECT line, which is none of the eleven */
+        {"OK\r\nOK \r\nok\r\nERROR\r +CME ERROR:\r\nCONNECT 1\r\nNA\n-", {48, 0, 0, 0, 0, 0, 0, 0, 0, 0, 0, 0, 0, 0, 48, 47}},
+        /* a CRLF that two lines share */
+        {"\r\nOK\r\nNA\r\nERROR\r\n-", {18, 0, 6, 0, 17, 0, 0, 0, 0, 0, 0, 0, 0, 10, 18, 17}},
+        /* each of them, and some a second time */
+        {"\r\nOK\r\n" "\r\nCONNECT\r\n" "\r\nERROR\r\n" "\r\nCOMMAND NOT SUPPORT\r\n" "\r\nNO CARRIER\r\n" "\r\nBUSY\r\n" "\r\nNO ANSWER\r\n" "\r\nNO DIALTONE\r\n"
+         "\r\n+CME ERROR:" "\r\n+CMS ERROR:" "\r\nMODEM ERROR:" "\r\nNA\r\n" "\r\nOK\r\n" "\r\n+CME ERROR:" "\r\nNA\r\n" " x\t",
+         {173, 0, 6, 17, 26, 49, 63, 71, 84, 99, 112, 125, 139, 145, 172, 170}},
+    };
+    for (size_t i = 0; i < sizeof cases / sizeof cases[0]; i++)
+        for (int past = 0; past < 2; past++) {
+            const uint8_t *held = (const uint8_t *)cases[i].held;
+            const size_t len = strlen(cases[i].held);
+            /* one number more than is lent, on both sides */
+            uint64_t state[WX_NUMBERS], around[WX_FINDINGS + 2];
+            char what[30];
+            snprintf(what, sizeof what, "findings, case %zu", i);
+            reset_to_was(state, WX_NUMBERS);
+            reset_to_was(around, WX_FINDINGS + 2);
+            state[WX_END] = past ? UINT64_MAX : len;
+            wx_findings_start(around + 1, state, held, past ? len : len + 1);
+            same_all(what, around + 1, WX_FINDINGS, cases[i].expected, WX_FINDINGS);
+            same(what, around[0], WAS);
+            same(what, around[WX_FINDINGS + 1], WAS);
+        }
+}
+
+/* A state, findings and memories, with numbers and bytes around each that no call may touch. */
+enum { BUF = 64, SLOT = 16, AROUND = 8 };
+struct world {
+    uint64_t state[WX_NUMBERS + 2], findings[WX_FINDINGS + 2], out[WX_OUT + 2];
+    uint8_t buf[BUF + 2 * AROUND], slot_mem[SLOT + 2 * AROUND], queue_mem[WX_RECORD + 2 * AROUND];
+};
+
+#define IN(world) (world).buf + AROUND, BUF, (world).slot_mem + AROUND, SLOT, (world).queue_mem + AROUND, WX_RECORD, (world).out + 1
+
+/* With nothing in the buffer. */
+static void clear_world(struct world *w)
+{
+    wx_ingress_clear(w->state + 1);
+    memset(w->findings + 1, 0, WX_FINDINGS * sizeof w->findings[0]);
+}
+
+static void new_world(struct world *w)
+{
+    memset(w, WAS, sizeof *w);
+    wx_slot_new(w->state + 1);
+    wx_queue_new(w->state + 1);
+    clear_world(w);
+}
+
+static void start_findings(struct world *w)
+{
+    wx_findings_start(w->findings + 1, w->state + 1, w->buf + AROUND, BUF);
+}
+
+/* The same stream through the calls without findings and through those with them. */
+struct twins {
+    struct world plain, fed;
+    char name[150];
+    uint32_t digester;
+    const uint8_t *table;
+    size_t table_len, lent_len;
+    unsigned calls, full, cleared;
+};
+
+#define UNDER(t) (t)->digester, (t)->table, (t)->lent_len
+
+/* Both worlds are the same to the byte, but for the findings: those are of what is in the buffer, as if made anew. */
+static void same_worlds(const struct twins *t)
+{
+    struct world expected;
+    memcpy(&expected, &t->plain, sizeof expected);
+    start_findings(&expected);
+    same(t->name, memcmp(&t->fed, &expected, sizeof expected) != 0, 0);
+}
+
+static uint32_t both_write(struct twins *t, const uint8_t *piece, size_t n)
+{
+    const uint32_t refusal = wx_ingress_write(t->plain.state + 1, piece, n, UNDER(t), IN(t->plain));
+    same(t->name, wx_feed_write(t->fed.state + 1, t->fed.findings + 1, piece, n, UNDER(t), IN(t->fed)), refusal);
+    same_worlds(t);
+    return refusal;
+}
+
+static uint32_t both_advance(struct twins *t, size_t commit)
+{
+    const uint32_t refusal = wx_ingress_advance(t->plain.state + 1, commit, UNDER(t), IN(t->plain));
+    same(t->name, wx_feed_advance(t->fed.state + 1, t->fed.findings + 1, commit, UNDER(t), IN(t->fed)), refusal);
+    same_worlds(t);
+    return refusal;
+}
+
+/* A plain write in both worlds; behind it the findings are made anew. */
+static uint32_t both_plainly(struct twins *t, const uint8_t *piece, size_t n)
+{
+    const uint32_t refusal = wx_ingress_write(t->plain.state + 1, piece, n, UNDER(t), IN(t->plain));
+    same(t->name, wx_ingress_write(t->fed.state + 1, piece, n, UNDER(t), IN(t->fed)), refusal);
+    start_findings(&t->fed);
+    same_worlds(t);
+    return refusal;
+}
+
+/* How bytes are handed over: by writes, by advances, or by the three in turn, each time with another digester, and each fifth without the table. */
+enum way { BY_WRITE, BY_ADVANCE, PLAINLY, IN_TURN };
+
+/* Hands over as much of a piece as fits: how many bytes were taken. */
+static size_t both_take(struct twins *t, enum way way, const uint8_t *piece, size_t n, uint32_t *refusal)
+{
+    const uint64_t end = t->plain.state[1 + WX_END];
+    const size_t fits = n < BUF - end ? n : BUF - end;
+    if (way == BY_ADVANCE) {
+        memcpy(t->plain.buf + AROUND + end, piece, fits);
+        memcpy(t->fed.buf + AROUND + end, piece, fits);
+        *refusal = both_advance(t, fits);
+        return fits;
+    }
+    *refusal = way == BY_WRITE ? both_write(t, piece, n) : both_plainly(t, piece, n);
+    return t->plain.out[1];
+}
+
+/* A piece, all of it, as the header says; where the table is refused, nothing. Every third time an answer is left in the slot, so that the next is lost. */
+static void hand_over(struct twins *t, enum way way, const uint8_t *piece, size_t n)
+{
+    while (n > 0) {
+        const unsigned call = t->calls++;
+        uint32_t refusal;
+        t->lent_len = t->table_len;
+        if (way == IN_TURN) {
+            t->digester = call % 2 == 0 ? WX_VERBOSE : WX_CONNECT;
+            t->lent_len = call % 5 == 0 ? 0 : t->table_len;
+        }
+        const size_t taken = both_take(t, way == IN_TURN ? (enum way)(call % 3) : way, piece, n, &refusal);
+        while (refusal == WX_FULL) {
+            t->full++;
+            same(t->name, wx_queue_take(t->plain.state + 1, t->plain.queue_mem + AROUND, WX_RECORD, t->plain.out + 1), WX_DONE);
+            same(t->name, wx_queue_take(t->fed.state + 1, t->fed.queue_mem + AROUND, WX_RECORD, t->fed.out + 1), WX_DONE);
+            refusal = both_advance(t, 0);
+        }
+        if (refusal != WX_DONE)
+            return;
+        piece += taken;
+        n -= taken;
+        if (t->plain.state[1 + WX_SIGNALLED] != 0 && call % 3 != 0) {
+            const uint32_t serial = (uint32_t)(t->plain.state[1 + WX_SERIAL] + 1);
+            same(t->name, wx_slot_reset(t->plain.state + 1, serial, t->plain.slot_mem + AROUND, SLOT), WX_DONE);
+            same(t->name, wx_slot_reset(t->fed.state + 1, serial, t->fed.slot_mem + AROUND, SLOT), WX_DONE);
+        }
+        if (taken == 0 && both_advance(t, 0) == WX_DONE && t->plain.state[1 + WX_END] == BUF) {
+            t->cleared++;
+            clear_world(&t->plain);
+            clear_world(&t->fed);
+        }
+    }
+}
+
+static const char *const streams[] = {
+    "AT+CSQ\r\r\n+CSQ: 17,99\r\n\r\nOK\r\n\r\nERROR\r\n\r\nOK\r\nAT\r\r\nOK\r\n",
+    "AT+CPBR=1,9\r\r\n+CPBR: 1,\"1\"\r\n+CPBR: 2,\"22\"\r\n+CPBR: 3,\"333\"\r\n\r\nOK\r\n",
+    "\r\n+CPBR: 1,\"1\"\r\n+CPBR: 2,\"22\"\r\n+CPBR: 3,\"333\"\r\n+CPBR: 4,\"4444\"\r\n+CPBR: 5,\"5\"\r\n\r\nOK\r\n",
+    "\r\nCOMMAND NOT SUPPORT\r\n\r\nNO CARRIER\r\n\r\nBUSY\r\n\r\nNO ANSWER\r\n\r\nNO DIALTONE\r\n\r\nNOT\r\n",
+    "x\r\n+CME ERROR: 0010\r\n\r\n+CME ERROR: 65536\r\n\r\n+CME ERROR:\r\n \t7\n\r\nOK\r\n",
+    "\r\n+CMS ERROR:\t500\n\r\n+CMS ERROR\r\n+CMS ERROR: 00000000000000007\r\n\r\nMODEM ERROR:007\n\r\nMODEM ERROR: x\r\n",
+    "x\r\n\r\nNA\r\n\r\nNAN\r\nNA\r\n\r\nNA\r\nNA \r\n",
+    "\r\n> \r\n@\r\n a > b\r\n<c>\r\n>\r\n\r\nSEND:\r\n \r\nSEND:x\r\n>>\r\n",
+    "\r\n+UUSORD: 1\r\n\r\n+UUSORD: 2\r\n\r\n+UUSORD: 3\r\nRING\r\n+UUSORD\r\n+UUSORD:\r\n+UUSOR\r\n\r\nOK\r\n",
+    "\r\nRING\r\n\r\nSHUT OK\r\n\r\nRING\r\nSIM BUSY\r\n\r\nOK\r\nSHUT OK\r\n",
+    "ATD1\r\r\nCONNECT 9600\r\n\r\nCONNECT\r\n\r\nCONNECT \r\nCONNECT\t1\r\n\r\nOK\r\n",
+    "   \t \r\n\r\n\r\n  \r \n OK\r\n\r\r\nOK\r\n\n\nOK\r\n",
+    "abcdefghijklmnopqrstuvwxyz abcdefghijklmnopqrstuvwxyz abcdefghijklmnopqrstuvwxyz\r\nOK\r\n",
+    "AT+CSQ\r+CSQ: 17,99\r\n0\r2\r2\rATD1\r7\r0\r\n2\r5\r4\r1\r",
+};
+
+/* A stream, in a first piece and then in pieces of `size` bytes. */
+static void both_hear(struct twins *t, enum way way, size_t stream, size_t first, size_t size)
+{
+    const uint8_t *rest = (const uint8_t *)streams[stream];
+    snprintf(t->name, sizeof t->name, "stream %zu, digester %u, table of %zu bytes, way %d, a piece of %zu bytes, then of %zu", stream,
+             (unsigned)t->digester, t->table_len, (int)way, first, size);
+    new_world(&t->plain);
+    new_world(&t->fed);
+    for (size_t left = strlen(streams[stream]), n = first; left > 0; left -= n, rest += n, n = size) {
+        if (n > left)
+            n = left;
+        hand_over(t, way, rest, n);
+    }
+}
+
+/* Streams byte by byte, in short pieces, and in two with the cut everywhere. */
+static void feed(void)
+{
+    static const struct {
+        const char *bytes;
+        size_t len;
+    } tables[] = {{"", 0}, {"UR\7+UUSORD" "CS\7SHUT OK" "CE\10SIM BUSY" "CP$\5SEND:", 40}, {"CP$\5SEND:", 9}};
+    static const uint32_t all[] = {WX_VERBOSE, WX_CONNECT, WX_NUMERIC};
+    static struct twins t;
+    for (size_t i = 0; i < sizeof streams / sizeof streams[0]; i++)
+        for (size_t k = 0; k < 3 * sizeof tables / sizeof tables[0]; k++)
+            for (enum way way = BY_WRITE; way <= IN_TURN; way++) {
+                t.table = (const uint8_t *)tables[k / 3].bytes;
+                t.table_len = tables[k / 3].len;
+                t.digester = all[k % 3];
+                const size_t len = strlen(streams[i]);
+                for (size_t size = 1; size <= 5; size++)
+                    both_hear(&t, way, i, size, size);
+                for (size_t cut = 1; cut <= len; cut++)
+                    both_hear(&t, way, i, cut, len);
+            }
+    same("a full queue was met", t.full > 100, 1);
+    same("a full buffer was met", t.cleared > 100, 1);
+}
+
+/* Everything is as it was, to the byte. */
+static void stays(const char *what, const struct world *w, const struct world *was)
+{
+    same(what, memcmp(w, was, sizeof *w) != 0, 0);
+}
+
+/* Which refusal a call with findings gives; 1 to 4 leave the findings with all else. */
+static void feed_refusals(void)
+{
+    static const uint64_t others[] = {0, 3, 5, 64, UINT64_C(4294967300), UINT64_MAX};
+    static const uint8_t table[] = TABLE, faulty[] = "UR\4RINGUR\1 ", piece[] = "A";
+    static uint8_t too_long[WX_LONGEST + 1];
+    struct world w, was;
+    new_world(&w);
+#define FED w.state + 1, w.findings + 1
+#define TOO_LONG too_long, sizeof too_long, w.slot_mem + AROUND, SLOT, w.queue_mem + AROUND, WX_RECORD, w.out + 1
+    same("half a line", wx_feed_write(FED, (const uint8_t *)"\r\nNO", 4, WITH_TABLE, IN(w)), WX_DONE);
+    same("half a line, taken", w.out[1], 4);
+    /* findings of another length: behind 1 and 2, before 4, and where there is nothing to take too */
+    for (size_t i = 0; i < sizeof others / sizeof others[0]; i++) {
+        w.findings[1] = others[i];
+        memset(w.out + 1, WAS, WX_OUT * sizeof w.out[0]);
+        memcpy(&was, &w, sizeof was);
+        same("other findings, a write", wx_feed_write(FED, piece, 1, WITH_TABLE, IN(w)), WX_BAD_STATE);
+        same("other findings, an empty piece", wx_feed_write(FED, piece, 0, WITH_TABLE, IN(w)), WX_BAD_STATE);
+        same("other findings, an advance", wx_feed_advance(FED, 1, WITH_TABLE, IN(w)), WX_BAD_STATE);
+        same("other findings, a commit of 0", wx_feed_advance(FED, 0, WITH_TABLE, IN(w)), WX_BAD_STATE);
+        same("other findings, a commit over the room", wx_feed_advance(FED, BUF - 3, WITH_TABLE, IN(w)), WX_BAD_STATE);
+        same("other findings, V0", wx_feed_write(FED, piece, 1, WX_NUMERIC, table, 0, IN(w)), WX_BAD_STATE);
+        same("other findings, a long buffer", wx_feed_write(FED, piece, 1, WITH_TABLE, TOO_LONG), WX_TOO_LONG);
+        stays("other findings", &w, &was);
+        was.out[1] = 1;
+        same("other findings, a faulty table", wx_feed_write(FED, piece, 1, WX_VERBOSE, faulty, sizeof faulty - 1, IN(w)), WX_BAD_TABLE);
+        stays("other findings, a faulty table", &w, &was);
+        was.out[1] = 0;
+        same("other findings, V0, a table", wx_feed_advance(FED, 0, WX_NUMERIC, table, sizeof table - 1, IN(w)), WX_BAD_TABLE);
+        stays("other findings, V0, a table", &w, &was);
+    }
+    /* the other refusals, with the findings of what is there */
+    static const struct {
+        int number;
+        uint64_t value;
+    } wrong[] = {{WX_END, BUF + 1}, {WX_LEN, SLOT + 1}, {WX_START, 1}, {WX_COUNT, 2}};
+    w.findings[1] = 4;
+    memcpy(&was, &w, sizeof was);
+    same("a commit over the room", wx_feed_advance(FED, BUF - 3, WITH_TABLE, IN(w)), WX_NO_ROOM);
+    same("a long buffer, an advance", wx_feed_advance(FED, 0, WITH_TABLE, TOO_LONG), WX_TOO_LONG);
+    stays("refused", &w, &was);
+    for (size_t i = 0; i < sizeof wrong / sizeof wrong[0]; i++) {
+        w.state[1 + wrong[i].number] = wrong[i].value;
+        w.findings[1] = w.state[1 + WX_END];
+        struct world damaged;
+        memcpy(&damaged, &w, sizeof damaged);
+        same("a wrong number, a write", wx_feed_write(FED, piece, 1, WITH_TABLE, IN(w)), WX_BAD_STATE);
+        same("a wrong number, a commit over the room", wx_feed_advance(FED, BUF, WITH_TABLE, IN(w)), WX_BAD_STATE);
+        stays("a wrong number", &w, &damaged);
+        memcpy(&w, &was, sizeof was);
+    }
+    /* and it goes on */
+    same("an empty piece", wx_feed_write(FED, piece, 0, WITH_TABLE, IN(w)), WX_DONE);
+    same("the rest of the line", wx_feed_write(FED, (const uint8_t *)" CARRIER\r\n", 10, WITH_TABLE, IN(w)), WX_DONE);
+    const uint64_t *state = w.state + 1;
+    STATE("the rest of the line", 0, 1, WX_NO_CARRIER, 0, 0, 0, 0, 0, 0, 0);
+}
+
+/* The deepest retry through a write with findings, which digests all under a table; with the stack that the header says. */
+static void feed_deepest(void)
+{
+    static const uint8_t table[] = TABLE;
+    static uint8_t crlfs[WX_LONGEST], buf[WX_LONGEST], slot_mem[16], queue_mem[WX_RECORD];
+    uint64_t state[WX_NUMBERS], findings[WX_FINDINGS] = {0}, out[WX_OUT];
+    for (size_t i = 0; i < WX_LONGEST; i++)
+        crlfs[i] = i % 2 == 0 ? '\r' : '\n';
+    wx_slot_new(state);
+    wx_queue_new(state);
+    wx_ingress_clear(state);
+    same("2,048 CRLFs, a write with findings", wx_feed_write(state, findings, crlfs, WX_LONGEST, WITH_TABLE, MEMORIES), WX_DONE);
+    STATE("2,048 CRLFs, a write with findings", WX_LONGEST, 0, WX_OK, 0, 0, 0, 0, 0, 0, 0);
+}
+
 /* Reads a parameter list into memory that has one number more than is lent. Of out the first number changes, of the memory what the elements take, and nothing else.
  * told: out[0]; expected: the elements' numbers; refused, there are none. */
 static void read_list(const uint8_t *payload, size_t n, uint32_t refusal, uint64_t told, const uint64_t *expected)
@@ -1340,11 +1645,15 @@ int main(void)
     cut_numeric();
     late();
     serial_stays();
+    findings();
+    feed();
+    feed_refusals();
+    feed_deepest();
     lists();
     list_refusals();
     list_limits();
     list_lengths();
     if (differences == 0)
-        puts("exports: every function of walumbeex.h answered as document 01 and R-4 say");
+        puts("exports: every function of walumbeex.h answered as document 01, R-4 and R-14 say");
     return differences != 0;
 }

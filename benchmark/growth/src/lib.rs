@@ -15,12 +15,13 @@ use shapes::SHAPES;
 use std::collections::HashMap;
 use std::fmt::Write;
 
-/// A length and twice that, in bytes: of a digest, and of a stream, on whose every byte all that is there is digested again.
-pub const DIGEST: [usize; 2] = [2048, 4096];
-pub const STREAM: [usize; 2] = [512, 1024];
+/// A length and twice that, in bytes: of a digest, and of a stream byte by byte.
+pub const LENS: [usize; 2] = [2048, 4096];
 
-/// So many times the work is what a digest, or the reading of a list, may take for twice the input.
+/// So many times the work is what a digest, the reading of a list, or a listing byte by byte may take for twice the input.
 const LIMIT: f64 = 2.2;
+/// The listings among the shapes: lines, in which no byte but the last may finish anything.
+const LISTINGS: [&str; 2] = ["many lines, OK", "many lines, OK not yet ended"];
 /// How many of the patterns are shown.
 const SHOWN: usize = 10;
 
@@ -95,9 +96,9 @@ impl Growth {
             let [once, twice] = lens.map(|len| get(name, way, len));
             Ok::<_, String>(Grown { lens, once: once?, twice: twice? })
         };
-        let shapes = SHAPES.iter().map(|s| Ok((s.name, grown(s.name, "digest", DIGEST)?, grown(s.name, "stream", STREAM)?)));
-        let patterns = patterns::all().into_iter().map(|p| grown(&p.to_string(), "digest", DIGEST).map(|g| (p, g)));
-        let numeric = numeric::SHAPES.iter().map(|s| Ok((s.name, get(s.name, "numeric", numeric::LENS[0])?, grown(s.name, "numeric", DIGEST)?)));
+        let shapes = SHAPES.iter().map(|s| Ok((s.name, grown(s.name, "digest", LENS)?, grown(s.name, "stream", LENS)?)));
+        let patterns = patterns::all().into_iter().map(|p| grown(&p.to_string(), "digest", LENS).map(|g| (p, g)));
+        let numeric = numeric::SHAPES.iter().map(|s| Ok((s.name, get(s.name, "numeric", numeric::LENS[0])?, grown(s.name, "numeric", LENS)?)));
         let notices = notices::LENS.iter().map(|&len| {
             let counted = [notices::TAKEN, notices::LOST].into_iter().find_map(|fate| Some((len, fate, get(fate, "queue", len).ok()?)));
             counted.ok_or_else(|| format!("not counted: a notice of {len} bytes through the queue"))
@@ -113,12 +114,13 @@ impl Growth {
         })
     }
 
-    /// An error that names each shape and each pattern whose digest is over the limit, and each payload whose reading as a list is.
+    /// An error that names each shape and each pattern whose digest is over the limit, each listing whose stream is, and each payload whose reading as a list is.
     pub fn judge(&self) -> Result<(), String> {
         let shapes = self.shapes.iter().map(|&(name, digest, _)| (name.to_owned(), digest));
+        let listings = self.shapes.iter().filter(|(name, ..)| LISTINGS.contains(name)).map(|&(name, _, stream)| (format!("{name}, byte by byte"), stream));
         let numeric = self.numeric.iter().map(|&(name, _, digest)| (format!("{name}, by the numeric digester"), digest));
         let lists = self.lists.iter().map(|(name, _, list)| (format!("{name}, as a parameter list"), *list));
-        let all = shapes.chain(self.patterns.iter().map(|(p, digest)| (p.to_string(), *digest))).chain(numeric).chain(lists);
+        let all = shapes.chain(listings).chain(self.patterns.iter().map(|(p, digest)| (p.to_string(), *digest))).chain(numeric).chain(lists);
         let mut excess = String::new();
         for (name, g) in all.filter(|(_, g)| g.is_excess()) {
             let [once, twice, len, double] = [g.once, g.twice, g.lens[0] as f64, g.lens[1] as f64].map(thousands);
@@ -132,11 +134,11 @@ impl Growth {
 
     /// A section of the page.
     pub fn section(&self) -> String {
-        let [[once, twice], [stream, stream_twice]] = [DIGEST, STREAM].map(|lens| lens.map(|len| thousands(len as f64)));
+        let [once, twice] = LENS.map(|len| thousands(len as f64));
         let mut out = format!(
             "\n## How work grows\n\nInstructions of ours at a length and at twice that. `./bench` fails where a digest of {twice} bytes takes more than {LIMIT} times \
-             what one of {once} takes.\n\n\
-             | Shape | Digest, {once} bytes | {twice} bytes | Ratio | Byte by byte, {stream} bytes | {stream_twice} bytes | Ratio |\n\
+             what one of {once} takes, and so with the two listings (many lines) byte by byte.\n\n\
+             | Shape | Digest, {once} bytes | {twice} bytes | Ratio | Byte by byte, {once} bytes | {twice} bytes | Ratio |\n\
              |---|--:|--:|--:|--:|--:|--:|\n"
         );
         for (name, digest, stream) in &self.shapes {
@@ -212,10 +214,15 @@ mod tests {
 
     #[test]
     fn over_the_limit_is_more_than_it_and_more_than_an_instruction_a_byte() {
-        let excess = |once, twice| Grown { lens: DIGEST, once, twice }.is_excess();
+        let excess = |once, twice| Grown { lens: LENS, once, twice }.is_excess();
         assert!(excess(10_000.0, 22_001.0));
         assert!(!excess(10_000.0, 22_000.0));
         assert!(!excess(300.0, 4_096.0));
         assert!(excess(300.0, 4_097.0));
+    }
+
+    #[test]
+    fn the_listings_are_among_the_shapes() {
+        assert!(LISTINGS.iter().all(|name| SHAPES.iter().any(|shape| shape.name == *name)));
     }
 }

@@ -1,11 +1,10 @@
 //! The numeric digester, of a modem in V0: its inputs, at any length, and how they are counted. The Rust hears nothing of them, so that ours stands alone.
 
 use crate::shapes::{joined, letters, over_and_over, Shape};
-use crate::DIGEST;
 use std::hint::black_box;
 
 /// The lengths, in bytes: that of a short answer, and the two that show how work grows.
-pub const LENS: [usize; 3] = [64, DIGEST[0], DIGEST[1]];
+pub const LENS: [usize; 3] = [64, crate::LENS[0], crate::LENS[1]];
 
 /// An answer with its echo; and what a walk from line to line, a look back for the last lone CR or a trim may find dear.
 pub const SHAPES: [Shape; 12] = [

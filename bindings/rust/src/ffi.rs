@@ -8,7 +8,7 @@
 //!
 //! The calling convention is System V's: `build.rs` links for x86-64 Linux with pointers of 64 bits only, where it is `"C"`.
 
-use crate::{ConvertRefusal, ListRefusal, Refusal, ResetRefusal, LIST_MEMORY};
+use crate::{ConvertRefusal, Digester, ListRefusal, Refusal, ResetRefusal, LIST_MEMORY};
 
 /// The version of the calls and arrays below: `WX_VERSION` of `include/walumbeex.h`.
 const VERSION: u32 = 6;
@@ -25,6 +25,10 @@ pub(crate) const SERIAL: usize = 9;
 /// A state's ten numbers.
 pub(crate) const NUMBERS: usize = 10;
 pub(crate) type State = [u64; NUMBERS];
+
+/// The findings about the bytes in a buffer, sixteen numbers.
+const FINDINGS: usize = 16;
+pub(crate) type Findings = [u64; FINDINGS];
 
 /// The nine numbers that a call may answer.
 const OUT: usize = 9;
@@ -86,6 +90,38 @@ extern "C" {
         out: *mut u64,
     ) -> u32;
     fn wx_ingress_clear(state: *mut u64);
+    fn wx_feed_advance(
+        state: *mut u64,
+        findings: *mut u64,
+        commit: usize,
+        digester: u32,
+        table: *const u8,
+        table_len: usize,
+        buf: *mut u8,
+        buf_len: usize,
+        slot_mem: *mut u8,
+        slot_len: usize,
+        queue_mem: *mut u8,
+        queue_len: usize,
+        out: *mut u64,
+    ) -> u32;
+    fn wx_feed_write(
+        state: *mut u64,
+        findings: *mut u64,
+        piece: *const u8,
+        piece_len: usize,
+        digester: u32,
+        table: *const u8,
+        table_len: usize,
+        buf: *mut u8,
+        buf_len: usize,
+        slot_mem: *mut u8,
+        slot_len: usize,
+        queue_mem: *mut u8,
+        queue_len: usize,
+        out: *mut u64,
+    ) -> u32;
+    fn wx_findings_start(findings: *mut u64, state: *const u64, buf: *const u8, buf_len: usize);
     fn wx_list_read(payload: *const u8, payload_len: usize, elements: *mut u64, out: *mut u64) -> u32;
     fn wx_version() -> u32;
 }
@@ -223,8 +259,7 @@ pub(crate) fn queue_convert(old: &State, old_mem: &[u8], state: &mut State, mem:
 pub(crate) fn ingress_advance(
     state: &mut State,
     commit: usize,
-    digester: u32,
-    table: &[u8],
+    digester: Digester<'_>,
     buf: &mut [u8],
     slot_mem: &mut [u8],
     queue_mem: &mut [u8],
@@ -235,9 +270,9 @@ pub(crate) fn ingress_advance(
         wx_ingress_advance(
             state.as_mut_ptr(),
             commit,
-            digester,
-            table.as_ptr(),
-            table.len(),
+            digester.number(),
+            digester.table().as_ptr(),
+            digester.table().len(),
             buf.as_mut_ptr(),
             buf.len(),
             slot_mem.as_mut_ptr(),
@@ -254,8 +289,7 @@ pub(crate) fn ingress_advance(
 pub(crate) fn ingress_write(
     state: &mut State,
     piece: &[u8],
-    digester: u32,
-    table: &[u8],
+    digester: Digester<'_>,
     buf: &mut [u8],
     slot_mem: &mut [u8],
     queue_mem: &mut [u8],
@@ -267,9 +301,9 @@ pub(crate) fn ingress_write(
             state.as_mut_ptr(),
             piece.as_ptr(),
             piece.len(),
-            digester,
-            table.as_ptr(),
-            table.len(),
+            digester.number(),
+            digester.table().as_ptr(),
+            digester.table().len(),
             buf.as_mut_ptr(),
             buf.len(),
             slot_mem.as_mut_ptr(),
@@ -287,6 +321,80 @@ pub(crate) fn ingress_write(
 pub(crate) fn ingress_clear(state: &mut State) {
     // SAFETY: see the head of this file.
     unsafe { wx_ingress_clear(state.as_mut_ptr()) }
+}
+
+/// The commit, digested and delivered, with findings.
+pub(crate) fn feed_advance(
+    state: &mut State,
+    findings: &mut Findings,
+    commit: usize,
+    digester: Digester<'_>,
+    buf: &mut [u8],
+    slot_mem: &mut [u8],
+    queue_mem: &mut [u8],
+) -> Result<(), Refusal> {
+    let mut out: Out = [0; OUT];
+    // SAFETY: see the head of this file.
+    let number = unsafe {
+        wx_feed_advance(
+            state.as_mut_ptr(),
+            findings.as_mut_ptr(),
+            commit,
+            digester.number(),
+            digester.table().as_ptr(),
+            digester.table().len(),
+            buf.as_mut_ptr(),
+            buf.len(),
+            slot_mem.as_mut_ptr(),
+            slot_mem.len(),
+            queue_mem.as_mut_ptr(),
+            queue_mem.len(),
+            out.as_mut_ptr(),
+        )
+    };
+    refused(number, &out, commit)
+}
+
+/// A piece, copied in, digested and delivered, with findings: the bytes taken.
+pub(crate) fn feed_write(
+    state: &mut State,
+    findings: &mut Findings,
+    piece: &[u8],
+    digester: Digester<'_>,
+    buf: &mut [u8],
+    slot_mem: &mut [u8],
+    queue_mem: &mut [u8],
+) -> Result<usize, Refusal> {
+    let mut out: Out = [0; OUT];
+    // SAFETY: see the head of this file.
+    let number = unsafe {
+        wx_feed_write(
+            state.as_mut_ptr(),
+            findings.as_mut_ptr(),
+            piece.as_ptr(),
+            piece.len(),
+            digester.number(),
+            digester.table().as_ptr(),
+            digester.table().len(),
+            buf.as_mut_ptr(),
+            buf.len(),
+            slot_mem.as_mut_ptr(),
+            slot_mem.len(),
+            queue_mem.as_mut_ptr(),
+            queue_mem.len(),
+            out.as_mut_ptr(),
+        )
+    };
+    refused(number, &out, out[0] as usize)?;
+    Ok(out[0] as usize)
+}
+
+/// The findings of the buffer's bytes.
+pub(crate) fn findings_start(state: &State, buf: &[u8]) -> Findings {
+    let mut findings: Findings = [0; FINDINGS];
+    // SAFETY: see the head of this file.
+    unsafe { wx_findings_start(findings.as_mut_ptr(), state.as_ptr(), buf.as_ptr(), buf.len()) }
+    findings
 }
 
 /// How many elements a payload has; they stand at the front of `elements`, six numbers each.

@@ -1,4 +1,4 @@
-use crate::ffi::{self, State, END, QUEUE_LOST, START};
+use crate::ffi::{self, Findings, State, END, QUEUE_LOST, START};
 use crate::{Digester, MemoryError, NoticeQueue, Refusal, ResponseSlot, LONGEST_INPUT};
 
 /// Bytes from a modem go in; answers come out at [`res_slot`](Ingress::res_slot), notices at
@@ -100,10 +100,37 @@ use crate::{Digester, MemoryError, NoticeQueue, Refusal, ResponseSlot, LONGEST_I
 /// assert_eq!(ingress.res_slot.try_get(), Ok(Some(Response::Ok(b""))));
 /// ```
 ///
-/// So hand over what a read gave, never single bytes; where its last byte that is no blank is `>` or `@`, wait a moment for
-/// the line to go quiet and hand it over with what still came (`examples/listen.rs` does). An error, too, hangs on the cut:
-/// `ERROR` and an `OK` behind it in one piece are an Ok. Two answers hang on nothing that comes behind them: an Ok by the
-/// line OK under a table with no custom success, and a notice with no CRLF before its own (docs/WAITING.md).
+/// So hand over what a read gave, single bytes only where there is no more; where its last byte that is no blank is `>` or
+/// `@`, wait a moment for the line to go quiet and hand it over with what still came (`examples/listen.rs` does). An error,
+/// too, hangs on the cut: `ERROR` and an `OK` behind it in one piece are an Ok, and byte by byte each is answered when it
+/// comes. Two answers hang on nothing that comes behind them: an Ok by the line OK under a table with no custom success, and
+/// a notice with no CRLF before its own (docs/WAITING.md).
+///
+/// # One byte at a time
+///
+/// A board may hand over single bytes. [`try_write`](Ingress::try_write) digests all that is in the buffer again at each.
+/// [`try_feed`](Ingress::try_feed) answers, consumes and leaves the same, and keeps findings beside the buffer, so that each
+/// byte is looked at once for the fixed lines: 4,096 bytes of a listing took 4.7 million instructions, and 448 million by
+/// `try_write`. For whole answers in one piece `try_write` is the cheaper one.
+///
+/// ```
+/// use walumbeex::{Digester, Ingress, Response, NOTICE_RECORD};
+///
+/// let (mut buf, mut answer, mut waiting) = ([0; 256], [0; 128], [0; NOTICE_RECORD]);
+/// let mut ingress = Ingress::new(Digester::default(), &mut buf, &mut answer, &mut waiting).unwrap();
+/// let mut heard = 0;
+/// for byte in b"AT+CSQ\r\r\n+CSQ: 17,99\r\n\r\nOK\r\n" {
+///     ingress.try_feed(&[*byte]).unwrap();
+///     heard += usize::from(ingress.res_slot.signalled());
+/// }
+/// assert_eq!(heard, 1);
+/// assert_eq!(ingress.res_slot.try_get(), Ok(Some(Response::Ok(b"+CSQ: 17,99"))));
+/// ```
+///
+/// Calls with findings and without may be mixed: after one without, and after [`clear`](Ingress::clear), the next with makes
+/// them anew from the bytes in the buffer. Where findings spare nothing (all is digested again, as without them) is in
+/// include/walumbeex.h under Work: with [`Digester::numeric`], and under a table that isn't empty once a line has ended.
+/// `examples/bytes.rs` is a program that is handed one byte at a time.
 ///
 /// # Going on after refusal 5
 ///
@@ -113,6 +140,8 @@ use crate::{Digester, MemoryError, NoticeQueue, Refusal, ResponseSlot, LONGEST_I
 /// 4. Then write the rest of the piece; on refusal 5, begin again at 2.
 /// 5. A write that takes 0 of a piece that isn't empty has found no room. `try_advance(0)`; if that isn't refused and there
 ///    is still no room, [`clear`](Ingress::clear): nothing in the buffer can be finished by a further byte.
+///
+/// With findings these are `try_feed` and `try_feed_advance(0)`.
 ///
 /// ```
 /// use walumbeex::{Digester, Ingress, Refusal, Table, Urc, NOTICE_RECORD};
@@ -133,6 +162,8 @@ pub struct Ingress<'a> {
     digester: Digester<'a>,
     buf: &'a mut [u8],
     end: u64,
+    // Those of the bytes in the buffer; none where the last call had none.
+    findings: Option<Findings>,
     /// Where answers are delivered; what to know of late ones stands [there](ResponseSlot#late-answers).
     pub res_slot: ResponseSlot<'a>,
     /// Where notices are delivered.
@@ -153,7 +184,7 @@ impl<'a> Ingress<'a> {
             return Err(MemoryError::Buffer(buf.len()));
         }
         let (res_slot, notices) = (ResponseSlot::new(slot_mem), NoticeQueue::new(queue_mem)?);
-        Ok(Self { digester, buf, end: 0, res_slot, notices })
+        Ok(Self { digester, buf, end: 0, findings: None, res_slot, notices })
     }
 
     /// An ingress that goes on from ten numbers that [`state`](Ingress::state) gave, over memory that was kept, such as
@@ -180,7 +211,7 @@ impl<'a> Ingress<'a> {
         queue_mem: &'a mut [u8],
     ) -> Result<Self, MemoryError> {
         let mut ingress = Self::new(digester, buf, slot_mem, queue_mem)?;
-        ingress.put_state(state);
+        ingress.put_state(state, None);
         Ok(ingress)
     }
 
@@ -196,9 +227,11 @@ impl<'a> Ingress<'a> {
         state
     }
 
-    // The slot and the queue keep ten numbers each, of which they use their own.
-    fn put_state(&mut self, state: State) {
+    // The slot and the queue keep ten numbers each, of which they use their own. Findings are about the bytes up to the end: a call
+    // without them leaves none.
+    fn put_state(&mut self, state: State, findings: Option<Findings>) {
         self.end = state[END];
+        self.findings = findings;
         self.res_slot.state = state;
         self.notices.state = state;
     }
@@ -225,9 +258,8 @@ impl<'a> Ingress<'a> {
     /// 5 where a notice meets a full queue.
     pub fn try_advance(&mut self, commit: usize) -> Result<(), Refusal> {
         let mut state = self.state();
-        let (number, table) = (self.digester.number(), self.digester.table());
-        let done = ffi::ingress_advance(&mut state, commit, number, table, self.buf, self.res_slot.mem, self.notices.mem);
-        self.put_state(state);
+        let done = ffi::ingress_advance(&mut state, commit, self.digester, self.buf, self.res_slot.mem, self.notices.mem);
+        self.put_state(state, None);
         done
     }
 
@@ -237,17 +269,66 @@ impl<'a> Ingress<'a> {
     /// Refused with 2, 3 and 5 as [`try_advance`](Ingress::try_advance); refusal 5 carries the bytes taken.
     pub fn try_write(&mut self, piece: &[u8]) -> Result<usize, Refusal> {
         let mut state = self.state();
-        let (number, table) = (self.digester.number(), self.digester.table());
-        let done = ffi::ingress_write(&mut state, piece, number, table, self.buf, self.res_slot.mem, self.notices.mem);
-        self.put_state(state);
+        let done = ffi::ingress_write(&mut state, piece, self.digester, self.buf, self.res_slot.mem, self.notices.mem);
+        self.put_state(state, None);
         done
+    }
+
+    /// Does what [`try_advance`](Ingress::try_advance) does, with findings: for who commits
+    /// [one byte at a time](Ingress#one-byte-at-a-time), or few. It is refused as that is.
+    ///
+    /// ```
+    /// # use walumbeex::{Digester, Ingress, NOTICE_RECORD};
+    /// # let (mut buf, mut answer, mut waiting) = ([0; 64], [0; 64], [0; NOTICE_RECORD]);
+    /// # let mut ingress = Ingress::new(Digester::default(), &mut buf, &mut answer, &mut waiting).unwrap();
+    /// for byte in b"\r\nOK\r\n" {
+    ///     ingress.write_buf()[0] = *byte;
+    ///     ingress.try_feed_advance(1).unwrap();
+    /// }
+    /// assert!(ingress.res_slot.signalled());
+    /// ```
+    pub fn try_feed_advance(&mut self, commit: usize) -> Result<(), Refusal> {
+        let mut state = self.state();
+        let mut findings = self.findings(&state);
+        let (slot_mem, queue_mem) = (&mut *self.res_slot.mem, &mut *self.notices.mem);
+        let done = ffi::feed_advance(&mut state, &mut findings, commit, self.digester, self.buf, slot_mem, queue_mem);
+        self.put_state(state, Some(findings));
+        done
+    }
+
+    /// Does what [`try_write`](Ingress::try_write) does, with findings: for who is handed
+    /// [one byte at a time](Ingress#one-byte-at-a-time), or few. It is refused as that is.
+    ///
+    /// ```
+    /// # use walumbeex::{Digester, Ingress, Response, NOTICE_RECORD};
+    /// # let (mut buf, mut answer, mut waiting) = ([0; 64], [0; 64], [0; NOTICE_RECORD]);
+    /// # let mut ingress = Ingress::new(Digester::default(), &mut buf, &mut answer, &mut waiting).unwrap();
+    /// // A cut matters as ever: in one piece these two are an Ok.
+    /// for byte in b"\r\nERROR\r\n\r\nOK\r\n" {
+    ///     ingress.try_feed(&[*byte]).unwrap();
+    /// }
+    /// assert_eq!(ingress.res_slot.try_get(), Ok(Some(Response::OtherError)));
+    /// assert_eq!(ingress.res_slot.lost(), 1);
+    /// ```
+    pub fn try_feed(&mut self, piece: &[u8]) -> Result<usize, Refusal> {
+        let mut state = self.state();
+        let mut findings = self.findings(&state);
+        let (slot_mem, queue_mem) = (&mut *self.res_slot.mem, &mut *self.notices.mem);
+        let done = ffi::feed_write(&mut state, &mut findings, piece, self.digester, self.buf, slot_mem, queue_mem);
+        self.put_state(state, Some(findings));
+        done
+    }
+
+    // Those that are kept, or made anew: none that are of other bytes are ever handed over.
+    fn findings(&self, state: &State) -> Findings {
+        self.findings.unwrap_or_else(|| ffi::findings_start(state, self.buf))
     }
 
     /// Drops the bytes in the buffer, and nothing else.
     pub fn clear(&mut self) {
         let mut state = self.state();
         ffi::ingress_clear(&mut state);
-        self.put_state(state);
+        self.put_state(state, None);
     }
 
     /// The bytes in the buffer that aren't consumed yet.

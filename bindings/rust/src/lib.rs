@@ -10,7 +10,7 @@
 //! |---|---|
 //! | `AtDigester`, `with_custom_success`, .. | [`Digester`], [`TableBuilder`]; [`Digester::connect`] hears text behind `CONNECT` too, [`Digester::numeric`] a modem in V0 |
 //! | `DigestResult`, `InternalError` | [`DigestResult`], [`InternalError`], with an error's digits beside its code |
-//! | `Ingress`, `write_buf`, `try_advance`, `try_write`, `clear` | [`Ingress`], with the same calls |
+//! | `Ingress`, `write_buf`, `try_advance`, `try_write`, `clear` | [`Ingress`], with the same calls; for single bytes [`Ingress::try_feed`] |
 //! | `ResponseSlot`, `try_get`, `reset`, `Response` | [`ResponseSlot`] at [`Ingress::res_slot`], `try_get`, [`ResponseSlot::reset_next`], [`Response`]; `reset` here takes a [serial number](ResponseSlot#late-answers) |
 //! | `UrcChannel` | [`NoticeQueue`] at [`Ingress::notices`], [`Urc`] |
 //! | `ingress::Error` | [`Refusal`]; of a reset [`ResetRefusal`] |

@@ -31,10 +31,11 @@ pub enum Refusal {
     /// 4: the commit is more than the room in the buffer.
     NoRoom,
     /// 5: a notice of 1 to 1,024 bytes meets a full queue. What came before it is delivered; the notice and what lay with it are
-    /// still in the buffer. Take a notice, then `try_advance(0)`.
+    /// still in the buffer. Take a notice, then `try_advance(0)` or `try_feed_advance(0)`.
     QueueFull {
-        /// How many of the bytes offered were taken: never offer them again. For `try_write` the bytes of the piece that
-        /// are consumed or in the buffer, for `try_advance` the commit, for `NoticeQueue::put` 0.
+        /// How many of the bytes offered were taken: never offer them again. For `try_write` and `try_feed` the bytes of the
+        /// piece that are consumed or in the buffer, for `try_advance` and `try_feed_advance` the commit, for
+        /// `NoticeQueue::put` 0.
         taken: usize,
     },
 }

@@ -1,48 +1,22 @@
 //! The program examples/listen.rs, from standard input and from a device.
 
+mod program;
 mod pty;
 
+use program::output;
 use std::fs::OpenOptions;
 use std::io::{BufRead, BufReader, Write};
-use std::path::PathBuf;
 use std::process::{Command, Output, Stdio};
 use std::sync::mpsc;
 use std::thread;
 use std::time::Duration;
 
-/// `cargo test` builds the examples, two folders up from this test's own program. On a machine of another kind
-/// `WALUMBEEX_RUNNER` has the words that start an x86-64 program.
 fn program() -> Command {
-    // Not current_exe: where a loader is named in front of the program, that is the loader.
-    let mut path = PathBuf::from(std::env::args_os().next().unwrap());
-    path.pop();
-    path.pop();
-    path.push("examples/listen");
-    assert!(
-        path.is_file(),
-        "the example isn't built: `cargo build --example listen` builds it, and so does a plain `cargo test`"
-    );
-    let runner = std::env::var("WALUMBEEX_RUNNER").unwrap_or_default();
-    let mut words = runner.split_whitespace();
-    match words.next() {
-        None => Command::new(path),
-        Some(first) => {
-            let mut command = Command::new(first);
-            command.args(words).arg(path);
-            command
-        }
-    }
+    program::program("listen")
 }
 
 fn listen(words: &[&str], input: &[u8]) -> Output {
     output(program().args(words), input)
-}
-
-fn output(program: &mut Command, input: &[u8]) -> Output {
-    let mut child = program.stdin(Stdio::piped()).stdout(Stdio::piped()).stderr(Stdio::piped()).spawn().unwrap();
-    // It may have stopped before it read anything.
-    let _ = child.stdin.take().unwrap().write_all(input);
-    child.wait_with_output().unwrap()
 }
 
 #[test]

@@ -1,98 +1,13 @@
 //! Random bytes, in random pieces, through the ingress: after each call its answer, its buffer, slot and queue are what
 //! digesting by hand makes of them.
 
+mod streams;
+
 use std::collections::VecDeque;
+use streams::{Random, TABLES};
 use walumbeex::{
     DigestResult, Digester, Ingress, InternalError, Refusal, ResetRefusal, Response, Table, LONGEST_NOTICE, NOTICE_RECORD, RING,
 };
-
-/// A small generator (splitmix64).
-struct Random(u64);
-
-impl Random {
-    fn next(&mut self) -> u64 {
-        self.0 = self.0.wrapping_add(0x9E37_79B9_7F4A_7C15);
-        let mut z = self.0;
-        z = (z ^ (z >> 30)).wrapping_mul(0xBF58_476D_1CE4_E5B9);
-        z = (z ^ (z >> 27)).wrapping_mul(0x94D0_49BB_1331_11EB);
-        z ^ (z >> 31)
-    }
-
-    fn below(&mut self, n: usize) -> usize {
-        (self.next() % n as u64) as usize
-    }
-
-    fn one_of<'a>(&mut self, from: &[&'a [u8]]) -> &'a [u8] {
-        from[self.below(from.len())]
-    }
-}
-
-const TABLES: [&[u8]; 4] =
-    [b"", b"UR\x07+UUSORD", b"UR\x04RINGUR\x07+UUSORDCS\x05READYCE\x05FAULTCP$\x05SEND:", b"CE\x02+CUR\x02+CUR\x05+CREG"];
-
-const ITEMS: [&[u8]; 35] = [
-    b"\r\nOK\r\n",
-    b"\r\nERROR\r\n",
-    b"\r\n+CSQ: 17,99\r\n",
-    b"\r\n+CME ERROR: 10\r\n",
-    b"\r\n+CMS ERROR:\t65535\n",
-    b"\r\n+CME ERROR: 65536\r\n",
-    b"\r\n+CMS ERROR: 0000000000000000000500\r\n",
-    b"\r\nMODEM ERROR: 1\r\n",
-    b"\r\nMODEM ERROR:0000000000000007\n",
-    b"\r\nNO CARRIER\r\n",
-    b"\r\nBUSY\r\n",
-    b"\r\nNO ANSWER\r\n",
-    b"\r\nNO DIALTONE\r\n",
-    b"\r\nNA\r\n",
-    b"\r\nCONNECT\r\n",
-    b"\r\nCONNECT 9600\r\n",
-    b"\r\nCONNECT  a\rb\nc \r\n",
-    b"\r\nCONNECT ",
-    b"\r\nCOMMAND NOT SUPPORT\r\n",
-    b"\r\n> ",
-    b"\r\n@",
-    b">",
-    b"AT+CSQ\r\r\n",
-    b"\r\nRING\r\n",
-    b"\r\n+UUSORD: 0,4\r\n",
-    b"\n+UUSORD\r\n",
-    b"\r\n+UUSORD:",
-    b"\r\nREADY\r\n",
-    b"\r\nFAULT\r\n",
-    b"\r\nSEND:",
-    b"\r\n+CREG: 1\r\n",
-    b"\r\n+C\r\n",
-    b"\r\n",
-    b" ",
-    b"a",
-];
-
-/// What a modem in V0 sends, and what it doesn't.
-const V0_ITEMS: [&[u8]; 22] = [
-    b"0\r",
-    b"1\r",
-    b"2\r",
-    b"3\r",
-    b"4\r",
-    b"5\r",
-    b"6\r",
-    b"7\r",
-    b"8\r",
-    b"10\r",
-    b"0\r\n",
-    b"2\r\n",
-    b"+CSQ: 17,99\r\n",
-    b"AT+CSQ\r",
-    b"\r\nOK\r\n",
-    b"\r\n",
-    b"\r",
-    b"\n",
-    b" ",
-    b"0",
-    b"2",
-    b"a",
-];
 
 /// What an ingress does, said with a digester and the standard library's types.
 struct Hand<'t> {
@@ -233,11 +148,7 @@ impl Met {
 fn run(seed: u64, met: &mut Met) {
     let mut r = Random(seed);
     let table = Table::new(r.one_of(&TABLES)).unwrap();
-    let (digester, items) = match r.below(3) {
-        0 => (Digester::new(table), &ITEMS[..]),
-        1 => (Digester::connect(table), &ITEMS[..]),
-        _ => (Digester::numeric(), &V0_ITEMS[..]),
-    };
+    let (digester, items) = r.digester(table);
     // Now and then a buffer for the longest notices, of which there are more then, in longer pieces.
     let long = r.below(4) == 0;
     let size = if long { 1024 + r.below(1000) } else { 1 + r.below(300) };
@@ -258,19 +169,7 @@ fn run(seed: u64, met: &mut Met) {
         texts: 0,
     };
 
-    let mut bytes = Vec::new();
-    for _ in 0..r.below(30) {
-        match r.below(if long { 6 } else { 12 }) {
-            0 => bytes.extend((0..r.below(6)).map(|_| r.next() as u8)),
-            1 => {
-                bytes.extend_from_slice(b"\r\n+UUSORD: ");
-                bytes.resize(bytes.len() + if long { 990 } else { 110 } + r.below(50), b'x');
-                bytes.extend_from_slice(b"\r\n");
-            }
-            _ => bytes.extend_from_slice(r.one_of(items)),
-        }
-    }
-
+    let bytes = r.stream(items, long);
     let mut rest = &bytes[..];
     let mut turns = 0;
     while !rest.is_empty() && turns < 500 {

@@ -1,7 +1,7 @@
 -- Any two results that an export's contract allows are equal: the number that it returns, and every number and byte that it leaves.
 use mathlib.Core.Path.{_≡_, sym, _∙_}
 use Rattle.outcome.specs.One.{Alike, One}
-use Rattle.gateway.specs.Laws.{call-one, listing-one, turn-one, took-one, whole-one}
+use Rattle.gateway.specs.Laws.{call-one, listing-one, turn-one, took-one, whole-one, feeding-one}
 use Rattle.gateway.proofs as calls
 
 pub wx-table-check-one : Alike calls.wx_table_check.Reads.Post (λ κs r q s t. (r ≡ q) × (s .1 .0 .now ≡ t .1 .0 .now))
@@ -48,6 +48,15 @@ wx-ingress-advance-one κs a r q s t h g = whole-one _ r q _ _ _ _ _ _ _ _ _ _ h
 
 pub wx-ingress-write-one : Alike calls.wx_ingress_write.Reads.Post (λ κs r q s t. (r ≡ q) × ((s .0 .now ≡ t .0 .now) × ((s .1 .1 .1 .1 .1 .1 .1 .0 .now ≡ t .1 .1 .1 .1 .1 .1 .1 .0 .now) × ((s .1 .1 .1 .1 .0 .now ≡ t .1 .1 .1 .1 .0 .now) × ((s .1 .1 .1 .1 .1 .0 .now ≡ t .1 .1 .1 .1 .1 .0 .now) × (s .1 .1 .1 .1 .1 .1 .0 .now ≡ t .1 .1 .1 .1 .1 .1 .0 .now))))))
 wx-ingress-write-one κs a r q s t h g = whole-one _ r q _ _ _ _ _ _ _ _ _ _ h g
+
+pub wx-feed-advance-one : Alike calls.wx_feed_advance.Reads.Post (λ κs r q s t. (r ≡ q) × ((s .1 .0 .now ≡ t .1 .0 .now) × ((s .0 .now ≡ t .0 .now) × ((s .1 .1 .1 .1 .1 .1 .1 .1 .0 .now ≡ t .1 .1 .1 .1 .1 .1 .1 .1 .0 .now) × ((s .1 .1 .1 .1 .1 .0 .now ≡ t .1 .1 .1 .1 .1 .0 .now) × ((s .1 .1 .1 .1 .1 .1 .0 .now ≡ t .1 .1 .1 .1 .1 .1 .0 .now) × (s .1 .1 .1 .1 .1 .1 .1 .0 .now ≡ t .1 .1 .1 .1 .1 .1 .1 .0 .now)))))))
+wx-feed-advance-one κs a r q s t h g = feeding-one _ r q _ _ _ _ _ _ _ _ _ _ _ _ h g
+
+pub wx-feed-write-one : Alike calls.wx_feed_write.Reads.Post (λ κs r q s t. (r ≡ q) × ((s .1 .0 .now ≡ t .1 .0 .now) × ((s .0 .now ≡ t .0 .now) × ((s .1 .1 .1 .1 .1 .1 .1 .1 .0 .now ≡ t .1 .1 .1 .1 .1 .1 .1 .1 .0 .now) × ((s .1 .1 .1 .1 .1 .0 .now ≡ t .1 .1 .1 .1 .1 .0 .now) × ((s .1 .1 .1 .1 .1 .1 .0 .now ≡ t .1 .1 .1 .1 .1 .1 .0 .now) × (s .1 .1 .1 .1 .1 .1 .1 .0 .now ≡ t .1 .1 .1 .1 .1 .1 .1 .0 .now)))))))
+wx-feed-write-one κs a r q s t h g = feeding-one _ r q _ _ _ _ _ _ _ _ _ _ _ _ h g
+
+pub wx-findings-start-one : Alike calls.wx_findings_start.Reads.Post (λ κs r q s t. s .0 .now ≡ t .0 .now)
+wx-findings-start-one κs a r q s t h g = h ∙ sym g
 
 pub wx-ingress-clear-one : Alike calls.wx_ingress_clear.Reads.Post (λ κs r q s t. s .0 .now ≡ t .0 .now)
 wx-ingress-clear-one κs a r q s t h g = h ∙ sym g

@@ -15,6 +15,7 @@ use Rattle.slot.specs.declared.Slot.{Slot}
 use Rattle.queue.specs.Queue.{Got, got, empty}
 use Rattle.queue.specs.Queue as queues
 use Rattle.ingress.specs.Ingress.{Result}
+use Rattle.feed.specs.Feed.{Fed}
 use Rattle.turn.specs.declared.State.{State}
 use Rattle.numbers.specs.Numbers.{heldNumber, withSlot, withQueue, withState, laid}
 
@@ -133,3 +134,14 @@ wholeSaid f r v o = whole (numberOf (r .said)) (numbersLeft (r .said) v (r .left
 -- an advance answers nothing
 abbrev pub noValues : {A : Type 0} → A → List ℕ
 noValues x = []
+
+-- an advance or a write with findings (R-14): that, and the findings' numbers that it leaves
+pub record Feeding : Type 0 where
+  pub call : Whole
+  pub findings : List ℕ
+
+abbrev pub feeding : Whole → List ℕ → Feeding
+feeding w m = record { call = w; findings = m }
+
+abbrev pub feedSaid : {A : Type 0} → (A → List ℕ) → Fed A → List ℕ → List ℕ → Feeding
+feedSaid f r v o = feeding (wholeSaid f (r .result) v o) (r .numbers)

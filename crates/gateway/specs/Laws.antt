@@ -2,8 +2,8 @@
 use mathlib.Core.Path.{_≡_, refl, sym, ap, _∙_, subst}
 use mathlib.Core.Bool.{true, false}
 use mathlib.Core.List.{List, [], _∷_}
-use Prim.Native.Nat.{ℕ, _+_, _≤_, _<_}
-use lib.ListN.{length}
+use Prim.Native.Nat.{ℕ, _+_, _≤_, _<_, min}
+use lib.ListN.{length, take}
 use lib.Dec.{leb}
 use borrow.Author.Tests.{le-leb, lt-leb}
 use Rattle.text.specs.Text.{partOf, partAt}
@@ -12,6 +12,9 @@ use Rattle.outcome.specs.Laws.{ways}
 use Rattle.answers.specs.declared.Answer.{Answer}
 use Rattle.selector.specs.Selector.{choice, digest}
 use Rattle.selector.specs.declared.Selector.{Selector}
+use Rattle.findings.specs.Findings.{findingsOf, numbersOf}
+use Rattle.findings.specs.declared.Findings.{Findings}
+use Rattle.quiet.specs.Quiet.{still}
 use Rattle.lists.specs.Grammar.{Reading}
 use Rattle.lists.specs.Exactly.{one-reading}
 use Rattle.lists.specs.declared.Listed.{Listed}
@@ -25,13 +28,15 @@ use Rattle.queue.specs.Queue as queues
 use Rattle.queue.specs.declared.Queue.{Queue}
 use Rattle.queue.specs.declared.Taken.{Taken}
 use Rattle.turn.specs.Turn.{world}
+use Rattle.turn.specs.Says.{held-is}
 use Rattle.ingress.specs.Ingress.{Result, advanceSays, advanced, result, writeSays, written, taking}
 use Rattle.turn.specs.declared.State.{State}
 use Rattle.ingress.specs.declared.Advanced.{Advanced}
 use Rattle.ingress.specs.declared.Written.{Written}
+use Rattle.feed.specs.Feed.{Fed, fed, advancedWith, writtenWith}
 use Rattle.numbers.specs.Numbers.{selectorOf, word, heldNumber, answerOf, slotOf, queueOf, stateOf, withSlot, withQueue, laid}
 use Rattle.numbers.specs.Laws.{ten, slot-stays, freed-stays}
-use Rattle.gateway.specs.Gateway.{numberOf, valuesOf, Call, call, said, listing, Listing, partValues, numbersBy, resetSaid, Turn, turn, signalSaid, putSaid, readValues, gotValues, withGot, Take, took, takeSaid, Whole, whole, leftSaid, wholeSaid, countValues, noValues}
+use Rattle.gateway.specs.Gateway.{numberOf, valuesOf, Call, call, said, listing, Listing, partValues, numbersBy, resetSaid, Turn, turn, signalSaid, putSaid, readValues, gotValues, withGot, Take, took, takeSaid, Whole, whole, leftSaid, wholeSaid, countValues, noValues, Feeding, feeding, feedSaid}
 
 -- an export returns its call's number, with the values at the front of the array
 pub says : {A : Type 0} (f : A → List ℕ) (o : List ℕ) (x y : Outcome A) → x ≡ y → (q : List ℕ) → q ≡ laid (valuesOf f x) o → call (numberOf x) q ≡ said f y o
@@ -108,6 +113,18 @@ module _ (v o : List ℕ) (s : State) (es : s ≡ stateOf v) (j : ℕ) (d : Sele
   pub write-is : (p : List ℕ) (r : Written) → taking s r b′ m′ n′ ≡ written (choice d t) p (world s b m n) → took x u k ≡ leftSaid countValues (writeSays (stateOf v) r) v o → whole x u k b′ m′ n′ ≡ wholeSaid countValues (written (choice (selectorOf j) t) p (world (stateOf v) b m n)) v o
   write-is p r e g = ap (λ (y : Take). whole (y .number) (y .state) (y .out) b′ m′ n′) g ∙ ap (λ (z : Result ℕ). wholeSaid countValues z v o) (rw (es, ed) at e)
 
+  -- with the findings' numbers f, of which it left f′ (R-14)
+  module _ (f f′ : List ℕ) where
+    pub feed-advance-is : (c : ℕ) (r : Advanced) → fed (result s r b′ m′ n′) f′ ≡ advancedWith (choice d t) (still d t) c f (world s b m n) → took x u k ≡ leftSaid noValues (advanceSays (stateOf v) r) v o → feeding (whole x u k b′ m′ n′) f′ ≡ feedSaid noValues (advancedWith (choice (selectorOf j) t) (still (selectorOf j) t) c f (world (stateOf v) b m n)) v o
+    feed-advance-is c r e g = ap (λ (y : Take). feeding (whole (y .number) (y .state) (y .out) b′ m′ n′) f′) g ∙ ap (λ (z : Fed Unit). feedSaid noValues z v o) (rw (es, ed) at e)
+
+    pub feed-write-is : (p : List ℕ) (r : Written) → fed (taking s r b′ m′ n′) f′ ≡ writtenWith (choice d t) (still d t) p f (world s b m n) → took x u k ≡ leftSaid countValues (writeSays (stateOf v) r) v o → feeding (whole x u k b′ m′ n′) f′ ≡ feedSaid countValues (writtenWith (choice (selectorOf j) t) (still (selectorOf j) t) p f (world (stateOf v) b m n)) v o
+    feed-write-is p r e g = ap (λ (y : Take). feeding (whole (y .number) (y .state) (y .out) b′ m′ n′) f′) g ∙ ap (λ (z : Fed ℕ). feedSaid countValues z v o) (rw (es, ed) at e)
+
+-- the findings of what is in the buffer b, n of its bytes, as the numbers m
+pub start-is : (v b m : List ℕ) (s : State) → s ≡ stateOf v → (n : ℕ) → n ≡ min (s .end) (length b) → (f : Findings) → f ≡ findingsOf (take n b) → m ≡ numbersOf f → m ≡ numbersOf (findingsOf (take (stateOf v .end) b))
+start-is v b m s es n h f e g = g ∙ ap numbersOf (e ∙ ap findingsOf (held-is s b [] [] n h ∙ ap (λ (x : State). take (x .end) b) es))
+
 -- Where document 01 has a call change nothing, or one thing alone, every other number of the state stays as it stood, in plain form or not.
 module _ (a b c d e f g h i k : ℕ) (m : List ℕ) (l : e ≤ length m) where
   abbrev was : List ℕ
@@ -154,3 +171,8 @@ whole-one w r q v u o p b c m l n k e f =
         (ap (λ (x : Whole). x .out) g, (ap (λ (x : Whole). x .buf) g, (ap (λ (x : Whole). x .slotMemory) g, ap (λ (x : Whole). x .queueMemory) g))),
       ),
     )
+
+pub feeding-one : (w : Feeding) (r q : ℕ) (v u o p b c m l n k f g : List ℕ) → feeding (whole r v o b m n) f ≡ w → feeding (whole q u p c l k) g ≡ w → (r ≡ q) × ((f ≡ g) × ((v ≡ u) × ((o ≡ p) × ((b ≡ c) × ((m ≡ l) × (n ≡ k))))))
+feeding-one w r q v u o p b c m l n k f g e h =
+    let a = whole-one (w .call) r q v u o p b c m l n k (ap (λ (x : Feeding). x .call) e) (ap (λ (x : Feeding). x .call) h) in
+    (a .0, (ap (λ (x : Feeding). x .findings) (e ∙ sym h), a .1))

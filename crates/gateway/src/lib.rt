@@ -3,17 +3,20 @@
 // Each export promises that it equals the call behind it; none has a condition on its arguments. It changes no number of the state but
 // those that the call gives another meaning.
 ghost use mathlib.Core.Path.{_≡_};
-ghost use lib.ListN.{getD};
+ghost use lib.ListN.{getD, take};
 ghost use Rattle.text.specs.Text.{partAt};
 ghost use Rattle.table.specs.Table.{ruling};
+ghost use Rattle.findings.specs.Findings.{findingsOf, numbersOf};
 ghost use Rattle.selector.specs.Selector.{choice, digest};
+ghost use Rattle.quiet.specs.Quiet.{still};
 ghost use Rattle.slot.specs.Slot.{newSlot, signalled, wasReset, wasRead, readable};
 ghost use Rattle.queue.specs.Queue.{ours, older, newQueue, capacityOf, putInto, taken};
 ghost use Rattle.convert.specs.Convert.{converted};
 ghost use Rattle.turn.specs.Turn.{world};
 ghost use Rattle.ingress.specs.Ingress.{advanceSays, advanced, writeSays, written, cleared};
+ghost use Rattle.feed.specs.Feed.{advancedWith, writtenWith};
 ghost use Rattle.numbers.specs.Numbers.{selectorOf, answerOf, slotOf, queueOf, stateOf, withEnd, withSlot, withQueue, laid, answerValues};
-ghost use Rattle.gateway.specs.Gateway.{call, said, countValues, Listing, partValues, resetSaid, turn, signalSaid, putSaid, readValues, took, takeSaid, leftSaid, whole, wholeSaid, noValues};
+ghost use Rattle.gateway.specs.Gateway.{call, said, countValues, Listing, partValues, resetSaid, turn, signalSaid, putSaid, readValues, took, takeSaid, leftSaid, whole, wholeSaid, noValues, feeding, feedSaid};
 use convert::Converted;
 use digest::Digested;
 use ingress::Advanced;
@@ -353,6 +356,79 @@ pub extern "C" fn wx_ingress_write(
         queue_mem,
     );
     lay_written(state, out, what)
+}
+
+// `wx_ingress_advance` with findings (R-14): sixteen numbers beside the buffer, what its bytes have to say. Refusal 3 also when they aren't about as many bytes as are held;
+// refused 1 to 4 they stay as they were.
+#[no_mangle]
+pub extern "C" fn wx_feed_advance(
+    state: &mut [u64; NUMBERS],
+    findings: &mut [u64; findings::NUMBERS],
+    commit: usize,
+    digester: u32,
+    table: &[u8],
+    buf: &mut [u8],
+    slot_mem: &mut [u8],
+    queue_mem: &mut [u8],
+    out: &mut [u64; OUT],
+) -> u32
+    ensures { λ r. ⌜ feeding (whole r (now (state .exit)) (now (out .exit)) (now (buf .exit)) (now («slot_mem» .exit)) (now («queue_mem» .exit))) (now (findings .exit)) ≡ feedSaid noValues (advancedWith (choice (selectorOf digester) (now (table .entry))) (still (selectorOf digester) (now (table .entry))) commit (now (findings .entry)) (world (stateOf (now (state .entry))) (now (buf .entry)) (now («slot_mem» .entry)) (now («queue_mem» .entry)))) (now (state .entry)) (now (out .entry)) ⌝ }
+{
+    let chosen = numbers::selector_of(digester);
+    let what = feed::advance(
+        numbers::state_of(state),
+        commit,
+        chosen,
+        table,
+        findings,
+        buf,
+        slot_mem,
+        queue_mem,
+    );
+    lay_advanced(state, out, what)
+}
+
+// `wx_ingress_write` with findings, likewise (R-14).
+#[no_mangle]
+pub extern "C" fn wx_feed_write(
+    state: &mut [u64; NUMBERS],
+    findings: &mut [u64; findings::NUMBERS],
+    piece: &[u8],
+    digester: u32,
+    table: &[u8],
+    buf: &mut [u8],
+    slot_mem: &mut [u8],
+    queue_mem: &mut [u8],
+    out: &mut [u64; OUT],
+) -> u32
+    ensures { λ r. ⌜ feeding (whole r (now (state .exit)) (now (out .exit)) (now (buf .exit)) (now («slot_mem» .exit)) (now («queue_mem» .exit))) (now (findings .exit)) ≡ feedSaid countValues (writtenWith (choice (selectorOf digester) (now (table .entry))) (still (selectorOf digester) (now (table .entry))) (now (piece .entry)) (now (findings .entry)) (world (stateOf (now (state .entry))) (now (buf .entry)) (now («slot_mem» .entry)) (now («queue_mem» .entry)))) (now (state .entry)) (now (out .entry)) ⌝ }
+{
+    let chosen = numbers::selector_of(digester);
+    let what = feed::write(
+        numbers::state_of(state),
+        piece,
+        chosen,
+        table,
+        findings,
+        buf,
+        slot_mem,
+        queue_mem,
+    );
+    lay_written(state, out, what)
+}
+
+// Starts the findings afresh over what is in the buffer (R-14): first of all, and after a call without findings. An end past the buffer counts as the buffer's.
+#[no_mangle]
+pub extern "C" fn wx_findings_start(
+    findings: &mut [u64; findings::NUMBERS],
+    state: &[u64; NUMBERS],
+    buf: &[u8],
+)
+    ensures { λ _. ⌜ now (findings .exit) ≡ numbersOf (findingsOf (take (stateOf (now (state .entry)) .end) (now (buf .entry)))) ⌝ }
+{
+    let s = numbers::state_of(state);
+    let end = text::fitting(s.end, buf.len());
+    findings::lay(findings, findings::start(&buf[..end]));
 }
 
 // Drops what is in the buffer: the end becomes 0, the other numbers stay.

@@ -7,49 +7,45 @@ use Rattle.outcome.specs.Outcome.{Outcome, answered, refused, if_then_else_}
 use Rattle.outcome.specs.One.{Alike, One}
 use Rattle.text.specs.Logic.{determined}
 use Rattle.turn.specs.declared.State.{State}
-use Rattle.ingress.specs.declared.Advanced.{Advanced}
-use Rattle.ingress.specs.declared.Advanced.the-variants as advances
-use Rattle.ingress.specs.declared.Written.{Written}
-use Rattle.ingress.specs.declared.Written.the-variants as takes
-use Rattle.ingress.specs.Ingress.{Result, advanceSays, writeSays}
+use Rattle.ingress.specs.declared.Checks.{Checks}
+use Rattle.ingress.specs.declared.Checks.the-variants as judges
+use Rattle.ingress.specs.declared.Ran.{Ran}
+use Rattle.ingress.specs.declared.Ran.the-variants as runs
+use Rattle.ingress.specs.Ingress.{Result, runSays, refusal}
+use Rattle.ingress.specs.One.{advanced-of, advanced-back, written-of, written-back, same-memories}
 use Rattle.ingress.proofs as calls
 
-abbrev advanced-of : Outcome (Unit {0}) → State → Advanced
-advanced-of (answered x) s = advances.Is s
-advanced-of (refused k v) s =
-    if eqb k 1 then advances.TooLong
-    else if eqb k 2 then advances.BadTable (getD v 0 0)
-    else if eqb k 3 then advances.BadState
-    else if eqb k 4 then advances.NoRoom
-    else advances.Full s
+abbrev checks-of : Outcome (Unit {0}) → Checks
+checks-of (answered x) = judges.Good
+checks-of (refused k v) =
+    if eqb k 1 then judges.TooLong
+    else if eqb k 2 then judges.BadTable (getD v 0 0)
+    else judges.BadState
 
-advanced-back : (s : State) (r : Advanced) → advanced-of (advanceSays s r .0) (advanceSays s r .1) ≡ r
-advanced-back s (advances.Is x) = refl
-advanced-back s advances.TooLong = refl
-advanced-back s (advances.BadTable k) = refl
-advanced-back s advances.BadState = refl
-advanced-back s advances.NoRoom = refl
-advanced-back s (advances.Full x) = refl
+checks-back : (r : Checks) → checks-of (refusal r) ≡ r
+checks-back judges.Good = refl
+checks-back judges.TooLong = refl
+checks-back (judges.BadTable k) = refl
+checks-back judges.BadState = refl
 
-abbrev written-of : Outcome ℕ → State → Written
-written-of (answered n) s = takes.Is s n
-written-of (refused k v) s =
-    if eqb k 1 then takes.TooLong
-    else if eqb k 2 then takes.BadTable (getD v 0 0)
-    else if eqb k 3 then takes.BadState
-    else takes.Full s (getD v 0 0)
+pub judge-one : One calls.judge.Reads.Post
+judge-one κs a x y s t h g = sym (checks-back x) ∙ ap checks-of (determined h g) ∙ checks-back y
 
-written-back : (s : State) (r : Written) → written-of (writeSays s r .0) (writeSays s r .1) ≡ r
-written-back s (takes.Is x n) = refl
-written-back s takes.TooLong = refl
-written-back s (takes.BadTable k) = refl
-written-back s takes.BadState = refl
-written-back s (takes.Full x n) = refl
+abbrev ran-of : Outcome (Unit {0}) → State → Ran
+ran-of (answered x) s = runs.Is s
+ran-of (refused k v) s = runs.Full s
 
-same-memories : {A : Type 0} (x y : Result A) → x ≡ y → (x .left .buf ≡ y .left .buf) × ((x .left .slotMemory ≡ y .left .slotMemory) × (x .left .queueMemory ≡ y .left .queueMemory))
-same-memories x y e = (ap (λ z. z .left .buf) e, (ap (λ z. z .left .slotMemory) e, ap (λ z. z .left .queueMemory) e))
+ran-back : (r : Ran) → ran-of (runSays r .0) (runSays r .1) ≡ r
+ran-back (runs.Is s) = refl
+ran-back (runs.Full s) = refl
 
--- behind state, commit or piece, selector and table: the buffer, the slot's memory, the queue's memory
+-- behind selector, table and state: the buffer, the slot's memory, the queue's memory
+pub run-one : Alike calls.run.Reads.Post (λ κs x y s t. (x ≡ y) × ((s .1 .1 .1 .0 .now ≡ t .1 .1 .1 .0 .now) × ((s .1 .1 .1 .1 .0 .now ≡ t .1 .1 .1 .1 .0 .now) × (s .1 .1 .1 .1 .1 .0 .now ≡ t .1 .1 .1 .1 .1 .0 .now))))
+run-one κs a x y s t h g =
+    let e = determined h g in
+    (sym (ran-back x) ∙ ap (λ (z : Result (Unit {0})). ran-of (z .said) (z .left .state)) e ∙ ran-back y, same-memories _ _ e)
+
+-- behind state, commit or piece, selector and table: the same
 pub advance-one : Alike calls.advance.Reads.Post (λ κs x y s t. (x ≡ y) × ((s .1 .1 .1 .1 .0 .now ≡ t .1 .1 .1 .1 .0 .now) × ((s .1 .1 .1 .1 .1 .0 .now ≡ t .1 .1 .1 .1 .1 .0 .now) × (s .1 .1 .1 .1 .1 .1 .0 .now ≡ t .1 .1 .1 .1 .1 .1 .0 .now))))
 advance-one κs a x y s t h g =
     let e = determined (h .0) (g .0) in

@@ -80,14 +80,14 @@ module _ (c : Choice) (w : World) (g : Good c w) where
   pub commit-good : (n : ℕ) → n ≤ length (w .buf) - w .state .end → Good c (committed w n)
   commit-good n h = good-at (w .buf) (w .state .end + n) refl (omega (arith, g .inside))
 
-  commit-arrives : (n : ℕ) → Arrives w (committedBytes w n) (committed w n)
+  pub commit-arrives : (n : ℕ) → Arrives w (committedBytes w n) (committed w n)
   commit-arrives n = record { behind = take-add (w .state .end) n (w .buf); others = refl }
 
   module _ (p : List ℕ) (h : length p ≤ length (w .buf) - w .state .end) where
-    copy-good : Good c (copied w p)
+    pub copy-good : Good c (copied w p)
     copy-good = good-at (put (w .buf) (w .state .end) p) (w .state .end + length p) (put-length (w .buf) (w .state .end) p) (omega (arith, g .inside))
 
-    copy-arrives : Arrives w p (copied w p)
+    pub copy-arrives : Arrives w p (copied w p)
     copy-arrives = record { behind = put-held (w .buf) (w .state .end) p (omega (arith, g .inside)); others = refl }
 
 -- refusals 1 to 3 have these numbers

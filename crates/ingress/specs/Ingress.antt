@@ -48,9 +48,12 @@ unfoldable pub run : Choice → World → Result (Unit {0})
 unfolding runBy
 run c w = runBy (suc (w .state .end)) c w
 
+abbrev pub runSays : Ran → Outcome (Unit {0}) × State
+runSays (runs.Is s) = (answered tt, s)
+runSays (runs.Full s) = (refused 5 [], s)
+
 abbrev pub ran : Ran → List ℕ → List ℕ → List ℕ → Result (Unit {0})
-ran (runs.Is s) b m n = done tt (world s b m n)
-ran (runs.Full s) b m n = refusedAt 5 [] (world s b m n)
+ran r b m n = record { said = runSays r .0; left = world (runSays r .1) b m n }
 
 -- Refusal 3: the end is past the buffer; a stored length is past the slot's memory; start or count outside its bounds.
 unfoldable pub isSound : State → ℕ → ℕ → ℕ → Bool

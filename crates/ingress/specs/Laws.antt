@@ -60,7 +60,7 @@ module _ (c : Choice) (w : World) where
     unfolding thenRun
     run-full v e = ap (λ (x : Step). thenRun x (run c)) e ∙ at-turn
 
-    run-still : (v : World) (n : ℕ) → went v n ≡ once c w → n ≡ 0 → done tt v ≡ run c w
+    pub run-still : (v : World) (n : ℕ) → went v n ≡ once c w → n ≡ 0 → done tt v ≡ run c w
     unfolding thenRun
     run-still v n e z = (rw z) ∙ ap (λ (x : Step). thenRun x (run c)) e ∙ at-turn
 
@@ -256,7 +256,7 @@ same-write (suc n) (suc m) c p k w h g =
     let z : j ≤ length p - k = omega (arith, once-taken c (drop k p) w, length-drop k p) in
     same-write n m c p (k + j) v (omega arith) (omega arith))
 
-write-step : (c : Choice) (p : List ℕ) (k : ℕ) (w : World) → writeOn c p k w ≡ thenWrite (writeOnce c (drop k p) w) k (writeOn c p)
+pub write-step : (c : Choice) (p : List ℕ) (k : ℕ) (w : World) → writeOn c p k w ≡ thenWrite (writeOnce c (drop k p) w) k (writeOn c p)
 unfolding writeOn writeBy
 write-step c p k w =
     write-same (writeOnce c (drop k p) w) k (writeBy (length p - k) c p) (writeOn c p) (λ v j e l.

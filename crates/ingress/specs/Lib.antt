@@ -5,3 +5,4 @@ pub mod Kept
 pub mod Conserved
 pub mod Calls
 pub mod Winter
+pub mod One

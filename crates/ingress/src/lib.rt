@@ -20,7 +20,7 @@ pub enum Ran {
 }
 
 // Turns until the digest consumes 0 or nothing is left.
-fn run(
+pub fn run(
     selector: Selector,
     table: &[u8],
     state: State,
@@ -71,7 +71,7 @@ pub enum Checks {
 }
 
 // Refusals 1, 2 and 3 in this order, by what the digester says of the table, for memories of these lengths.
-fn judge(
+pub fn judge(
     selector: Selector,
     state: State,
     table: &[u8],

@@ -43,7 +43,7 @@ pub enum Noticed {
 }
 
 // Rule 1: how many bytes are skipped, leading spaces and what stands before the first CRLF behind them.
-fn skipped(s: &[u8]) -> usize
+pub fn skipped(s: &[u8]) -> usize
     ensures { λ r. ⌜ r ≡ skipped (now (s .entry)) ⌝ }
 {
     let a = seek::skip_spaces(s, 0);

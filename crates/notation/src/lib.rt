@@ -16,12 +16,15 @@
 // advance is called all the same); Mn advance by n; C clear; R reset with the serial number after the one in force (4,294,967,295 is followed by 0); Rn with n
 // (R-11); T take; L lookup; Obytes signal an Ok; Pn a prompt, n up to 255; En a CME code, n up to 65,535, with its digits in decimal, no zeros in front;
 // En,bytes with these digits; B BUSY.
+// With findings (R-14): Fbytes write; Gbytes put and advance as A does; X gives empty ones without a word to the buffer. They are kept from op to op. At the start and
+// after each W, A and M, refused ones too, they are found afresh in what the buffer holds, as far as it reaches; C gives empty ones.
 //
 // A digest case answers KIND NUMBER PLACE LENGTH CONSUMED, `-` for no number, and behind it, where the answer has digits, ` digits PLACE LENGTH`,
 // and where it has a text, ` text PLACE LENGTH`; a refusal is `refused N`, at 2 with the record's number. The others answer a part for each op, each ended by `;`, a
 // space, and the last state. A write answers `took N`, an advance `advanced`, a take `notice NUMBER HEX` or `nothing`, a lookup `held KIND NUMBER HEX serial N` (R-11)
 // or `nothing`, the others `done`; a refusal as above, a write's 5 `refused 5 took N`. The last state is
-// end N buffer HEX slot free|signalled KIND NUMBER LENGTH LOST serial N memory HEX queue START COUNT LOST memory HEX, KIND `capacity` for CapacityError.
+// end N buffer HEX slot free|signalled KIND NUMBER LENGTH LOST serial N memory HEX queue START COUNT LOST memory HEX, KIND `capacity` for CapacityError,
+// and behind it, on lines with an F, G or X only, ` findings N`, how many bytes the findings are about.
 // A conversion answers `converted START COUNT LOST memory HEX`, the new queue and its memory, or `refused 3`, `refused 13`.
 // A list answers its elements joined by `;`, each PLACE,END,KIND,DEPTH, and behind it a number's `,VALUE` or a range's `,LOW,HIGH`, or `refused N PLACE`.
 // KIND is one of empty number range string list; END is one past the last byte, of an empty element its PLACE.

@@ -8,6 +8,9 @@ use fields::Memory;
 pub enum Op {
     Write(usize),
     Advance(usize, usize),
+    WriteWith(usize),
+    AdvanceWith(usize),
+    Forget,
     Clear,
     Reset(u32),
     ResetNext,
@@ -17,11 +20,13 @@ pub enum Op {
     Bad,
 }
 
-// An op with bytes: W, A or O.
+// An op with bytes: W, A, F, G or O.
 fn op_of_bytes(letter: u8, n: usize) -> Op {
     match letter {
         b'W' => Op::Write(n),
         b'A' => Op::Advance(n, n),
+        b'F' => Op::WriteWith(n),
+        b'G' => Op::AdvanceWith(n),
         b'O' => Op::Signal(Kind::Ok, 0, n),
         _ => Op::Bad,
     }
@@ -45,10 +50,11 @@ fn most(letter: u8) -> u32 {
     }
 }
 
-// An op of one letter: C, R, T, B or L.
+// An op of one letter: C, X, R, T, B or L.
 fn op_alone(letter: u8) -> Op {
     match letter {
         b'C' => Op::Clear,
+        b'X' => Op::Forget,
         b'R' => Op::ResetNext,
         b'T' => Op::Take,
         b'B' => Op::Signal(Kind::Busy, 0, 0),
@@ -60,7 +66,7 @@ fn op_alone(letter: u8) -> Op {
 // Has the op bytes?
 fn takes_bytes(letter: u8) -> bool {
     match letter {
-        b'W' | b'A' | b'O' => true,
+        b'W' | b'A' | b'F' | b'G' | b'O' => true,
         _ => false,
     }
 }
@@ -118,6 +124,9 @@ fn is_good(s: &[u8], piece: &mut Memory) -> bool {
     match read_op(s, piece) {
         Op::Write(_) => true,
         Op::Advance(_, _) => true,
+        Op::WriteWith(_) => true,
+        Op::AdvanceWith(_) => true,
+        Op::Forget => true,
         Op::Clear => true,
         Op::Reset(_) => true,
         Op::ResetNext => true,
@@ -125,6 +134,16 @@ fn is_good(s: &[u8], piece: &mut Memory) -> bool {
         Op::Look => true,
         Op::Signal(_, _, _) => true,
         Op::Bad => false,
+    }
+}
+
+// Is it one of those that findings are kept for, F, G or X?
+pub fn has_findings(op: Op) -> bool {
+    match op {
+        Op::WriteWith(_) => true,
+        Op::AdvanceWith(_) => true,
+        Op::Forget => true,
+        _ => false,
     }
 }
 

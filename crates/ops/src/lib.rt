@@ -1,6 +1,7 @@
 // An op of a script, done through the public calls, and its answer said. It is part of a harness and promises only that it doesn't trip.
 use answers::Kind;
 use fields::Memory;
+use findings::NUMBERS;
 use ingress::Advanced;
 use ingress::Written;
 use notation::op::Op;
@@ -40,17 +41,9 @@ fn leaving(s: State, o: Answered) -> Left {
     }
 }
 
-// Each op through its public call. A refused one leaves the state as it was, but for refusal 5.
-fn do_write(
-    now: State,
-    p: &[u8],
-    selector: Selector,
-    table: &[u8],
-    buf: &mut [u8],
-    slot_mem: &mut [u8],
-    queue_mem: &mut [u8],
-) -> Left {
-    match ingress::write(now, p, selector, table, buf, slot_mem, queue_mem) {
+// What a write answered. A refused one leaves the state as it was, but for refusal 5.
+fn of_write(now: State, wrote: Written) -> Left {
+    match wrote {
         Written::Is(s, n) => leaving(s, Answered::Took(n)),
         Written::TooLong => leaving(now, Answered::Refused(1)),
         Written::BadTable(k) => leaving(now, Answered::BadTable(k)),
@@ -59,16 +52,9 @@ fn do_write(
     }
 }
 
-fn do_advance(
-    now: State,
-    n: usize,
-    selector: Selector,
-    table: &[u8],
-    buf: &mut [u8],
-    slot_mem: &mut [u8],
-    queue_mem: &mut [u8],
-) -> Left {
-    match ingress::advance(now, n, selector, table, buf, slot_mem, queue_mem) {
+// What an advance answered, likewise.
+fn of_advance(now: State, went: Advanced) -> Left {
+    match went {
         Advanced::Is(s) => leaving(s, Answered::Advanced),
         Advanced::TooLong => leaving(now, Answered::Refused(1)),
         Advanced::BadTable(k) => leaving(now, Answered::BadTable(k)),
@@ -78,7 +64,81 @@ fn do_advance(
     }
 }
 
-fn do_clear(now: State) -> Left {
+// Finds afresh in what the buffer holds, as far as it reaches.
+pub fn find(state: State, numbers: &mut [u64; NUMBERS], buf: &[u8]) {
+    let held = text::part(buf, 0, text::fitting(state.end, buf.len()));
+    findings::lay(numbers, findings::start(held));
+}
+
+// Each op through its public call.
+fn do_write(
+    now: State,
+    p: &[u8],
+    selector: Selector,
+    table: &[u8],
+    numbers: &mut [u64; NUMBERS],
+    buf: &mut [u8],
+    slot_mem: &mut [u8],
+    queue_mem: &mut [u8],
+) -> Left {
+    let wrote = ingress::write(now, p, selector, table, buf, slot_mem, queue_mem);
+    let left = of_write(now, wrote);
+    find(left.state, numbers, buf);
+    left
+}
+
+fn do_advance(
+    now: State,
+    n: usize,
+    selector: Selector,
+    table: &[u8],
+    numbers: &mut [u64; NUMBERS],
+    buf: &mut [u8],
+    slot_mem: &mut [u8],
+    queue_mem: &mut [u8],
+) -> Left {
+    let went = ingress::advance(now, n, selector, table, buf, slot_mem, queue_mem);
+    let left = of_advance(now, went);
+    find(left.state, numbers, buf);
+    left
+}
+
+// The same with findings, which these calls keep.
+fn do_write_with(
+    now: State,
+    p: &[u8],
+    selector: Selector,
+    table: &[u8],
+    numbers: &mut [u64; NUMBERS],
+    buf: &mut [u8],
+    slot_mem: &mut [u8],
+    queue_mem: &mut [u8],
+) -> Left {
+    let wrote = feed::write(now, p, selector, table, numbers, buf, slot_mem, queue_mem);
+    of_write(now, wrote)
+}
+
+fn do_advance_with(
+    now: State,
+    n: usize,
+    selector: Selector,
+    table: &[u8],
+    numbers: &mut [u64; NUMBERS],
+    buf: &mut [u8],
+    slot_mem: &mut [u8],
+    queue_mem: &mut [u8],
+) -> Left {
+    let went = feed::advance(now, n, selector, table, numbers, buf, slot_mem, queue_mem);
+    of_advance(now, went)
+}
+
+fn do_forget(now: State, numbers: &mut [u64; NUMBERS]) -> Left {
+    findings::lay(numbers, findings::none());
+    leaving(now, Answered::Done)
+}
+
+fn do_clear(now: State, numbers: &mut [u64; NUMBERS]) -> Left {
+    findings::lay(numbers, findings::none());
     leaving(now.with_end(ingress::clear(now.end)), Answered::Done)
 }
 
@@ -126,27 +186,18 @@ fn do_look(now: State, slot_mem: &[u8]) -> Left {
     }
 }
 
-// Does an op; `piece` has its bytes at the front. One that doesn't read isn't met here, since its script isn't done.
-fn perform(
+// Does an op that leaves the buffer alone. One that doesn't read isn't met here, since its script isn't done.
+fn perform_apart(
     op: Op,
     now: State,
     piece: &[u8],
-    selector: Selector,
-    table: &[u8],
-    buf: &mut [u8],
+    numbers: &mut [u64; NUMBERS],
     slot_mem: &mut [u8],
-    queue_mem: &mut [u8],
+    queue_mem: &[u8],
 ) -> Left {
     match op {
-        Op::Write(len) => {
-            let p = text::part(piece, 0, len);
-            do_write(now, p, selector, table, buf, slot_mem, queue_mem)
-        }
-        Op::Advance(n, len) => {
-            moves::put(buf, now.end, text::part(piece, 0, len));
-            do_advance(now, n, selector, table, buf, slot_mem, queue_mem)
-        }
-        Op::Clear => do_clear(now),
+        Op::Clear => do_clear(now, numbers),
+        Op::Forget => do_forget(now, numbers),
         Op::Reset(n) => do_reset(now, n, slot_mem),
         Op::ResetNext => do_reset(now, next_serial(now), slot_mem),
         Op::Take => do_take(now, queue_mem),
@@ -155,7 +206,40 @@ fn perform(
             let p = text::part(piece, 0, len);
             do_signal(now, kind, n, p, slot_mem)
         }
-        Op::Bad => leaving(now, Answered::Nothing),
+        _ => leaving(now, Answered::Nothing),
+    }
+}
+
+// Does an op; `piece` has its bytes at the front.
+fn perform(
+    op: Op,
+    now: State,
+    piece: &[u8],
+    selector: Selector,
+    table: &[u8],
+    numbers: &mut [u64; NUMBERS],
+    buf: &mut [u8],
+    slot_mem: &mut [u8],
+    queue_mem: &mut [u8],
+) -> Left {
+    match op {
+        Op::Write(len) => {
+            let p = text::part(piece, 0, len);
+            do_write(now, p, selector, table, numbers, buf, slot_mem, queue_mem)
+        }
+        Op::Advance(n, len) => {
+            moves::put(buf, now.end, text::part(piece, 0, len));
+            do_advance(now, n, selector, table, numbers, buf, slot_mem, queue_mem)
+        }
+        Op::WriteWith(len) => {
+            let p = text::part(piece, 0, len);
+            do_write_with(now, p, selector, table, numbers, buf, slot_mem, queue_mem)
+        }
+        Op::AdvanceWith(len) => {
+            moves::put(buf, now.end, text::part(piece, 0, len));
+            do_advance_with(now, len, selector, table, numbers, buf, slot_mem, queue_mem)
+        }
+        _ => perform_apart(op, now, piece, numbers, slot_mem, queue_mem),
     }
 }
 
@@ -212,10 +296,11 @@ fn say_outcome(
     }
 }
 
-// The state after an op, and how much of the answers' memory is used.
+// The state after an op, how much of the answers' memory is used, and whether an op with findings was among those done.
 pub struct Said {
     pub state: State,
     pub at: usize,
+    pub fed: bool,
 }
 
 // Reads an op, does it, and says its answer.
@@ -225,6 +310,7 @@ pub fn do_op(
     piece: &mut Memory,
     selector: Selector,
     table: &[u8],
+    numbers: &mut [u64; NUMBERS],
     buf: &mut [u8],
     slot_mem: &mut [u8],
     queue_mem: &mut [u8],
@@ -232,12 +318,24 @@ pub fn do_op(
 ) -> Said {
     let op = notation::op::read_op(s, piece);
     let state = now.state;
-    let done = perform(op, state, piece, selector, table, buf, slot_mem, queue_mem);
+    let fed = now.fed;
+    let done = perform(
+        op,
+        state,
+        piece,
+        selector,
+        table,
+        numbers,
+        buf,
+        slot_mem,
+        queue_mem,
+    );
     let next = done.state;
     let outcome = done.outcome;
     let used = say_outcome(outcome, slot_mem, queue_mem, out, now.at);
     Said {
         state: next,
         at: say::words(out, used, b";"),
+        fed: fed || notation::op::has_findings(op),
     }
 }

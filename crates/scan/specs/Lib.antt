@@ -6,3 +6,4 @@ pub mod Rule
 pub mod Beginnings
 pub mod Theorem
 pub mod Steps
+pub mod Laws

@@ -26,6 +26,14 @@ unfoldable pub run : Findings → List ℕ → Findings
 run f [] = f
 run f (b ∷ s) = run (read f b) s
 
+-- a state out of range is the start
+unfoldable pub stateOf : ℕ → ℕ
+stateOf q = if ltb q 98 then q else 0
+
+-- the findings f, whoever says so, carried on over the bytes of s behind those that were looked at
+unfoldable pub extended : Findings → List ℕ → Findings
+extended f s = run (record { seen = f .seen; state = stateOf (f .state); ends = f .ends }) (drop (f .seen) s)
+
 -- nothing found yet, and the bytes before d not looked at
 unfoldable pub fresh : ℕ → Findings
 fresh d = record { seen = d; state = 0; ends = replicate 11 0 }

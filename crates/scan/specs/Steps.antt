@@ -9,7 +9,9 @@ use native.Mathlib.Nat.{add-zero, eq-or-lt-of-le}
 use native.Mathlib.Omega.{arith}
 use lib.ListN.{length, getD, drop, set, replicate, drop-of-length-le}
 use lib.Seq.{drop-cons}
-use borrow.Author.Tests.{eq-eqb, ne-eqb, le-leb, lt-leb, lt-ltb, le-ltb}
+use lib.Dec.{ltb}
+use borrow.Author.Tests.{eq-eqb, ne-eqb, le-leb, lt-leb, lt-ltb, le-ltb, ltb-true}
+use Rattle.outcome.specs.Laws.{ways}
 use Rattle.text.specs.Bytes.{bytes}
 use Rattle.text.specs.Logic.{false-true}
 use Rattle.text.specs.Text.{begins, stands, findIn}
@@ -17,7 +19,7 @@ use Rattle.text.specs.Laws.{stands-byte, found-at, found-none}
 use Rattle.text.specs.declared.Found.the-variants.{At, Nothing}
 use Rattle.scan.specs.Table.{classOf, table, next, lastOf, finished}
 use Rattle.scan.specs.Rule.{next-state, start-stays}
-use Rattle.scan.specs.Scan.{noted, read, run, fresh, scanned, firstEnds, Ahead}
+use Rattle.scan.specs.Scan.{noted, read, run, stateOf, extended, fresh, scanned, firstEnds, Ahead}
 use Rattle.scan.specs.Theorem.{scanned-firsts}
 use Rattle.scan.specs.declared.Findings.{Findings}
 
@@ -165,24 +167,43 @@ module _ (f : Findings) (s : List ℕ) (i q : ℕ) (l : List ℕ) (h : Going f s
   unfolding run
   going-end g = sym (h .same ∙ ap (run (found i q l)) (drop-of-length-le s g))
 
--- the whole pass: nothing to look at, nothing but plain bytes, or a walk
-module _ (d : ℕ) (s : List ℕ) where
-  pub scan-is : (r : Findings) → r ≡ scanned d s → (r ≡ scanned d s) × (r .ends ≡ firstEnds d s)
-  scan-is r e = (e, ap (λ (f : Findings). f .ends) e ∙ scanned-firsts d s)
+-- a state in its range, and one out of it
+pub state-in : (q : ℕ) → q < 98 → q ≡ stateOf q
+unfolding stateOf
+state-in q h = rw (lt-ltb q 98 h)
 
-  pub scan-none : length s ≤ d → found d 0 (replicate 11 0) ≡ scanned d s
-  unfolding scanned fresh run
-  scan-none h = sym (ap (run (found d 0 (replicate 11 0))) (drop-of-length-le s h))
+pub state-out : (q : ℕ) → 98 ≤ q → 0 ≡ stateOf q
+unfolding stateOf
+state-out q h = rw (le-ltb q 98 h)
 
-  module _ (h : d ≤ length s) (p : ℕ) (a : Ahead 0 s d p) where
-    goes : Going (fresh d) s p 0 (replicate 11 0)
-    unfolding fresh
-    goes = let f = found d 0 (replicate 11 0) in going-ahead f s d 0 (replicate 11 0) (going-starts f s (omega arith) h) p a
+pub state-range : (q : ℕ) → stateOf q < 98
+unfolding stateOf
+state-range q = ways (λ (n : ℕ). n < 98) (ltb q 98) (λ e. ltb-true q 98 e) (λ e. omega arith)
 
-    pub scan-plain : length s ≤ p → found p 0 (replicate 11 0) ≡ scanned d s
-    unfolding scanned fresh
-    scan-plain g = going-end (fresh d) s p 0 (replicate 11 0) goes g
+-- carrying on: nothing to look at, nothing but plain bytes, or a walk
+module _ (f : Findings) (s : List ℕ) (q : ℕ) (e : q ≡ stateOf (f .state)) where
+  pub extend-none : length s ≤ f .seen → _≡_ {A = Findings} (found (f .seen) q (f .ends)) (extended f s)
+  unfolding extended run
+  extend-none h = ap (λ (m : ℕ). found (f .seen) m (f .ends)) e ∙ sym (ap (run (found (f .seen) (stateOf (f .state)) (f .ends))) (drop-of-length-le s h))
 
-    pub scan-walk : (r : Findings) → r ≡ run (found p 0 (replicate 11 0)) (drop p s) → r ≡ scanned d s
-    unfolding scanned fresh
-    scan-walk r e = e ∙ sym (goes .same)
+  pub extend-range : q < 98
+  extend-range = rw e (state-range (f .state))
+
+  module _ (h : f .seen ≤ length s) (p : ℕ) (a : Ahead q s (f .seen) p) where
+    goes : Going (found (f .seen) q (f .ends)) s p q (f .ends)
+    goes = let g = found (f .seen) q (f .ends) in going-ahead g s (f .seen) q (f .ends) (going-starts g s extend-range h) p a
+
+    same : run (found (f .seen) q (f .ends)) (drop (f .seen) s) ≡ extended f s
+    unfolding extended
+    same = ap (λ (m : ℕ). run (found (f .seen) m (f .ends)) (drop (f .seen) s)) e
+
+    pub extend-plain : length s ≤ p → _≡_ {A = Findings} (found p q (f .ends)) (extended f s)
+    extend-plain g = going-end (found (f .seen) q (f .ends)) s p q (f .ends) goes g ∙ same
+
+    pub extend-walk : (r : Findings) → r ≡ run (found p q (f .ends)) (drop p s) → r ≡ extended f s
+    extend-walk r g = g ∙ sym (goes .same) ∙ same
+
+-- a pass is the fresh findings carried on
+pub scan-is : (d : ℕ) (s : List ℕ) (r : Findings) → r ≡ extended (found d 0 (replicate 11 0)) s → (r ≡ scanned d s) × (r .ends ≡ firstEnds d s)
+unfolding extended stateOf scanned fresh
+scan-is d s r e = (e, ap (λ (f : Findings). f .ends) e ∙ scanned-firsts d s)

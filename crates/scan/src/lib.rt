@@ -4,13 +4,15 @@ ghost use mathlib.Core.Path.{_≡_};
 ghost use Prim.Native.Nat.{_≤_, _<_};
 ghost use lib.ListN.{length, drop};
 ghost use Rattle.scan.specs.Table.{table, classOf, next, finished};
-ghost use Rattle.scan.specs.Scan.{noted, run, scanned, firstEnds, Ahead};
+ghost use Rattle.scan.specs.Scan.{noted, run, stateOf, extended, scanned, firstEnds, Ahead};
 use text::Found;
 
 // How many texts there are. Eight are lines, which end in LF, and three are heads, which end in a colon.
 pub const TEXTS: usize = 11;
 
-// The last eleven states are the texts without their last bytes, the heads' from HEADS on.
+// How many states there are. The last eleven are the texts without their last bytes, the heads' from HEADS on.
+const STATES: usize = 98;
+
 const LACKING: usize = 87;
 
 const HEADS: usize = 95;
@@ -317,27 +319,50 @@ fn walk_tables(f: Findings, s: &[u8]) -> Findings
     walk(f, s, &NEXT)
 }
 
+// A state out of range is the start.
+fn state_of(q: usize) -> usize
+    ensures { λ r. ⌜ r ≡ stateOf q ⌝ }
+{
+    if q < STATES {
+        return q;
+    }
+    0
+}
+
+// The findings f, whoever says so, carried on over the bytes of s behind those that were looked at, each looked at once. Past the end of s there are none.
+pub fn extend(f: Findings, s: &[u8]) -> Findings
+    ensures { λ r. ⌜ r ≡ extended f (now (s .entry)) ⌝ }
+{
+    let q = state_of(f.state);
+    let ends = f.ends;
+    if s.len() <= f.seen {
+        return Findings {
+            seen: f.seen,
+            state: q,
+            ends: ends,
+        };
+    }
+    let p = ahead(q, s, f.seen);
+    let on = Findings {
+        seen: p,
+        state: q,
+        ends: ends,
+    };
+    if s.len() <= p {
+        return on;
+    }
+    walk_tables(on, s)
+}
+
 // One pass over the bytes of s from `from` on.
 pub fn scan(s: &[u8], from: usize) -> Findings
     ensures is { λ r. ⌜ r ≡ scanned from (now (s .entry)) ⌝ }
     ensures firsts { λ r. ⌜ r .ends ≡ firstEnds from (now (s .entry)) ⌝ }
 {
-    let none: [usize; 11] = [0; 11];
-    if s.len() <= from {
-        return Findings {
-            seen: from,
-            state: 0,
-            ends: none,
-        };
-    }
-    let p = ahead(0, s, from);
-    let f = Findings {
-        seen: p,
+    let none = Findings {
+        seen: from,
         state: 0,
-        ends: none,
+        ends: [0; 11],
     };
-    if s.len() <= p {
-        return f;
-    }
-    walk_tables(f, s)
+    extend(none, s)
 }

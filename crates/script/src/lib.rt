@@ -4,6 +4,7 @@
 use answers::Kind;
 use data::Filled;
 use fields::Memory;
+use findings::NUMBERS;
 use notation::form::Form;
 use notation::form::Start;
 use ops::Said;
@@ -20,6 +21,7 @@ fn do_all(
     piece: &mut Memory,
     selector: Selector,
     table: &[u8],
+    numbers: &mut [u64; NUMBERS],
     buf: &mut [u8],
     slot_mem: &mut [u8],
     queue_mem: &mut [u8],
@@ -37,6 +39,7 @@ fn do_all(
             piece,
             selector,
             table,
+            numbers,
             buf,
             slot_mem,
             queue_mem,
@@ -67,8 +70,25 @@ fn say_flag(is_signalled: bool, out: &mut Memory, at: usize) -> usize {
     say::words(out, at, b" slot free ")
 }
 
+// Says how many bytes the findings are about, where an op was with findings.
+fn say_findings(said: Said, numbers: &[u64; NUMBERS], out: &mut Memory, at: usize) -> usize {
+    let fed = said.fed;
+    if !fed {
+        return at;
+    }
+    let named = say::words(out, at, b" findings ");
+    say::number(out, named, numbers[0])
+}
+
 // Says the last state, and ends the line.
-fn say_last(said: Said, buf: &[u8], slot_mem: &[u8], queue_mem: &[u8], out: &mut Memory) -> usize {
+fn say_last(
+    said: Said,
+    numbers: &[u64; NUMBERS],
+    buf: &[u8],
+    slot_mem: &[u8],
+    queue_mem: &[u8],
+    out: &mut Memory,
+) -> usize {
     let now = said.state;
     let slot = now.slot;
     let queue = now.queue;
@@ -79,10 +99,11 @@ fn say_last(said: Said, buf: &[u8], slot_mem: &[u8], queue_mem: &[u8], out: &mut
     let slotted = say_slot(slot, slot_mem, out, bytes);
     let named = say::words(out, slotted, b" queue");
     let queued = cases::say_queue(queue, queue_mem, out, named);
-    say::words(out, queued, b"\n")
+    let found = say_findings(said, numbers, out, queued);
+    say::words(out, found, b"\n")
 }
 
-// Does a script over memories of their own lengths, and says the last state.
+// Does a script over memories of their own lengths, and says the last state. The first findings are those of what the buffer holds.
 fn run_script(
     ops: &[u8],
     first: Said,
@@ -94,18 +115,21 @@ fn run_script(
     queue_mem: &mut [u8],
     out: &mut Memory,
 ) -> usize {
+    let mut numbers = [0; NUMBERS];
+    ops::find(first.state, &mut numbers, buf);
     let said = do_all(
         ops,
         first,
         piece,
         selector,
         table,
+        &mut numbers,
         buf,
         slot_mem,
         queue_mem,
         out,
     );
-    say_last(said, buf, slot_mem, queue_mem, out)
+    say_last(said, &numbers, buf, slot_mem, queue_mem, out)
 }
 
 // Cuts the memories to their lengths, none of which is past its memory.
@@ -216,6 +240,7 @@ fn script_case(
     let first = Said {
         state: start,
         at: at,
+        fed: false,
     };
     cut_script(
         ops,

@@ -1,15 +1,15 @@
 -- `do_all` is safe and ends: the memories keep their lengths. The measure is how many ops are left.
 use lib.ListN.{length}
-use mathlib.Core.Path.{_≡_, refl}
+use mathlib.Core.Path.{_≡_, refl, _∙_}
 use borrow.Author.Needs.{needs}
 use Rattle.script.proofs.do_all.Statement.{statement}
 use Rattle.script.proofs.do_all.Tie as tie
 
 abbrev Inv-loop : tie.InvT-loop
-Inv-loop ops piece₀ selector table buf₀ slot-mem₀ queue-mem₀ out₀ said₀ from₀ left₀ piece buf slot-mem queue-mem out said from left = (length buf ≡ length buf₀) × ((length slot-mem ≡ length slot-mem₀) × (length queue-mem ≡ length queue-mem₀))
+Inv-loop ops piece₀ selector table numbers₀ buf₀ slot-mem₀ queue-mem₀ out₀ said₀ from₀ left₀ piece numbers buf slot-mem queue-mem out said from left = (length buf ≡ length buf₀) × ((length slot-mem ≡ length slot-mem₀) × (length queue-mem ≡ length queue-mem₀))
 
 abbrev μ-loop : tie.MeasureT-loop
-μ-loop ops piece₀ selector table buf₀ slot-mem₀ queue-mem₀ out₀ said₀ from₀ left₀ piece buf slot-mem queue-mem out said from left = left
+μ-loop ops piece₀ selector table numbers₀ buf₀ slot-mem₀ queue-mem₀ out₀ said₀ from₀ left₀ piece numbers buf slot-mem queue-mem out said from left = left
 
 count-requires : tie.Need-count-requires Inv-loop μ-loop
 count-requires c κs = search needs
@@ -36,7 +36,10 @@ loop-less : tie.Need-loop-less Inv-loop μ-loop
 loop-less c = search needs
 
 loop-again : tie.Need-loop-again Inv-loop μ-loop
-loop-again c = search needs
+loop-again c =
+    let loop = c .before .before .before .before .before .before .before .before .before .before .before .before .before .before .before .before .before .loop in
+    let done = c .before .before .before .before .before .before .before .do-op in
+    (done .kept .1 .1 .1 .1 .1 .1 .0 ∙ loop .inv .0, (done .kept .1 .1 .1 .1 .1 .1 .1 .0 ∙ loop .inv .1 .0, done .kept .1 .1 .1 .1 .1 .1 .1 .1 .0 ∙ loop .inv .1 .1))
 
 same-length : tie.Need-same-length Inv-loop μ-loop
 same-length c = search needs

@@ -1,0 +1,4 @@
+pub mod Feed
+pub mod Laws
+pub mod Genuine
+pub mod Calls

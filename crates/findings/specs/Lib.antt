@@ -1,0 +1,3 @@
+pub mod Findings
+pub mod Steps
+pub mod Laws
