@@ -86,7 +86,7 @@ fn settle(
     }
 }
 
-// `ingress::advance` with findings. With those that these calls gave for the bytes held it is that call (`genuine`).
+// `ingress::advance` with findings. With those that these calls gave for the bytes held it is that call (`advanced-genuine`).
 pub fn advance(
     state: State,
     commit: usize,
@@ -187,7 +187,7 @@ fn write_in(
     }
 }
 
-// `ingress::write` with findings. With those that these calls gave for the bytes held it is that call (`genuine`).
+// `ingress::write` with findings. With those that these calls gave for the bytes held it is that call (`written-genuine`).
 pub fn write(
     state: State,
     piece: &[u8],
