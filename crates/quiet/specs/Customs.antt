@@ -1,42 +1,41 @@
--- A table in which `CP` stands nowhere has no custom prompt: the record of one begins with these two bytes.
+-- A table of notices alone has no custom prompt, as the walk over its marks and lengths sees.
 use mathlib.Core.Path.{_≡_, refl}
-use mathlib.Core.Bool.{false}
+use mathlib.Core.Bool.{Bool, true, false}
 use mathlib.Core.List.{List, []}
-use Prim.Native.Nat.{ℕ, zero, suc, _+_}
+use Prim.Native.Nat.{ℕ, zero, suc, _+_, _≤_}
 use lib.ListN.{length, getD}
 use lib.Dec.{leb, ltb}
+use borrow.Author.Tests.{le-leb}
 use Rattle.outcome.specs.Laws.{ways}
 use Rattle.text.specs.Bytes.{bytes}
-use Rattle.text.specs.Logic.{false-true}
 use Rattle.text.specs.Text.{stands}
-use Rattle.table.specs.Table.{textAt, recordAt, sameMark, thenTokens, tokensBy, ofMark, entries}
-use Rattle.table.specs.declared.Mark.{Mark}
-use Rattle.table.specs.declared.Mark.the-variants.{Notice, Success, Error, Prompt}
-use Rattle.quiet.specs.Quiet.{Absent}
+use Rattle.table.specs.Table.{textAt, recordAt, thenTokens, tokensBy, ofMark, entries}
+use Rattle.table.specs.declared.Mark.the-variants.{Prompt}
 
-module _ (t : List ℕ) (none : Absent (bytes "CP") t) where
-  -- by what is read first: a record of another mark, or none
-  module _ (f n : ℕ) (rest : (at : ℕ) → ofMark Prompt (n + 1) (tokensBy f t at) ≡ []) where
-    text-none : (m : Mark) (k : ℕ) → sameMark m Prompt ≡ false → ofMark Prompt n (thenTokens t (textAt m 0 t k) (tokensBy f t)) ≡ []
-    unfolding textAt thenTokens ofMark
-    text-none m k h = ways (λ q. ofMark Prompt n (thenTokens t q (tokensBy f t)) ≡ []) (ltb (k + getD t k 0) (length t)) (λ e. rw h (rest _)) (λ e. refl)
+-- no record from `at` on is a custom prompt
+abbrev pub NoPrompts : List ℕ → ℕ → Type 0
+NoPrompts t at = (f n : ℕ) → ofMark Prompt n (tokensBy f t at) ≡ []
 
-    read-none : (at : ℕ) → ofMark Prompt n (thenTokens t (recordAt t at) (tokensBy f t)) ≡ []
-    unfolding recordAt thenTokens ofMark
-    read-none at =
-        let k = at + 2 in
-        let None : _ → Type 0 = λ q. ofMark Prompt n (thenTokens t q (tokensBy f t)) ≡ [] in
-        ways None (leb (length t) at) (λ e. refl)
-        (λ e. ways None (stands (bytes "UR") t at) (λ g. text-none Notice k refl)
-        (λ g. ways None (stands (bytes "CS") t at) (λ h. text-none Success k refl)
-        (λ h. ways None (stands (bytes "CE") t at) (λ i. text-none Error k refl)
-        (λ i. ways None (stands (bytes "CP") t at) (λ j. absurd (false-true j (none at))) (λ j. refl)))))
+-- what a walk says of the whole table
+abbrev pub OnlyNotices : List ℕ → Bool → Type 0
+OnlyNotices t true = entries Prompt t 0 0 ≡ []
+OnlyNotices t false = Unit {0}
 
-  none-by : (f at n : ℕ) → ofMark Prompt n (tokensBy f t at) ≡ []
-  unfolding tokensBy ofMark
-  none-by zero at n = refl
-  none-by (suc f) at n = read-none f n (λ p. none-by f p (n + 1)) at
+module _ (t : List ℕ) (at : ℕ) where
+  pub none-end : length t ≤ at → NoPrompts t at
+  unfolding tokensBy recordAt thenTokens ofMark
+  none-end h zero n = refl
+  none-end h (suc f) n = rw (le-leb (length t) at h)
 
-  pub no-prompt-records : entries Prompt t 0 0 ≡ []
-  unfolding entries
-  no-prompt-records = none-by 64 0 0
+  -- a notice is none, and the next record begins where its text ends
+  pub none-step : stands (bytes "UR") t at ≡ true → NoPrompts t (at + 2 + 1 + getD t (at + 2) 0) → NoPrompts t at
+  unfolding tokensBy recordAt textAt thenTokens ofMark
+  none-step g p zero n = refl
+  none-step g p (suc f) n =
+      let None : _ → Type 0 = λ q. ofMark Prompt n (thenTokens t q (tokensBy f t)) ≡ [] in
+      ways None (leb (length t) at) (λ e. refl)
+      (λ e. rw g (ways None (ltb (at + 2 + getD t (at + 2) 0) (length t)) (λ h. p f (n + 1)) (λ h. refl)))
+
+pub none-all : (t : List ℕ) → NoPrompts t 0 → entries Prompt t 0 0 ≡ []
+unfolding entries
+none-all t p = p 64 0

@@ -9,9 +9,7 @@ use lib.Dec.{eqb}
 use borrow.Author.Tests.{le-leb, lt-leb, eq-eqb, ne-eqb}
 use Rattle.text.specs.Bytes.{bytes}
 use Rattle.text.specs.Text.{findIn}
-use Rattle.text.specs.Laws.{found-none}
 use Rattle.text.specs.declared.Found.{Found}
-use Rattle.text.specs.declared.Found.the-variants.{Nothing}
 use Rattle.table.specs.Table.{Entry, entries}
 use Rattle.table.specs.declared.Mark.the-variants as mark
 use Rattle.lines.specs.Lines.{hearsText, fixedText}
@@ -24,7 +22,7 @@ use Rattle.selector.specs.declared.Selector.{Selector}
 use Rattle.selector.specs.declared.Selector.the-variants.{Verbal, Numeric}
 use Rattle.quiet.specs.Quiet.{noFixed, noNumber, isNothing, noText, noLine, isNext, noCustom, noByte, still}
 use Rattle.quiet.specs.Laws.{counts-early, counts-past, counts-byte}
-use Rattle.quiet.specs.Customs.{no-prompt-records}
+use Rattle.quiet.specs.Customs.{OnlyNotices}
 
 -- the digester hears no text, or it is looked for
 module _ (d : Digester) (s : List ℕ) where
@@ -72,9 +70,9 @@ module _ (s : List ℕ) (n : ℕ) where
 
 -- the table has no custom prompt, or they are tried
 module _ (t s : List ℕ) where
-  pub custom-none : (r : Found) → r ≡ findIn (bytes "CP") t 0 → r ≡ Nothing → true ≡ noCustom t s
+  pub custom-none : (b : Bool) → OnlyNotices t b → b ≡ true → true ≡ noCustom t s
   unfolding noCustom customPrompts
-  custom-none r p q = sym (ap (λ (l : List Entry). isNext (customPrompts l s 0)) (no-prompt-records t (λ j. found-none (bytes "CP") t 0 (sym p ∙ q) j (omega arith))))
+  custom-none b w q = sym (ap (λ (l : List Entry). isNext (customPrompts l s 0)) (rw q at w))
 
   pub custom-tried : (r v : Tried) → r ≡ customPrompts (entries mark.Prompt t 0 0) s 0 → r ≡ v → isNext v ≡ noCustom t s
   unfolding noCustom

@@ -3,6 +3,7 @@
 ghost use mathlib.Core.Path.{_≡_};
 ghost use Rattle.lines.specs.Lines.{fixedText};
 ghost use Rattle.quiet.specs.Quiet.{counts, noFixed, unended, noNumber, noText, noLine, noCustom, noByte, still};
+ghost use Rattle.quiet.specs.Customs.{OnlyNotices};
 use findings::Findings;
 use items::Tried;
 use lines::Digester;
@@ -97,11 +98,32 @@ fn no_byte(s: &[u8], end: usize) -> bool
     (b != b'>') & (b != b'@')
 }
 
-// The bytes s end in no custom prompt. That a table has none is seen many places at a time: where `CP` stands nowhere, no record is one.
+// Are the table's records notices alone? Marks and lengths are read and no more, since it is asked at each byte.
+fn only_notices(table: &[u8]) -> bool
+    ensures { λ r. ⌜ OnlyNotices (now (table .entry)) r ⌝ }
+{
+    let mut at = 0;
+    while at < table.len() {
+        if table.len() - at < 3 {
+            return false;
+        }
+        if !text::matches_at(table, at, b"UR") {
+            return false;
+        }
+        let len = table[at + 2] as usize;
+        if table.len() - at - 3 < len {
+            return false;
+        }
+        at += 3 + len;
+    }
+    true
+}
+
+// The bytes s end in no custom prompt; a table of notices alone, as most are, has none.
 fn no_custom(table: &[u8], s: &[u8]) -> bool
     ensures { λ r. ⌜ r ≡ noCustom (now (table .entry)) (now (s .entry)) ⌝ }
 {
-    if let Found::Nothing = seek::find(table, 0, b"CP", 0, 1) {
+    if only_notices(table) {
         return true;
     }
     match items::custom_prompts(table, s, 0) {
