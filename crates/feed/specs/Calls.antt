@@ -18,10 +18,9 @@ use Rattle.selector.specs.declared.Selector.{Selector}
 use Rattle.quiet.specs.Quiet.{still}
 use Rattle.quiet.specs.Genuine.{still-answers}
 use Rattle.turn.specs.Turn.{World, held}
-use Rattle.ingress.specs.Ingress.{advanced, written}
 use Rattle.ingress.specs.Calls.{Call, write, fill, afterFill, advance, clear, takeOne, reset, afterTake, afterReset, leftBy, leftAfter}
 use Rattle.feed.specs.Feed.{Fed, advancedWith, writtenWith}
-use Rattle.feed.specs.Genuine.{Genuine, Right, advanced-genuine, written-genuine}
+use Rattle.feed.specs.Genuine.{Right, advanced-genuine, written-genuine}
 
 -- what a call leaves, and the findings beside it
 pub record Kept : Type 0 where

@@ -1,14 +1,14 @@
--- GENUINE findings, those of the very bytes held, make a call with findings the ingress's own call; and what it leaves them is genuine again, refused by 5 or not.
+-- Genuine findings, those of the very bytes held, make a call with findings the ingress's own call; and what it leaves them is genuine again, refused by 5 or not.
 use mathlib.Core.Path.{_≡_, refl, sym, ap, _∙_}
 use mathlib.Core.Logic.{⊎-elim}
 use mathlib.Core.Bool.{Bool, true, false}
-use mathlib.Core.List.{List, [], _∷_, _++_, append-nil, map}
+use mathlib.Core.List.{List, [], _∷_, _++_, map}
 use Prim.Native.Nat.{ℕ, _+_, _-_, _≤_, _<_, min}
 use native.Mathlib.Omega.{arith}
 use lib.ListN.{length, drop, length-append, length-drop}
-use lib.Seq.{length-take-le, take-length, ext-getD}
+use lib.Seq.{length-take-le, take-length}
 use lib.Dec.{eqb, leb, ltb}
-use borrow.Author.Tests.{eq-eqb, eqb-true, le-leb, lt-leb, le-ltb, leb-true, leb-false, ltb-false}
+use borrow.Author.Tests.{eq-eqb, eqb-true, le-leb, leb-true, leb-false, ltb-false}
 use Rattle.text.specs.Logic.{order, false-true, not-true-false}
 use Rattle.outcome.specs.Outcome.{Outcome, answered, refused, if_then_else_}
 use Rattle.outcome.specs.Laws.{ways}
@@ -24,7 +24,7 @@ use Rattle.turn.specs.Laws.{once-goes}
 use Rattle.turn.specs.Kept.{Good, idle-next, waits-full}
 use Rattle.ingress.specs.Ingress.{Result, done, refusedAt, run, judged, unlessRefused, committed, advanced, Writing, wrote, stopped, copied, afterCopy, writeOnce, thenWrite, writeOn, answering, written}
 use Rattle.ingress.specs.Laws.{passed, passes, run-empty, run-still, copy-none, write-step, write-refused}
-use Rattle.ingress.specs.Story.{Stretch, consumed, cameBy, wentBy, flat, Story, Arrives, committedBytes, Passed}
+use Rattle.ingress.specs.Story.{Stretch, consumed, cameBy, wentBy, flat, Story, Arrives, committedBytes}
 use Rattle.ingress.specs.Kept.{story-bytes, run-ends}
 use Rattle.ingress.specs.Conserved.{flat-turns, commit-good, commit-arrives, copy-good, copy-arrives}
 use Rattle.feed.specs.Feed.{Fed, fed, fitting, judgedWith, unless, renewed, turning, settled, advancedWith, afresh, took, writeIn, writtenWith}
@@ -184,7 +184,7 @@ module _ (c : Choice) (q : Findings → List ℕ → Bool) (right : Right c q) (
     in-found p true h = refl
     in-found p false h = piece-found p (ltb-false (length (w .buf) - w .state .end) (length p) h) (leb 1 (length p)) refl ∙ ap found (unfold written unlessRefused in rw (sym (passes c w d)))
 
-  -- THE THEOREM: with genuine findings an advance is the ingress's, and leaves those of what it leaves,
+  -- With genuine findings an advance is the ingress's, and leaves those of what it leaves,
   pub advanced-genuine : (n : ℕ) → advancedWith c q n m w ≡ found (advanced c n w)
   unfolding advancedWith advanced
   advanced-genuine n =

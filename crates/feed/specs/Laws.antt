@@ -2,7 +2,7 @@
 use mathlib.Core.Path.{_≡_, refl, sym, ap, _∙_}
 use mathlib.Core.Logic.{⊎-elim}
 use mathlib.Core.Bool.{Bool, true, false}
-use mathlib.Core.List.{List, [], _∷_}
+use mathlib.Core.List.{List, []}
 use Prim.Native.Nat.{ℕ, _+_, _-_, _≤_, _<_, min}
 use native.Mathlib.Omega.{arith}
 use lib.ListN.{length, take}
@@ -11,7 +11,7 @@ use lib.Dec.{eqb}
 use borrow.Author.Tests.{eq-eqb, ne-eqb, le-leb, lt-leb, le-ltb, lt-ltb}
 use Rattle.text.specs.Logic.{order}
 use Rattle.moves.specs.Moves.{put}
-use Rattle.outcome.specs.Outcome.{Outcome, answered, refused, if_then_else_}
+use Rattle.outcome.specs.Outcome.{Outcome, answered, refused}
 use Rattle.findings.specs.declared.Findings.{Findings}
 use Rattle.findings.specs.Findings.{findingsIn, numbersOf, findingsOf, extended}
 use Rattle.selector.specs.Selector.{Choice}
@@ -19,10 +19,9 @@ use Rattle.turn.specs.declared.State.{State}
 use Rattle.turn.specs.Turn.{withEnd, World, world, withState, held}
 use Rattle.turn.specs.Says.{held-is}
 use Rattle.ingress.specs.declared.Checks.{Checks}
-use Rattle.ingress.specs.declared.Checks.the-variants as judges
 use Rattle.ingress.specs.declared.Ran.{Ran}
 use Rattle.ingress.specs.declared.Written.{Written}
-use Rattle.ingress.specs.Ingress.{Result, done, refusedAt, run, runSays, ran, refusal, judged, committed, copied, written, writeSays, taking}
+use Rattle.ingress.specs.Ingress.{done, refusedAt, run, runSays, ran, refusal, judged, committed, written, writeSays, taking}
 use Rattle.ingress.specs.Laws.{passed}
 use Rattle.feed.specs.Feed.{Fed, fed, fitting, judgedWith, unless, renewed, turning, settled, advancedWith, afresh, took, writeIn, writtenWith}
 

@@ -17,7 +17,7 @@ use Rattle.findings.specs.declared.Findings.{Findings}
 unfoldable pub notLf : ℕ → Bool
 notLf b = not (eqb b 10)
 
--- GENUINE: the findings of these very bytes
+-- genuine: the findings of these very bytes
 unfoldable pub findingsOf : List ℕ → Findings
 findingsOf s =
     record {

@@ -125,7 +125,7 @@ extended-none s =
     let b = last-all notLf s in
     λ i. record { seen = (ap (λ (x : found.Findings). x .seen) e ∙ n) i; state = e i .state; ends = e i .ends; na = findingsOf s .na; last = a i; lf = b i }
 
--- THE THEOREM: the findings of s carried on over t are those of s·t
+-- The findings of s carried on over t are those of s·t
 pub extended-findings : (s t : List ℕ) → extended (findingsOf s) (s ++ t) ≡ findingsOf (s ++ t)
 extended-findings s t =
     ap (λ (f : Findings). extended f (s ++ t)) (sym (extended-none s))
