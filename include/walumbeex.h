@@ -119,7 +119,7 @@
  *
  * Work: a digest's grows with its input, and no faster: twice the input takes at most 2.2 times the instructions (docs/BENCHMARKS.md; at most some 1.2 million for
  * 4,096 bytes). An advance or write digests again all that is in the buffer, so that a stream handed over in pieces that finish nothing costs the square of its
- * length: 1,024 bytes one by one took 29 million instructions, and 4,096 took 448 million. By wx_feed_write they took 1.2 and 4.7 million: about a thousand for
+ * length: 1,024 bytes one by one took 29 million instructions, and 4,096 took 448 million. By wx_feed_write they took 1.2 and 4.9 million: about a thousand for
  * a byte that finishes nothing, however many lie before it, and a search by blocks of 16 bytes where no CRLF came yet, or with WX_CONNECT. It digests again all that is
  * in the buffer where the byte may finish something; with WX_NUMERIC; under a table that isn't empty, once a line has ended; and behind a line that is no error for its
  * code, such as +CME ERROR: 65536.
