@@ -1,12 +1,14 @@
 // What was heard, as the digester says it and the slot keeps it: a kind, a number, where its payload, its digits and its text stand, the bytes consumed.
 // An answer is made here, by one of six makers, and moved here; nobody else writes down what it consists of.
+#![tactic(auto)]
+
 ghost use Rattle.std.specs.Prelude.{◌≡◌};
 ghost use Rattle.answers.specs.Answer.{kind_number, has_number, numbered, stored, is_found, is_notice, is_numeric, placed, bare, nothing, made, with_number, with_digits, with_payload, with_text, carried, shift_within};
 
 use text::Span;
 
 // What was heard. Custom is a custom error; a custom success is an Ok.
-#[derive(Drop)]
+#[derive(Clone, Copy)]
 pub enum Kind {
     None,
     Ok,
@@ -26,7 +28,7 @@ pub enum Kind {
 
 // An answer: its kind, its number (0 where the kind has none), the bytes consumed; and, in the caller's input, the place and length of its payload, of a
 // numeric error's digits as they came (R-2), and of the text of a CONNECT line (R-3).
-#[derive(Drop)]
+#[derive(Clone, Copy)]
 pub struct Answer {
     pub kind: Kind,
     pub number: u32,

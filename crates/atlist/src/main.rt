@@ -1,5 +1,7 @@
 // atlist: reads standard input as a parameter list (R-4) and prints a line for each of its elements, or the refusal with its place marked under the payload.
 // It promises only that it doesn't trip. What a payload holds is `lists::read`'s promise; how it is shown is held to tests/atlist. bin/atlist makes the status.
+#![tactic(auto)]
+
 use libc::{STDIN_FILENO, STDOUT_FILENO};
 use lists::Listed;
 use pieces::{Element, Kind};

@@ -1,4 +1,6 @@
 // atread: digests standard input under the empty table and prints what was heard, as document 01 says. The work is `report::report`.
+#![tactic(auto)]
+
 use libc::{STDIN_FILENO, STDOUT_FILENO};
 use report::Reported;
 

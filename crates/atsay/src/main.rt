@@ -1,6 +1,8 @@
 // atsay: reads a script, an answer a line in atread's words, and writes what a modem would say (R-12) to standard output; or nothing, and to standard error
 // which line it is and why. Line 0 is bin/atsay's: blank, or the table of its options. The script is what follows.
 // It promises only that it doesn't trip. That an answer is read back so is `writer::say`'s promise; how a line is read is held to tests/atsay. bin/atsay makes the status.
+#![tactic(auto)]
+
 use answers::Kind;
 use data::Filled;
 use fields::{Amount, Memory};
@@ -19,7 +21,7 @@ const INPUT: usize = 70154;
 const ROOM: usize = 196608;
 
 // What is wrong with a line: it doesn't read, or it is refused.
-#[derive(Drop)]
+#[derive(Clone, Copy)]
 enum Fault {
     Word,
     Number,
@@ -35,7 +37,7 @@ enum Fault {
 }
 
 // Before the table, behind it, behind an answer.
-#[derive(Drop)]
+#[derive(Clone, Copy)]
 enum Stage {
     Begun,
     Tabled,
@@ -43,7 +45,7 @@ enum Stage {
 }
 
 // How far the script has come: the table's length, and how many bytes the answers have.
-#[derive(Drop)]
+#[derive(Clone, Copy)]
 struct Far {
     stage: Stage,
     table: usize,
@@ -51,21 +53,21 @@ struct Far {
 }
 
 // The script goes on behind a line, or the line is wrong.
-#[derive(Drop)]
+#[derive(Clone, Copy)]
 enum Taken {
     On(Far),
     Not(Fault),
 }
 
 // How many bytes all the answers have, or the number of the line that is wrong.
-#[derive(Drop)]
+#[derive(Clone, Copy)]
 enum Ended {
     Is(usize),
     Not(usize, Fault),
 }
 
 // A number, where the kind has one, and where the payload begins.
-#[derive(Drop)]
+#[derive(Clone, Copy)]
 enum Numbered {
     Is(Given, usize),
     Not,

@@ -1,5 +1,7 @@
 // Cases of the notation that are one call: a digest, the conversion of a queue (R-9), and the reading of a list (R-4); the notation is in crates/notation/src/lib.rt.
 // It is part of a harness and promises only that it doesn't trip; what it answers is held to a file of another origin (tests/model.py).
+#![tactic(auto)]
+
 use answers::Answer;
 use convert::Converted;
 use data::Filled;

@@ -4,7 +4,7 @@ use libc::STDIN_FILENO;
 use text::Blanks;
 
 // Where the reading stands: the bytes of the chunk from `from` up to `to` wait, and `len` bytes of a line are gathered.
-#[derive(Drop)]
+#[derive(Clone, Copy)]
 pub struct Input {
     pub from: usize,
     pub to: usize,

@@ -1,4 +1,6 @@
 // Answers the cases of standard input, one a line; the notation is in crates/notation/src/lib.rt.
+#![tactic(auto)]
+
 mod input;
 
 use fields::Memory;

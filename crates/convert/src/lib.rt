@@ -1,6 +1,8 @@
 // The conversion of R-9, for gateways that restart with records of the old form: a queue in that form is read, and written in the new form into other memory.
 // A record of the old form has 132 bytes: the mark UR, the table number, the payload's length and 128 bytes for the payload. Neither the old queue nor its memory
 // changes; refused, the new memory doesn't either. No offset is multiplied on the way round the ring: it is carried along.
+#![tactic(auto)]
+
 ghost use Rattle.std.specs.Prelude.{◌≡◌, true, ◌+◌, ◌*◌, ◌≤◌, length, get_or, ltb};
 ghost use Rattle.outcome.specs.Outcome.{if◌then◌else◌};
 ghost use Rattle.text.specs.Text.{part_of};
@@ -19,7 +21,7 @@ const OLD_LONGEST: usize = 128;
 const MOST: usize = 16;
 
 // The new queue, or refusal 3 (bounds, or a held record) or 13 (the new memory holds fewer records than are held).
-#[derive(Drop)]
+#[derive(Clone, Copy)]
 pub enum Converted {
     Is(Queue),
     Bad,

@@ -1,9 +1,11 @@
 // Bytes as a field of the notation has them: in hex, a byte many times as COUNT*HH, parts joined by `+`, and `-` for none.
 // It is part of a harness and promises only that it doesn't trip.
+#![tactic(auto)]
+
 use fields::{Amount, LENGTH, Memory};
 
 // How many bytes of a memory are filled, or that the text doesn't read or that they don't fit.
-#[derive(Drop)]
+#[derive(Clone, Copy)]
 pub enum Filled {
     Is(usize),
     Bad,
@@ -20,7 +22,7 @@ fn nibble(b: u8) -> u8 {
 }
 
 // A byte in hex, or what isn't one.
-#[derive(Drop)]
+#[derive(Clone, Copy)]
 enum Byte {
     Is(u8),
     Bad,

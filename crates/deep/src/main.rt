@@ -1,5 +1,7 @@
 // Digests 4,096 bytes of CRLF, on which the retry goes as deep as it can: 2,046 levels. No proof covers the stack,
 // so the tests run this under a limit of 1 MiB.
+#![tactic(auto)]
+
 use digest::Digested;
 use libc::STDOUT_FILENO;
 use lines::Digester;

@@ -1,5 +1,7 @@
 // The AT digester of atat 0.25.0 by document 01's rules: bytes from a modem go in, and what they were comes out.
 // `digest` is the public call: it checks for itself and refuses by number. Rules 1 to 5 stand in `level`; here are the retry and the refusals.
+#![tactic(auto)]
+
 ghost use Rattle.std.specs.Prelude.{◌≡◌, ◌≤◌, ◌+◌, length};
 ghost use Rattle.table.specs.Table.{tokens};
 ghost use Rattle.text.specs.Text.{part_of, part_at, further};
@@ -92,7 +94,7 @@ fn digest_in(digester: Digester, table: &[u8], s: &[u8]) -> Answer
 }
 
 // The answer of a digest, or the refusal: 1 for an input over 4,096 bytes, 2 with the first faulty record's number.
-#[derive(Drop)]
+#[derive(Clone, Copy)]
 pub enum Digested {
     Is(Answer),
     TooLong,

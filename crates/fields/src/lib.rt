@@ -1,5 +1,7 @@
 // What a line of the notation is made of: parts that stand apart by a byte, and numbers. The notation is in crates/notation/src/lib.rt.
 // It is part of a harness and promises only that it doesn't trip.
+#![tactic(auto)]
+
 
 // How long a memory of the harness is: one more than a line may be.
 pub const LENGTH: usize = 65536;
@@ -10,7 +12,7 @@ pub type Memory = [u8; LENGTH];
 pub const MOST: u32 = 4294967295;
 
 // A number, or what isn't one.
-#[derive(Drop)]
+#[derive(Clone, Copy)]
 pub enum Amount {
     Is(u32),
     Bad,

@@ -1,5 +1,7 @@
 // What the bytes of a buffer have to say about the fixed lines, kept beside the buffer and carried on as more come in (R-14): each byte is looked at once.
 // Every public function is total, for findings that nobody found too. Those that begin with `none` and are carried on over a buffer as it grows are what `start` finds in it.
+#![tactic(auto)]
+
 ghost use Rattle.std.specs.Prelude.{◌≡◌, []};
 ghost use Rattle.text.specs.Text.{is_blank};
 ghost use Rattle.findings.specs.Findings.{not_lf, na_from, na_end, last_end, findings_of, extended, findings_in, numbers_of};
@@ -9,7 +11,7 @@ use text::{Blanks, Found};
 
 // How many bytes these are about, the table's state after them, and where the first occurrence of each of the eleven texts ends;
 // where the first NA line ends, the last byte that is no run blank, and the last LF. An end is 0 for none.
-#[derive(Drop)]
+#[derive(Clone, Copy)]
 pub struct Findings {
     pub seen: usize,
     pub state: usize,

@@ -2,6 +2,8 @@
 // What a call answers stands at the front of a lent array of nine numbers, whose other numbers stay as they were.
 // Each export promises that it equals the call behind it; none has a condition on its arguments. It changes no number of the state but
 // those that the call gives another meaning.
+#![tactic(auto)]
+
 ghost use Rattle.std.specs.Prelude.{◌≡◌, get_or, take};
 ghost use Rattle.text.specs.Text.{part_at};
 ghost use Rattle.table.specs.Table.{ruling};

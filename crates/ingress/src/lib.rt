@@ -1,6 +1,8 @@
 // The blocking half of atat's ingress.rs by document 01: turns, one after the other, until nothing more is consumed.
 // The state is a struct by value beside lent slices; the buffer, the slot's memory and the queue's memory are the caller's.
 // It relies on the promises and laws below it, and opens none of their definitions. No public function has a `requires`.
+#![tactic(auto)]
+
 ghost use Rattle.std.specs.Prelude.{◌≡◌, ◌≤◌, length, take};
 ghost use Rattle.selector.specs.Selector.{choice};
 ghost use Rattle.turn.specs.Turn.{world};
@@ -12,7 +14,7 @@ use table::Checked;
 use turn::{State, Stepped};
 
 // How an advance ends: nothing more is consumed, or a notice met a full queue, with the state that is left.
-#[derive(Drop)]
+#[derive(Clone, Copy)]
 pub enum Ran {
     Is(State),
     Full(State),
@@ -62,7 +64,7 @@ fn is_sound(state: State, buf: usize, slot_mem: usize, queue_mem: usize) -> bool
 }
 
 // What the refusals 1, 2 and 3 say of the arguments.
-#[derive(Drop)]
+#[derive(Clone, Copy)]
 pub enum Checks {
     Good,
     TooLong,
@@ -94,7 +96,7 @@ pub fn judge(
 }
 
 // The state after an advance, or the refusal: 1 to 4 leave all as it stood, 5 with the state that is left.
-#[derive(Drop)]
+#[derive(Clone, Copy)]
 pub enum Advanced {
     Is(State),
     TooLong,
@@ -152,7 +154,7 @@ pub fn advance(
 }
 
 // How a copy, or a write, ends: the state that is left and the bytes taken; or with a notice that met a full queue.
-#[derive(Drop)]
+#[derive(Clone, Copy)]
 pub enum Wrote {
     Is(State, usize),
     Full(State, usize),
@@ -230,7 +232,7 @@ fn write_on(
 }
 
 // The state after a write and the bytes taken, or the refusal: 1 to 3 leave all as it stood, 5 with the state that is left and the bytes taken.
-#[derive(Drop)]
+#[derive(Clone, Copy)]
 pub enum Written {
     Is(State, usize),
     TooLong,

@@ -1,5 +1,7 @@
 // Texts put into lent memory one behind the other: as they stand, in decimal, in hexadecimal. Every byte is promised.
 // Each call takes the memory and where the text begins, and answers where it ends. Where it doesn't fit nothing changes, and it ends where it begins.
+#![tactic(auto)]
+
 ghost use Rattle.std.specs.Prelude.{◌≡◌, ◌≤◌, ◌<◌, length, drop};
 ghost use Rattle.ink.specs.Ink.{inked, ink, decimal, hex_digit, hex};
 

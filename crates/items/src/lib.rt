@@ -1,5 +1,7 @@
 // What rules 3 to 5 find in buf, each at its first place: custom lines and prompts, `>` and `@`, numeric errors.
 // Of the last five only the first occurrence counts: where that is no answer, one further on may be, on a level of the retry below; hints say what need not be looked for there again.
+#![tactic(auto)]
+
 ghost use Rattle.std.specs.Prelude.{◌≡◌, true, ◌<◌, ◌-◌, length};
 ghost use Rattle.table.specs.Table.{entries};
 ghost use Rattle.table.specs.declared.Mark.TheVariants as mark;
@@ -18,14 +20,14 @@ use table::{Mark, Next};
 use text::{Blanks, Found, Span};
 
 // What a rule gives: an answer, or the next rule's turn.
-#[derive(Drop)]
+#[derive(Clone, Copy)]
 pub enum Tried {
     Done(Answer),
     Next,
 }
 
 // The rules of which only the first occurrence counts.
-#[derive(Drop)]
+#[derive(Clone, Copy)]
 pub enum First {
     Greater,
     Sign,
@@ -35,7 +37,7 @@ pub enum First {
 }
 
 // What such a rule gives: an answer, or the hint for the levels below.
-#[derive(Drop)]
+#[derive(Clone, Copy)]
 pub enum Hinted {
     Done(Answer),
     Next(usize),
@@ -43,7 +45,7 @@ pub enum Hinted {
 
 // A hint for each of them. It is a number of bytes: from a place with at least so many bytes behind it the rule is known not to answer.
 // Counted from the input's end it means the same in every suffix, so that no level searches what one above has searched.
-#[derive(Drop)]
+#[derive(Clone, Copy)]
 pub struct Hints {
     pub greater: usize,
     pub sign: usize,
@@ -53,14 +55,14 @@ pub struct Hints {
 }
 
 // What rules give on a level: an answer, or where the level's buf begins and the hints for the level below.
-#[derive(Drop)]
+#[derive(Clone, Copy)]
 pub enum Level {
     Done(Answer),
     Next(usize, Hints),
 }
 
 // Where a custom line occurs: its record's number, its text's length and the place; or nowhere.
-#[derive(Drop)]
+#[derive(Clone, Copy)]
 pub enum Occurs {
     At(u32, usize, usize),
     Nothing,

@@ -1,4 +1,6 @@
 // Runs the fifteen known examples of document 01 through the digester and prints each answer as 01's table has it.
+#![tactic(auto)]
+
 use answers::{Answer, Kind};
 use digest::Digested;
 use libc::STDOUT_FILENO;

@@ -1,5 +1,7 @@
 // Rules 1 to 5 on a level of the retry: the places of the fixed texts, and a decision on them in document 01's order.
 // A level below the outermost one can answer a notice, one of the five items with hints, or NA, and looks for nothing else.
+#![tactic(auto)]
+
 ghost use Rattle.std.specs.Prelude.{◌≡◌, [], ◌≤◌, ◌+◌, length};
 ghost use Rattle.table.specs.Table.{entries};
 ghost use Rattle.table.specs.declared.Mark.TheVariants as mark;
@@ -21,14 +23,14 @@ use table::{Mark, Next};
 use text::{Found, Span};
 
 // What rule 3 gives: an answer, or, where no OK line stands in buf, the first places of what ranks behind it.
-#[derive(Drop)]
+#[derive(Clone, Copy)]
 pub enum Succeeded {
     Done(Answer),
     Next(Lines, Places),
 }
 
 // What the notices give: an answer, or whether the table may have other records than notices.
-#[derive(Drop)]
+#[derive(Clone, Copy)]
 pub enum Noticed {
     Done(Answer),
     Next(bool),

@@ -1,5 +1,7 @@
 // The fixed texts: the nine lines and the heads of rules 3 and 5 as byte strings, compared as they stand at a position of the buffer; and the digesters, by the lines that they hear.
 // Every function is total: at a place past the end none of them stands.
+#![tactic(auto)]
+
 ghost use Rattle.std.specs.Prelude.{◌≡◌, length};
 ghost use Rattle.text.specs.Text.{stands, find_in};
 ghost use Rattle.lines.specs.Lines.{hears_text, crlf, fixed_text};
@@ -38,7 +40,7 @@ const MODEM_ERROR: [u8; 14] = *b"\r\nMODEM ERROR:";
 const CONNECT_TEXT: [u8; 10] = *b"\r\nCONNECT ";
 
 // Which digester a caller chooses: document 01's, or one that hears the text of a CONNECT line too (R-3).
-#[derive(Drop)]
+#[derive(Clone, Copy)]
 pub enum Digester {
     Verbose,
     Connect,
@@ -55,7 +57,7 @@ pub fn hears_text(digester: Digester) -> bool
 }
 
 // The thirteen fixed texts: the nine lines, the heads of the three numeric errors, and that of CONNECT with text.
-#[derive(Drop)]
+#[derive(Clone, Copy)]
 pub enum Fixed {
     Ok,
     Connect,

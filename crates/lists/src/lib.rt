@@ -1,6 +1,8 @@
 // The reader of parameter lists with brackets (R-4): the payload of an answer behind its colon, by the grammar of docs/LISTS.md.
 // A list reader and an element reader call each other; with each call the bytes that are left fall, and within a bracket the depth that is left. Each judges all
 // that stands at its place before anything behind it is looked at, so the first fault that is met is the leftmost.
+#![tactic(auto)]
+
 ghost use Rattle.std.specs.Prelude.{◌≡◌, true, [], ◌∷◌, ◌≤◌, ◌<◌, length, drop, get_or};
 ghost use Rattle.parser.specs.Parser.{is_digit};
 ghost use Rattle.lists.specs.Grammar.{body, element, list, made, Reading};
@@ -14,21 +16,21 @@ use text::Blanks;
 const DEEPEST: usize = 4;
 
 // What a payload is: so many elements, or a refusal by its number, with its place.
-#[derive(Drop)]
+#[derive(Clone, Copy)]
 pub enum Listed {
     Elements(usize),
     Refused(u32, usize),
 }
 
 // A body without a list in it: the element that it is, or a refusal.
-#[derive(Drop)]
+#[derive(Clone, Copy)]
 enum Plain {
     Is(Element),
     Refused(u32, usize),
 }
 
 // How far a reader came, and with how many elements begun; or a refusal.
-#[derive(Drop)]
+#[derive(Clone, Copy)]
 enum Step {
     Next(usize, usize),
     Refused(u32, usize),

@@ -1,5 +1,7 @@
 // What the slot, the queue and the ingress have in common: bytes put into lent memory and moved within it, and a count that stays at its largest.
 // Every function is total: what doesn't fit changes nothing.
+#![tactic(auto)]
+
 ghost use Rattle.std.specs.Prelude.{◌≡◌};
 ghost use Rattle.moves.specs.Moves.{put, moved, one_more};
 

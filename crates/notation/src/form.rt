@@ -4,7 +4,7 @@ use lines::Digester;
 use selector::Selector;
 
 // The digester that the first field chooses (R-1, R-3), and where the fields behind that word begin; without a word it is document 01's, and all fields count.
-#[derive(Drop)]
+#[derive(Clone, Copy)]
 pub struct Chosen {
     pub selector: Selector,
     pub from: usize,
@@ -43,7 +43,7 @@ pub fn first_word(line: &[u8]) -> Chosen {
 }
 
 // A written state. The slot holds an Ok.
-#[derive(Drop)]
+#[derive(Clone, Copy)]
 pub struct Start {
     pub end: usize,
     pub signalled: bool,
@@ -56,7 +56,7 @@ pub struct Start {
 }
 
 // The forms: a digest case, and an ingress case from nothing or from a written state.
-#[derive(Drop)]
+#[derive(Clone, Copy)]
 pub enum Form {
     Digest,
     Fresh,
@@ -116,7 +116,7 @@ fn queue_started(s: &[u8], end: usize, signalled: bool, len: usize, slot_lost: u
 }
 
 // A written queue in the old form (R-9), or what isn't one.
-#[derive(Drop)]
+#[derive(Clone, Copy)]
 pub enum Conversion {
     Of(usize, usize, u32),
     Bad,

@@ -32,5 +32,7 @@
 // KIND is one of empty number range string list; END is one past the last byte, of an empty element its PLACE.
 // An answer to be written answers `said LENGTH memory HEX`, how many bytes it has and all of the output memory then, or `refused 2 RECORD`, `refused 16`, `refused 17`.
 // What doesn't read in this notation, or is over a limit, is answered `bad line`, and nothing of the line is done.
+#![tactic(auto)]
+
 pub mod form;
 pub mod op;

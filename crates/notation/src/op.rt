@@ -4,7 +4,7 @@ use data::Filled;
 use fields::{Amount, Memory};
 
 // An op. Its last number is how many bytes it has; they were read into the piece's memory.
-#[derive(Drop)]
+#[derive(Clone, Copy)]
 pub enum Op {
     Write(usize),
     Advance(usize, usize),

@@ -1,6 +1,8 @@
 // What each number of a lent array means: the state as ten numbers, the digester's answer as nine, and a digester by its number.
 // Any ten numbers are a state, and a state that is written reads back as it was. A number that reads already as it is to read stays
 // as it stood, in plain form or not: so a call changes no number but those that it gives another meaning.
+#![tactic(auto)]
+
 ghost use Rattle.std.specs.Prelude.{◌≡◌, ◌<◌, get_or};
 ghost use Rattle.outcome.specs.Outcome.{if◌then◌else◌};
 ghost use Rattle.numbers.specs.Numbers.{selector_of, kind_of, word, held_number, held_of, answer_of, slot_of, queue_of, state_of, kept, with_slot, with_queue, with_state, laid, answer_values};

@@ -2,6 +2,8 @@
 // The work grows with the input's length and no faster: one walk from line start to line start looks at each byte once for a CR, at three bytes of each line start
 // and at two of each line's end; the blanks at the two ends of an Ok's payload are looked at once more.
 // No public function has a `requires`.
+#![tactic(auto)]
+
 ghost use Rattle.std.specs.Prelude.{◌≡◌, ◌&&◌, ◌≤◌, ◌<◌, ◌+◌, length, get_or};
 ghost use Rattle.text.specs.Text.{past};
 ghost use Rattle.numeric.specs.Numeric.{lone_cr, kind_of, is_listed, leftmost, behind, along, said, digest_unchecked, digest, outcome};
@@ -83,7 +85,7 @@ fn next_cr(s: &[u8], from: usize) -> usize
 }
 
 // A line start, and where what stands before it begins: behind the last lone CR, or at the first byte.
-#[derive(Drop)]
+#[derive(Clone, Copy)]
 pub struct Line {
     pub start: usize,
     pub from: usize,
@@ -109,7 +111,7 @@ fn line_behind(s: &[u8], cr: usize, from: usize) -> Line
 }
 
 // What the walk comes to: a code at a line start, or none.
-#[derive(Drop)]
+#[derive(Clone, Copy)]
 pub enum Code {
     At(usize, usize),
     Nothing,
@@ -172,7 +174,7 @@ pub fn digest_unchecked(input: &[u8]) -> Answer
 }
 
 // The answer of a digest, or the refusal: 1 for an input over 4,096 bytes, 2 with record number 0 for a table that isn't empty.
-#[derive(Drop)]
+#[derive(Clone, Copy)]
 pub enum Digested {
     Is(Answer),
     TooLong,

@@ -1,4 +1,6 @@
 // An op of a script, done through the public calls, and its answer said. It is part of a harness and promises only that it doesn't trip.
+#![tactic(auto)]
+
 use answers::Kind;
 use fields::Memory;
 use findings::NUMBERS;
@@ -10,7 +12,7 @@ use slot::{Held, Looked, Reset, Slot, Turned};
 use turn::State;
 
 // What an op answered. Full is refusal 5 of a write, with the bytes taken.
-#[derive(Drop)]
+#[derive(Clone, Copy)]
 enum Answered {
     Took(usize),
     Advanced,
@@ -24,7 +26,7 @@ enum Answered {
 }
 
 // What an op answered, and the state that it left.
-#[derive(Drop)]
+#[derive(Clone, Copy)]
 struct Left {
     state: State,
     outcome: Answered,
@@ -293,7 +295,7 @@ fn say_outcome(
 }
 
 // The state after an op, how much of the answers' memory is used, and whether an op with findings was among those done.
-#[derive(Drop)]
+#[derive(Clone, Copy)]
 pub struct Said {
     pub state: State,
     pub at: usize,

@@ -1,6 +1,8 @@
 // What may stand at a place of the buffer, one function for each form: the numeric errors, the prompts, the custom lines and the notices.
 // They answer by places what atat's `parser` module reads with nom; the order in which the forms are tried is the digester's.
 // Every function is total: a place past the end holds nothing, and an empty text has a stated answer.
+#![tactic(auto)]
+
 ghost use Rattle.std.specs.Prelude.{◌≡◌, [], ◌∷◌, ◌+◌, ◌*◌, ◌≤◌};
 ghost use Rattle.text.specs.Text.{stands, find_in};
 ghost use Rattle.lines.specs.Lines.{fixed_text};
@@ -47,7 +49,7 @@ fn appended(code: u32, twice: u32, digit: u32) -> u32
 }
 
 // A run of digits: its value and its end, or that it is over 65,535.
-#[derive(Drop)]
+#[derive(Clone, Copy)]
 pub enum Run {
     Value(u32, usize),
     TooLarge,
@@ -78,7 +80,7 @@ fn digits_at(buf: &[u8], from: usize) -> Run
 }
 
 // A numeric error: its code, where its digits start and stop, and where it ends.
-#[derive(Drop)]
+#[derive(Clone, Copy)]
 pub struct Digits {
     pub code: u32,
     pub start: usize,
@@ -86,7 +88,7 @@ pub struct Digits {
     pub end: usize,
 }
 
-#[derive(Drop)]
+#[derive(Clone, Copy)]
 pub enum Numeric {
     Is(Digits),
     Nothing,
@@ -171,7 +173,7 @@ pub fn find_custom(buf: &[u8], from: usize, x: &[u8]) -> Found
 }
 
 // A notice of rule 2: matched with its end, unfinished, or no match.
-#[derive(Drop)]
+#[derive(Clone, Copy)]
 pub enum Notice {
     Ended(usize),
     Unfinished,

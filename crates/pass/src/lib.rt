@@ -1,5 +1,7 @@
 // One pass over buf for the fixed texts that may stand anywhere in it (R-6): the first OK line, which ranks before the others, or where the others first stand.
 // A place where none of them may begin is passed over, many at a time; only where more than one may begin is the table of `scan` laid out.
+#![tactic(auto)]
+
 ghost use Rattle.std.specs.Prelude.{◌≡◌, ◌≤◌, ◌+◌, length};
 ghost use Rattle.seek.specs.Seek.{any_of};
 ghost use Rattle.pass.specs.Pass.{lines_at, heads_at, passed};
@@ -10,7 +12,7 @@ use places::{Lines, Places};
 use text::Found;
 
 // What a pass finds: the first OK line, or, where there is none, the others.
-#[derive(Drop)]
+#[derive(Clone, Copy)]
 pub enum Passed {
     Ok(usize),
     Others(Lines, Places),

@@ -1,6 +1,8 @@
 // What a parameter list (R-4, docs/LISTS.md) is made of: the digits of a number, the bytes of a string; and an element as six numbers
 // of lent memory, in which a reader leaves it and a caller finds it.
 // Every public function is total: none has a `requires`, and a place past the end has a stated answer.
+#![tactic(auto)]
+
 ghost use Rattle.std.specs.Prelude.{◌≡◌, ◌≤◌, ◌+◌, ◌*◌, drop};
 ghost use Rattle.std.proofs.lemmas.List.Edits.{sets};
 ghost use Rattle.pieces.specs.Pieces.{is_hex, is_char, heard, string_end, number_at, kind_number, kind_of, numbers_of, element_at};
@@ -48,7 +50,7 @@ fn is_char(b: u8) -> bool
 }
 
 // What a byte within a string does: it leaves so many hexadecimal digits owed, it closes the string, or it can't stand there.
-#[derive(Drop)]
+#[derive(Clone, Copy)]
 pub enum Heard {
     Owes(usize),
     Closes,
@@ -78,7 +80,7 @@ fn hear(owed: usize, b: u8) -> Heard
 }
 
 // How a string goes on behind its first quote: it is closed, and ends there, or it can't go on at a place.
-#[derive(Drop)]
+#[derive(Clone, Copy)]
 pub enum Ended {
     At(usize),
     Broken(usize),
@@ -107,7 +109,7 @@ pub fn string_end(s: &[u8], from: usize) -> Ended
 }
 
 // A number's value and its end, or that it is over 4,294,967,295.
-#[derive(Drop)]
+#[derive(Clone, Copy)]
 pub enum Digits {
     Value(u64, usize),
     TooLarge,
@@ -151,7 +153,7 @@ pub fn number_at(s: &[u8], from: usize) -> Digits
 }
 
 // What an element is.
-#[derive(Drop)]
+#[derive(Clone, Copy)]
 pub enum Kind {
     Empty,
     Number,
@@ -162,7 +164,7 @@ pub enum Kind {
 
 // An element: its first byte behind its spaces, one past its last byte (of an empty one the byte that ends it, twice), its kind, within how many brackets
 // it stands, and the values of a range; of a number both are its value, of any other element 0.
-#[derive(Drop)]
+#[derive(Clone, Copy)]
 pub struct Element {
     pub place: usize,
     pub end: usize,

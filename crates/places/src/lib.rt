@@ -1,6 +1,8 @@
 // The first places of the fixed texts that may stand anywhere in buf (all but NA, which stands at its head only): all that rules 3 and 5 ask of them.
 // Whoever found them, a place is asked for here, and whoever asks relies on `FirstLines` and `FirstPlaces` alone. Of a level of the retry only the heads are asked for, and seldom:
 // there each is sought when it is asked for.
+#![tactic(auto)]
+
 ghost use Rattle.std.specs.Prelude.{◌≡◌};
 ghost use Rattle.lines.specs.Lines.{fixed_text, earlier, connect_place};
 ghost use Rattle.places.specs.Places.{is_line, line_end, is_head, head_end, place_of, place_in, line_in, unsought};
@@ -9,7 +11,7 @@ use lines::{Digester, Fixed};
 use text::Found;
 
 // Where the first occurrence of each line but OK ends, 0 for none.
-#[derive(Drop)]
+#[derive(Clone, Copy)]
 pub struct Lines {
     pub connect: usize,
     pub error: usize,
@@ -21,7 +23,7 @@ pub struct Lines {
 }
 
 // The first places of the heads: from where they are sought, whether the pass found them, and if so where the first occurrence of each ends, 0 for none.
-#[derive(Drop)]
+#[derive(Clone, Copy)]
 pub struct Places {
     pub from: usize,
     pub passed: bool,

@@ -2,6 +2,8 @@
 // A record is the mark UX, the table number, the payload's length in two bytes, high byte first, and 1,024 bytes for the payload, of which those not used stay
 // as they were.
 // The queue is a struct by value beside the memory; a refusal changes neither.
+#![tactic(auto)]
+
 ghost use Rattle.std.specs.Prelude.{◌≡◌, ◌+◌, ◌≤◌, ◌<◌, length};
 ghost use Rattle.queue.specs.Queue.{ours, capacity_of, start_in, in_bounds, ring_place, new_queue, lost_one, after, recorded, put_into, outcome, length_at, taken, taking};
 
@@ -15,7 +17,7 @@ const LONGEST: usize = 1024;
 const MOST: usize = 16;
 
 // The ring: where it starts, how many records it holds, and how many notices were lost.
-#[derive(Drop)]
+#[derive(Clone, Copy)]
 pub struct Queue {
     pub start: usize,
     pub count: usize,
@@ -23,7 +25,7 @@ pub struct Queue {
 }
 
 // A taken notice: its table number, and where its payload lies in the queue's memory.
-#[derive(Drop)]
+#[derive(Clone, Copy)]
 pub struct Notice {
     pub number: u8,
     pub place: usize,
@@ -31,7 +33,7 @@ pub struct Notice {
 }
 
 // The next queue, or refusal 3 (bounds) or 5 (full).
-#[derive(Drop)]
+#[derive(Clone, Copy)]
 pub enum Put {
     Is(Queue),
     BadBounds,
@@ -39,7 +41,7 @@ pub enum Put {
 }
 
 // The next queue with the notice, an empty queue as it stood, or refusal 3.
-#[derive(Drop)]
+#[derive(Clone, Copy)]
 pub enum Taken {
     Is(Queue, Notice),
     Nothing(Queue),

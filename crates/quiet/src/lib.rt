@@ -1,5 +1,7 @@
 // R-14: what tells from the findings so far, and few of the bytes, that a digest of a buffer would find nothing and consume nothing.
 // The findings may be anyone's: a text that they say was found counts only where it stands. Every function is total: no public function has a `requires`.
+#![tactic(auto)]
+
 ghost use Rattle.std.specs.Prelude.{◌≡◌};
 ghost use Rattle.lines.specs.Lines.{fixed_text};
 ghost use Rattle.quiet.specs.Quiet.{counts, no_fixed, unended, no_number, no_text, no_line, no_custom, no_byte, still};

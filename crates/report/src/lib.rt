@@ -1,5 +1,7 @@
 // What atread prints of an input, by document 01: a line for each item that the digester finds under the empty table.
 // The text is put into lent memory, and every byte of it is promised.
+#![tactic(auto)]
+
 ghost use Rattle.std.specs.Prelude.{◌≡◌, ◌≤◌, ◌+◌, ◌*◌, length};
 ghost use Rattle.answers.specs.Answer.{numbered, carried};
 ghost use Rattle.ink.specs.Ink.{inked, ink};
@@ -92,7 +94,7 @@ fn line(out: &mut [u8], at: usize, s: &[u8], a: Answer) -> usize
 }
 
 // Where the lines end, and the bytes left.
-#[derive(Drop)]
+#[derive(Clone, Copy)]
 pub struct Drawn {
     pub at: usize,
     pub left: usize,
@@ -123,7 +125,7 @@ fn draw(out: &mut [u8], from: usize, s: &[u8]) -> Drawn
 pub const ROOM: usize = 229376;
 
 // How many bytes a report takes, or that the memory is shorter than ROOM.
-#[derive(Drop)]
+#[derive(Clone, Copy)]
 pub enum Reported {
     Is(usize),
     Short,

@@ -1,5 +1,7 @@
 // What the harness says: bytes gathered in a memory, and written to standard output when it is full.
 // Each function takes the memory and how much of it is used, and answers how much is used then. It is part of a harness and promises only that it doesn't trip.
+#![tactic(auto)]
+
 use answers::Kind;
 use fields::{LENGTH, Memory};
 use libc::STDOUT_FILENO;

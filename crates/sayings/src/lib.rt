@@ -1,5 +1,7 @@
 // The case `say` of the notation (R-12), which is one call: its fields are read, the answer is written, and what came of it said; the notation is in
 // crates/notation/src/lib.rt. It is part of a harness and promises only that it doesn't trip; what it answers is held to a file of another origin (tests/model.py).
+#![tactic(auto)]
+
 use answers::Kind;
 use data::Filled;
 use fields::{Amount, LENGTH, Memory};
@@ -7,7 +9,7 @@ use words::Named;
 use writer::{Given, Said};
 
 // The kind and the number of a line, or what isn't one.
-#[derive(Drop)]
+#[derive(Clone, Copy)]
 enum Asked {
     For(Kind, Given),
     Bad,

@@ -1,5 +1,7 @@
 // One pass over the bytes for the eight fixed lines that may stand anywhere and the three numeric heads: where each first ends.
 // It goes by a table: a state stands for the longest beginning of any of these texts, still open, in which the bytes so far end.
+#![tactic(auto)]
+
 ghost use Rattle.std.specs.Prelude.{◌≡◌, ◌≤◌, ◌<◌, length, drop};
 ghost use Rattle.scan.specs.Table.{table, class_of, next, finished};
 ghost use Rattle.scan.specs.Scan.{noted, run, state_of, extended, scanned, first_ends, Ahead};
@@ -232,7 +234,7 @@ fn finish(q: usize, b: u8) -> usize
 }
 
 // How many bytes were looked at, those before the first counted too, the state after them, and where each text first ends, 0 for nowhere.
-#[derive(Drop)]
+#[derive(Clone, Copy)]
 pub struct Findings {
     pub seen: usize,
     pub state: usize,

@@ -1,6 +1,8 @@
 // A case of the notation that is a script: a line's fields made into memories, the calls made over them, and what they answered; cases of one call are in `cases`
 // and `sayings`, the notation in crates/notation/src/lib.rt.
 // It is part of a harness and promises only that it doesn't trip; what it answers is held to a file of another origin (tests/model.py).
+#![tactic(auto)]
+
 use answers::Kind;
 use data::Filled;
 use fields::Memory;
@@ -160,7 +162,7 @@ fn cut_script(
 }
 
 // How much of the four memories a case uses.
-#[derive(Drop)]
+#[derive(Clone, Copy)]
 struct Lengths {
     table: usize,
     buf: usize,
@@ -169,7 +171,7 @@ struct Lengths {
 }
 
 // The lengths, or that a field doesn't read.
-#[derive(Drop)]
+#[derive(Clone, Copy)]
 enum Loaded {
     Is(Lengths),
     Bad,
@@ -272,7 +274,7 @@ fn state_of(x: Start) -> State {
 }
 
 // What a line asks for: a digest, or a script from a state, its memories' fields from a field on.
-#[derive(Drop)]
+#[derive(Clone, Copy)]
 enum Case {
     Digest,
     Script(usize, State),

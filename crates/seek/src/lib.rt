@@ -1,6 +1,8 @@
 // The search of `text` and its skip over spaces for long inputs, a block of places at a time, behind the same contracts.
 // A text is looked for by two of its bytes, those at k and l in it. The caller picks two that ordinary traffic seldom has so far apart:
 // they change what a search costs, and nothing else.
+#![tactic(auto)]
+
 ghost use Rattle.std.specs.Prelude.{◌≡◌, false, [], ◌∷◌, ◌≤◌, ◌<◌, ◌+◌, min, length};
 ghost use Rattle.text.specs.Bytes.{bytes};
 ghost use Rattle.text.specs.Text.{is_blank, past, stands, find_in};

@@ -1,5 +1,7 @@
 // Which digester a caller chooses (R-1, R-3), and the calls that every digester has, under one promise each: a table checked, an input digested.
 // Those above know of a digester what `Choice` says, and no more. No public function has a `requires`.
+#![tactic(auto)]
+
 ghost use Rattle.std.specs.Prelude.{◌≡◌};
 ghost use Rattle.table.specs.Table as tables;
 ghost use Rattle.digest.specs.Digest as digests;
@@ -13,7 +15,7 @@ use lines::Digester;
 use table::Checked;
 
 // The digesters: one of document 01's lines, which hears the text of a CONNECT line or doesn't (R-3); the one for modems in V0 (R-1).
-#[derive(Drop)]
+#[derive(Clone, Copy)]
 pub enum Selector {
     Verbal(Digester),
     Numeric,

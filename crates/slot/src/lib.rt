@@ -2,6 +2,8 @@
 // is to answer (R-11).
 // The slot is a struct by value beside lent memory; each call takes the slot and hands the next slot back, or refuses with 3
 // where the stored length is past the memory, a reset with 15 where the serial number is the one in force; refused, neither slot nor memory has changed.
+#![tactic(auto)]
+
 ghost use Rattle.std.specs.Prelude.{◌≡◌};
 ghost use Rattle.text.specs.Text.{part_of, part_at, further};
 ghost use Rattle.slot.specs.Slot.{is_response, carries, new_slot, lost_one, filled, overflowing, after, signalled, outcome, was_reset, resetting, was_read, reading, readable};
@@ -9,14 +11,14 @@ ghost use Rattle.slot.specs.Slot.{is_response, carries, new_slot, lost_one, fill
 use answers::{Answer, Kind};
 
 // What is stored: an answer's kind, or that its payload was longer than the memory (CapacityError; not for digits, R-2).
-#[derive(Drop)]
+#[derive(Clone, Copy)]
 pub enum Held {
     Heard(Kind),
     Capacity,
 }
 
 // `serial` is the number in force (R-11), and so the one that a stored answer bears: only a reset changes it, and a reset frees.
-#[derive(Drop)]
+#[derive(Clone, Copy)]
 pub struct Slot {
     pub signalled: bool,
     pub held: Held,
@@ -27,14 +29,14 @@ pub struct Slot {
 }
 
 // What a signal leaves: the next slot, or refusal 3.
-#[derive(Drop)]
+#[derive(Clone, Copy)]
 pub enum Turned {
     Is(Slot),
     BadLength,
 }
 
 // The slot freed, under its next serial number, or refusal 3, or 15 (R-11).
-#[derive(Drop)]
+#[derive(Clone, Copy)]
 pub enum Reset {
     Is(Slot),
     BadLength,
@@ -42,7 +44,7 @@ pub enum Reset {
 }
 
 // A look at the slot: it is signalled, it is free and answers nothing, or refusal 3. Looking changes nothing.
-#[derive(Drop)]
+#[derive(Clone, Copy)]
 pub enum Looked {
     Signalled(Slot),
     Nothing(Slot),

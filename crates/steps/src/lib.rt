@@ -1,5 +1,7 @@
 // The steps of an input that is digested to its end by document 01's digester, until 0 is consumed or nothing is left: each begins where the one before it ended.
 // The caller holds the place and asks for the step that begins there. The table isn't asked about, as in `digest_unchecked`.
+#![tactic(auto)]
+
 ghost use Rattle.std.specs.Prelude.{◌≡◌};
 ghost use Rattle.steps.specs.Steps.{steps_from, first_of};
 
@@ -7,14 +9,14 @@ use answers::Answer;
 use lines::Digester;
 
 // Where a digest began, and what it answered of the bytes from there on.
-#[derive(Drop)]
+#[derive(Clone, Copy)]
 pub struct Step {
     pub from: usize,
     pub answer: Answer,
 }
 
 // A step, or the end of them.
-#[derive(Drop)]
+#[derive(Clone, Copy)]
 pub enum Stepped {
     Is(Step),
     End,

@@ -1,11 +1,13 @@
 // The token table of document 01 as it lies in memory: what atat's user hands over as a Parser and three functions is a slice of records here.
 // A record is a two-byte mark, for CP one prompt byte, a length byte and the text. It is known by its number, from 0.
 // Every public function is total. `check` alone judges a table; `next_of` takes the records as they lie, up to the first that can't be read.
+#![tactic(auto)]
+
 ghost use Rattle.std.specs.Prelude.{◌≡◌, ◌+◌, ◌*◌, ◌≤◌, length, take, drop};
 ghost use Rattle.table.specs.Table.{all_plain, is_text, text_at, prompt_at, record_at, good_at, ruling, outcome, mark_number, same_mark, next_of};
 
 // What a record stands for: UR, CS, CE, CP.
-#[derive(Drop)]
+#[derive(Clone, Copy)]
 pub enum Mark {
     Notice,
     Success,
@@ -14,7 +16,7 @@ pub enum Mark {
 }
 
 // A record: its mark, its prompt byte (0 for any mark but CP), and where its text lies in the table.
-#[derive(Drop)]
+#[derive(Clone, Copy)]
 pub struct Record {
     pub mark: Mark,
     pub prompt: u8,
@@ -23,7 +25,7 @@ pub struct Record {
 }
 
 // What reading at a place finds: a record, one that can't be read, or the table's end.
-#[derive(Drop)]
+#[derive(Clone, Copy)]
 enum Read {
     Is(Record),
     Faulty,
@@ -31,7 +33,7 @@ enum Read {
 }
 
 // A good table with its number of records, or refusal 2 with the first faulty record's number.
-#[derive(Drop)]
+#[derive(Clone, Copy)]
 pub enum Checked {
     Good(usize),
     Faulty(usize),
@@ -226,7 +228,7 @@ fn mark_number(m: Mark) -> u8
 }
 
 // The next record with a mark: the record and its number, or none.
-#[derive(Drop)]
+#[derive(Clone, Copy)]
 pub enum Next {
     Is(Record, usize),
     Nothing,

@@ -1,11 +1,13 @@
 // Blanks, trimming and searching: the leaves of the digester.
 // They answer as the slice methods that atat's digest.rs leans on (trim_ascii, nom's multispace0 and take_until), by places in the caller's bytes.
 // Every public function is total: none has a `requires`, and a place past the end has a stated answer.
+#![tactic(auto)]
+
 ghost use Rattle.std.specs.Prelude.{◌≡◌, ◌≤◌, ◌+◌, min, length, get_or, eqb};
 ghost use Rattle.text.specs.Text.{is_blank, past, keep, trimmed, trimmed_part, stands, find_in, part_of, part_at, further};
 
 // Which bytes count as blank: the space alone, document 01's run blanks, or its trim blanks.
-#[derive(Drop)]
+#[derive(Clone, Copy)]
 pub enum Blanks {
     Space,
     Run,
@@ -13,14 +15,14 @@ pub enum Blanks {
 }
 
 // Where a search ended: at a place, or with nothing found.
-#[derive(Drop)]
+#[derive(Clone, Copy)]
 pub enum Found {
     At(usize),
     Nothing,
 }
 
 // A part of a slice, by where it starts and how long it is.
-#[derive(Drop)]
+#[derive(Clone, Copy)]
 pub struct Span {
     pub start: usize,
     pub len: usize,

@@ -1,6 +1,8 @@
 // One turn of the ingress by document 01: digest what is in the buffer, deliver, move the rest to the front.
 // The state is a struct by value beside lent slices; the buffer, the slot's memory and the queue's memory are the caller's.
 // It relies on the promises and laws of digester, slot and queue, and opens none of their definitions. No public function has a `requires`.
+#![tactic(auto)]
+
 ghost use Rattle.std.specs.Prelude.{◌≡◌, true, ◌<◌};
 ghost use Rattle.answers.specs.Answer.{is_notice};
 ghost use Rattle.selector.specs.Selector.{choice};
@@ -12,7 +14,7 @@ use selector::Selector;
 use slot::{Slot, Turned};
 
 // Where the bytes in the buffer end, and the slot and the queue beside it.
-#[derive(Drop)]
+#[derive(Clone, Copy)]
 pub struct State {
     pub end: usize,
     pub slot: Slot,
@@ -59,7 +61,7 @@ impl State {
 }
 
 // What a delivery leaves, or that it must wait: the queue is full.
-#[derive(Drop)]
+#[derive(Clone, Copy)]
 pub enum Delivered {
     Is(State),
     Waits,
@@ -93,7 +95,7 @@ fn deliver(
 }
 
 // One turn: the next state and the bytes consumed, or that its notice must wait.
-#[derive(Drop)]
+#[derive(Clone, Copy)]
 pub enum Stepped {
     Is(State, usize),
     Full,

@@ -1,5 +1,7 @@
 // An answer's words as people write them, read: the names of the kinds, a number, a payload in hex or as a text in quotes. The program atsay and the notation's case
 // `say` (R-12) read by it. It promises only that it doesn't trip; what they make of it is held to stored files.
+#![tactic(auto)]
+
 ghost use Rattle.std.specs.Prelude.{◌≤◌};
 
 use answers::Kind;
@@ -7,14 +9,14 @@ use data::Filled;
 use fields::{Amount, Memory};
 
 // The kind of a name, or what is none.
-#[derive(Drop)]
+#[derive(Clone, Copy)]
 pub enum Named {
     Is(Kind),
     Not,
 }
 
 // What is wrong with a payload: it is neither hex nor a text, its quote isn't closed, a byte of it isn't printable or no escape, something stands behind it, it is too long.
-#[derive(Drop)]
+#[derive(Clone, Copy)]
 pub enum Misspelt {
     Hex,
     Unclosed,
@@ -25,14 +27,14 @@ pub enum Misspelt {
 }
 
 // How many bytes a payload has.
-#[derive(Drop)]
+#[derive(Clone, Copy)]
 pub enum Payload {
     Is(usize),
     Not(Misspelt),
 }
 
 // A byte as it is spelt in quotes.
-#[derive(Drop)]
+#[derive(Clone, Copy)]
 enum Spelt {
     Is(u8),
     Not,

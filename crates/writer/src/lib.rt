@@ -1,5 +1,7 @@
 // The modem's side, for a bench (R-12): an answer is written as the modem would, and only where the digester would read it back so.
 // The bytes are written into memory of the call's own and digested there, so that a refusal leaves the caller's as it was.
+#![tactic(auto)]
+
 ghost use Rattle.std.specs.Prelude.{◌≡◌, ◌≤◌, length};
 ghost use Rattle.ink.specs.Ink.{inked, ink};
 ghost use Rattle.digest.specs.Digest.{digest};
@@ -11,14 +13,14 @@ use lines::Digester;
 use table::Checked;
 
 // The number that goes with a kind, or none.
-#[derive(Drop)]
+#[derive(Clone, Copy)]
 pub enum Given {
     None,
     Is(u32),
 }
 
 // How many bytes were written; refusal 2 with the first faulty record's number; 16, it would not be read back so; 17, the memory is too short.
-#[derive(Drop)]
+#[derive(Clone, Copy)]
 pub enum Said {
     Is(usize),
     BadTable(usize),
