@@ -10,5 +10,5 @@ put_one κs a x y s t h g = h ∙ sym g
 pub move_down_one : Alike calls.move_down.Reads.Post (λ κs x y s t. s.0.now ≡ t.0.now)
 move_down_one κs a x y s t h g = h ∙ sym g
 
-pub one_more_one : One calls.one_more_lem.Reads.Post
+pub one_more_one : One calls.one_more.Reads.Post
 one_more_one κs a x y s t h g = omega arith

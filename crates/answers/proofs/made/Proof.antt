@@ -19,7 +19,7 @@ placed-at-requires-3 c κs = search rules
 returns : tie.Need-returns
 returns c =
     let args = c.before.before.before.before.args in
-    made_is _ _ args.payload args.digits args.text _ _ _ _ _ c.before.before.before.number_of.ensures c.before.before.placed_at_lem.ensures c.before.placed-at2.ensures c.placed-at3.ensures
+    made_is _ _ args.payload args.digits args.text _ _ _ _ _ c.before.before.before.number_of.ensures c.before.before.placed_at.ensures c.before.placed-at2.ensures c.placed-at3.ensures
 
 pub made-spec : {M : Type 1} → statement M
 made-spec = tie.close (tie.spec number-of-requires placed-at-requires placed-at-requires-2 placed-at-requires-3 returns)

@@ -43,9 +43,9 @@ placed-at-requires-3 c κs = search rules
 returns-2 : tie.Need-returns-2
 returns-2 c =
     let args = c.before.before.before.before.before.before.before.before.before.before.before.before.args in
-    let placed_at_lem = c.before.before.before.before.placed_at_lem in
+    let placed_at = c.before.before.before.before.placed_at in
     let placed-at2 = c.before.before.placed-at2 in
-    shifted_is args.a args.d (not-false _ c.before.before.before.before.before.before.before.if1.false) _ _ _ placed_at_lem.ensures placed-at2.ensures c.placed-at3.ensures
+    shifted_is args.a args.d (not-false _ c.before.before.before.before.before.before.before.if1.false) _ _ _ placed_at.ensures placed-at2.ensures c.placed-at3.ensures
 
 pub shifted-spec : {M : Type 1} → statement M
 shifted-spec = tie.close (tie.spec returns add-consumed add-placed-at placed-at-requires add-placed-at-2 placed-at-requires-2 add-placed-at-3 placed-at-requires-3 returns-2)

@@ -66,10 +66,10 @@ loop-again c =
     let args = c.before.before.before.before.before.before.before.before.before.before.before.before.before.before.before.args in
     let loop = c.before.before.before.before.before.before.before.before.before.before.loop in
     let loop-test = c.before.before.before.before.before.before.before.before.before.loop-test in
-    let hex_digit_lem = c.before.before.before.before.before.before.before.hex_digit_lem in
+    let hex_digit = c.before.before.before.before.before.before.before.hex_digit in
     let hex-digit2 = c.before.before.before.before.before.hex-digit2 in
     let words = c.before.before.words in
-    hexing_more args.p.now args.out.now args.at loop.out loop.i loop.n loop.invariant loop-test.true _ _ hex_digit_lem.ensures hex-digit2.ensures _ _ words.ensures words.auto.0
+    hexing_more args.p.now args.out.now args.at loop.out loop.i loop.n loop.invariant loop-test.true _ _ hex_digit.ensures hex-digit2.ensures _ _ words.ensures words.auto.0
 
 same_length : tie.Need-same-length invariant-loop decreases-loop
 same_length c =

@@ -20,7 +20,7 @@ unfolding line_in
 returns c =
     let args = c.before.before.before.before.args in
     let is-line = c.before.before.is-line in
-    c.place_of_lem.ensures ∙ ap₂ (place_of (fixed_text args.text) args.s.now args.e) is-line.ensures c.before.line_end_lem.ensures
+    c.place_of.ensures ∙ ap₂ (place_of (fixed_text args.text) args.s.now args.e) is-line.ensures c.before.line_end.ensures
 
 pub line-spec : {M : Type 1} → statement M
 line-spec = tie.close (tie.spec is-line-requires line-end-requires place-of-requires returns)

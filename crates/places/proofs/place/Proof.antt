@@ -22,7 +22,7 @@ unfolding place_in
 returns c =
     let args = c.before.before.before.before.before.args in
     let is-head = c.before.before.before.is-head in
-    c.place_of_lem.ensures ∙ ap₂ (λ (b : Bool) (n : ℕ). place_of (fixed_text args.text) args.s.now args.places.from (args.places.passed && b) n) is-head.ensures c.before.head-end.ensures
+    c.place_of.ensures ∙ ap₂ (λ (b : Bool) (n : ℕ). place_of (fixed_text args.text) args.s.now args.places.from (args.places.passed && b) n) is-head.ensures c.before.head-end.ensures
 
 pub place-spec : {M : Type 1} → statement M
 place-spec = tie.close (tie.spec is-head-requires head-end-requires place-of-requires returns)

@@ -19,7 +19,7 @@ returns : tie.Need-returns
 returns c =
     let args = c.before.before.before.before.before.before.before.args in
     let selector = c.before.before.before.selector in
-    still_line args.selector args.table.now args.f args.s.now _ selector.given.1 (sym c.before.no_line_lem.ensures ∙ not-true _ c.if1.true)
+    still_line args.selector args.table.now args.f args.s.now _ selector.given.1 (sym c.before.no_line.ensures ∙ not-true _ c.if1.true)
 
 no-byte-requires : tie.Need-no-byte-requires
 no-byte-requires c κs = search rules
@@ -28,9 +28,9 @@ returns-2 : tie.Need-returns-2
 returns-2 c =
     let args = c.before.before.before.before.before.before.before.before.before.args in
     let selector = c.before.before.before.before.before.selector in
-    let no_line_lem = c.before.before.before.no_line_lem in
+    let no_line = c.before.before.before.no_line in
     let if1 = c.before.before.if1 in
-    still_byte args.selector args.table.now args.f args.s.now _ selector.given.1 (sym no_line_lem.ensures ∙ not-false _ if1.false) (sym c.before.no_byte.ensures ∙ not-true _ c.if2.true)
+    still_byte args.selector args.table.now args.f args.s.now _ selector.given.1 (sym no_line.ensures ∙ not-false _ if1.false) (sym c.before.no_byte.ensures ∙ not-true _ c.if2.true)
 
 no-custom-requires : tie.Need-no-custom-requires
 no-custom-requires c κs = search rules
@@ -39,11 +39,11 @@ returns-3 : tie.Need-returns-3
 returns-3 c =
     let args = c.before.before.before.before.before.before.before.before.before.before.before.args in
     let selector = c.before.before.before.before.before.before.before.selector in
-    let no_line_lem = c.before.before.before.before.before.no_line_lem in
+    let no_line = c.before.before.before.before.before.no_line in
     let if1 = c.before.before.before.before.if1 in
     let no_byte = c.before.before.before.no_byte in
     let if2 = c.before.before.if2 in
-    still_custom args.selector args.table.now args.f args.s.now _ selector.given.1 (sym no_line_lem.ensures ∙ not-false _ if1.false) (sym no_byte.ensures ∙ not-false _ if2.false) (sym c.before.no_custom_lem.ensures ∙ not-true _ c.if3.true)
+    still_custom args.selector args.table.now args.f args.s.now _ selector.given.1 (sym no_line.ensures ∙ not-false _ if1.false) (sym no_byte.ensures ∙ not-false _ if2.false) (sym c.before.no_custom.ensures ∙ not-true _ c.if3.true)
 
 skipped-requires : tie.Need-skipped-requires
 skipped-requires c κs = search rules
@@ -57,12 +57,12 @@ returns-5 : tie.Need-returns-5
 returns-5 c =
     let args = c.before.before.before.before.before.before.before.before.before.before.before.before.args in
     let selector = c.before.before.before.before.before.before.before.before.selector in
-    let no_line_lem = c.before.before.before.before.before.before.no_line_lem in
+    let no_line = c.before.before.before.before.before.before.no_line in
     let if1 = c.before.before.before.before.before.if1 in
     let no_byte = c.before.before.before.before.no_byte in
     let if2 = c.before.before.before.if2 in
-    let no_custom_lem = c.before.before.no_custom_lem in
-    still_skipped args.selector args.table.now args.f args.s.now _ selector.given.1 (sym no_line_lem.ensures ∙ not-false _ if1.false) (sym no_byte.ensures ∙ not-false _ if2.false) (sym no_custom_lem.ensures ∙ not-false _ c.before.if3.false) _ c.skipped.ensures
+    let no_custom = c.before.before.no_custom in
+    still_skipped args.selector args.table.now args.f args.s.now _ selector.given.1 (sym no_line.ensures ∙ not-false _ if1.false) (sym no_byte.ensures ∙ not-false _ if2.false) (sym no_custom.ensures ∙ not-false _ c.before.if3.false) _ c.skipped.ensures
 
 pub is-still-spec : {M : Type 1} → statement M
 is-still-spec =

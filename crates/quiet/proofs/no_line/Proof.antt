@@ -4,8 +4,8 @@ use native.Mathlib.Omega.{arith}
 use borrow.Author.Tests.{not-true, not-false}
 use Rattle.quiet.specs.Steps.{line_short, line_table, line_told, line_text}
 use borrow.Author.Rules.{rules}
-use Rattle.quiet.proofs.no_line_lem.Statement.{statement}
-use Rattle.quiet.proofs.no_line_lem.Tie as tie
+use Rattle.quiet.proofs.no_line.Statement.{statement}
+use Rattle.quiet.proofs.no_line.Tie as tie
 
 returns : tie.Need-returns
 returns c =
@@ -26,8 +26,8 @@ no-number-requires c κs = search rules
 returns-3 : tie.Need-returns-3
 returns-3 c =
     let args = c.before.before.before.before.before.before.before.before.args in
-    let no_fixed_lem = c.before.before.no_fixed_lem in
-    line_told args.digester args.table.now args.f args.s.now (omega arith) (omega arith) _ _ no_fixed_lem.ensures c.before.no_number_lem.ensures (not-true _ c.if3.true)
+    let no_fixed = c.before.before.no_fixed in
+    line_told args.digester args.table.now args.f args.s.now (omega arith) (omega arith) _ _ no_fixed.ensures c.before.no_number.ensures (not-true _ c.if3.true)
 
 no-text-requires : tie.Need-no-text-requires
 no-text-requires c κs = search rules
@@ -35,9 +35,9 @@ no-text-requires c κs = search rules
 returns-4 : tie.Need-returns-4
 returns-4 c =
     let args = c.before.before.before.before.before.before.before.before.before.args in
-    let no_fixed_lem = c.before.before.before.no_fixed_lem in
-    let no_number_lem = c.before.before.no_number_lem in
-    c.no_text_lem.ensures ∙ line_text args.digester args.table.now args.f args.s.now (omega arith) (omega arith) _ _ no_fixed_lem.ensures no_number_lem.ensures (not-false _ c.before.if3.false)
+    let no_fixed = c.before.before.before.no_fixed in
+    let no_number = c.before.before.no_number in
+    c.no_text.ensures ∙ line_text args.digester args.table.now args.f args.s.now (omega arith) (omega arith) _ _ no_fixed.ensures no_number.ensures (not-false _ c.before.if3.false)
 
 pub no-line-spec : {M : Type 1} → statement M
 no-line-spec =

@@ -1,8 +1,8 @@
 -- `no_number_lem` meets its contract, head by head.
 use Rattle.quiet.specs.Quiet.{no_number}
 use borrow.Author.Rules.{rules}
-use Rattle.quiet.proofs.no_number_lem.Statement.{statement}
-use Rattle.quiet.proofs.no_number_lem.Tie as tie
+use Rattle.quiet.proofs.no_number.Statement.{statement}
+use Rattle.quiet.proofs.no_number.Tie as tie
 
 array-read-unended : tie.Need-array-read-unended
 array-read-unended c = search rules

@@ -3,8 +3,8 @@ use mathlib.Core.Path.{sym, ◌∙◌}
 use borrow.Author.Tests.{not-true, not-false}
 use Rattle.quiet.specs.Steps.{text_deaf, text_sought}
 use borrow.Author.Rules.{rules}
-use Rattle.quiet.proofs.no_text_lem.Statement.{statement}
-use Rattle.quiet.proofs.no_text_lem.Tie as tie
+use Rattle.quiet.proofs.no_text.Statement.{statement}
+use Rattle.quiet.proofs.no_text.Tie as tie
 
 hears-text-requires : tie.Need-hears-text-requires
 hears-text-requires c κs = search rules

@@ -24,8 +24,8 @@ enum_told c = search rules
 returns : tie.Need-returns invariant-loop decreases-loop
 returns c =
     let loop = c.before.before.before.before.loop in
-    let good_at_lem = c.before.before.good_at_lem in
-    check_end _ loop.at loop.n loop.invariant (omega arith) _ good_at_lem.ensures c.enum_told.given.1
+    let good_at = c.before.before.good_at in
+    check_end _ loop.at loop.n loop.invariant (omega arith) _ good_at.ensures c.enum_told.given.1
 
 enum-told-2 : tie.Need-enum-told-2 invariant-loop decreases-loop
 enum-told-2 c = search rules
@@ -33,8 +33,8 @@ enum-told-2 c = search rules
 returns-2 : tie.Need-returns-2 invariant-loop decreases-loop
 returns-2 c =
     let loop = c.before.before.before.before.loop in
-    let good_at_lem = c.before.before.good_at_lem in
-    check_faulty _ loop.at loop.n loop.invariant (omega arith) _ good_at_lem.ensures c.enum-told2.given.1
+    let good_at = c.before.before.good_at in
+    check_faulty _ loop.at loop.n loop.invariant (omega arith) _ good_at.ensures c.enum-told2.given.1
 
 enum-known-r : tie.Need-enum-known-r invariant-loop decreases-loop
 enum-known-r c = search rules
@@ -43,9 +43,9 @@ add_at : tie.Need-overflow-add-at invariant-loop decreases-loop
 add_at c =
     let args = c.before.before.before.before.before.before.before.before.args in
     let loop = c.before.before.before.before.before.before.loop in
-    let good_at_lem = c.before.before.before.before.good_at_lem in
+    let good_at = c.before.before.before.before.good_at in
     let r = c.before.before.r in
-    record { fits = omega (arith, good_record_inside args.t.now loop.at _ _ good_at_lem.ensures r.given.1) }
+    record { fits = omega (arith, good_record_inside args.t.now loop.at _ _ good_at.ensures r.given.1) }
 
 add-n : tie.Need-overflow-add-n invariant-loop decreases-loop
 add-n c = record { fits = omega arith }
@@ -56,9 +56,9 @@ loop-less c = omega arith
 loop-again : tie.Need-loop-preserved invariant-loop decreases-loop
 loop-again c =
     let loop = c.before.before.before.before.before.before.loop in
-    let good_at_lem = c.before.before.before.before.good_at_lem in
+    let good_at = c.before.before.before.before.good_at in
     let r = c.before.before.r in
-    check_more _ loop.at loop.n loop.invariant (omega arith) _ good_at_lem.ensures _ r.given.1
+    check_more _ loop.at loop.n loop.invariant (omega arith) _ good_at.ensures _ r.given.1
 
 returns-3 : tie.Need-returns-3 invariant-loop decreases-loop
 returns-3 c =

@@ -8,7 +8,7 @@ one-more-requires : tie.Need-one-more-requires
 one-more-requires c κs = search rules
 
 returns : tie.Need-returns
-returns c = lost_is c.before.args.self _ c.one_more_lem.ensures
+returns c = lost_is c.before.args.self _ c.one_more.ensures
 
 pub lose-spec : {M : Type 1} → statement M
 lose-spec = tie.close (tie.spec one-more-requires returns)
