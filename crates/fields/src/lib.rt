@@ -2,7 +2,6 @@
 // It is part of a harness and promises only that it doesn't trip.
 #![tactic(auto)]
 
-
 // How long a memory of the harness is: one more than a line may be.
 pub const LENGTH: usize = 65536;
 
