@@ -21,6 +21,10 @@ pub overflow_add-end : goal.overflow_add-end
 overflow_add-end c =
     record { fits = omega (arith, stands_within c.args.x.now c.args.buf.now c.args.at 18446744073709551615 (omega arith) (omega arith) (sym c.matches_at.ensures ∙ c.if-not-matches_at.false)) }
 
+pub overflow_add-result : goal.overflow_add-result
+overflow_add-result c =
+    record { fits = omega (arith, stands_fits crlf c.args.buf.now (c.args.at + length c.args.x.now) (omega arith) (sym c.matches_at-2.ensures ∙ c.if-matches_at.true)) }
+
 pub returns-then-matches_at : goal.returns-then-matches_at
 returns-then-matches_at c =
     text_bare c.args.x.now c.args.buf.now c.args.at (sym c.breaks_off.ensures ∙ c.if-breaks_off.false) (sym c.matches_at.ensures ∙ c.if-not-matches_at.false) (sym c.matches_at-2.ensures ∙ c.if-matches_at.true)
