@@ -3,7 +3,7 @@ use Rattle.lists.specs.Cycle.{plain_read, plain_refused}
 use Rattle.lists.proofs.read_plain.Goals as goal
 
 pub plain_at-requires : goal.plain_at-requires
-plain_at-requires c =  (c.requires.0, c.requires.1.1)
+plain_at-requires c = (c.requires.0, c.requires.1.1)
 
 pub returns-in-Is : goal.returns-in-Is
 returns-in-Is c = plain_read _ _ _ _ _ _ _ c.plain_at.ensures _ c.in-Is.is _ c.leave.ensures
