@@ -6,7 +6,7 @@
 ghost use Rattle.std.specs.Prelude.{◌≡◌, ◌≤◌, length};
 ghost use Rattle.selector.specs.Selector.{choice};
 ghost use Rattle.turn.specs.Turn.{world};
-ghost use Rattle.ingress.specs.Ingress.{checks, refusal, ran, result, write_says, taking};
+ghost use Rattle.ingress.specs.Ingress.{checks, refusal, ran, result_of, write_says, taking};
 ghost use Rattle.quiet.specs.Quiet.{still};
 ghost use Rattle.feed.specs.Feed.{fitting, renewed, settled, fed, write_in, advanced_with, written_with};
 
@@ -25,7 +25,7 @@ fn judge(
     slot_mem: usize,
     queue_mem: usize,
 ) -> Checks
-    ensures* { λ r. ⌜ refusal r ≡ fitting (checks (choice selector table.now).rules state buf slot_mem queue_mem) fits ⌝ }
+    ensures { refusal result ≡ fitting (checks (choice selector table.now).rules state buf slot_mem queue_mem) fits }
 {
     match ingress::judge(selector, state, table, buf, slot_mem, queue_mem) {
         Checks::TooLong => Checks::TooLong,
@@ -42,7 +42,7 @@ fn judge(
 
 // The findings after turns: those known where nothing was consumed; after a move they are started afresh over what remains.
 fn renew(numbers: &mut [u64; NUMBERS], known: Findings, before: usize, end: usize, buf: &[u8])
-    ensures* { λ _. ⌜ numbers.new ≡ renewed known before end buf.now ⌝ }
+    ensures { numbers.new ≡ renewed known before end buf.now }
 {
     if end == before {
         findings::lay(numbers, known);
@@ -63,7 +63,7 @@ fn settle(
     slot_mem: &mut [u8],
     queue_mem: &mut [u8],
 ) -> Ran
-    ensures* { λ r. ⌜ fed (ran r buf.new slot_mem.new queue_mem.new) numbers.new ≡ settled (choice selector table.now) (still selector table.now) numbers.old (world state buf.old slot_mem.old queue_mem.old) ⌝ }
+    ensures { fed (ran result buf.new slot_mem.new queue_mem.new) numbers.new ≡ settled (choice selector table.now) (still selector table.now) numbers.old (world state buf.old slot_mem.old queue_mem.old) }
 {
     let end = text::fitting(state.end, buf.len());
     let known = findings::extend(findings::of_numbers(numbers), &buf[..end]);
@@ -94,7 +94,7 @@ pub fn advance(
     slot_mem: &mut [u8],
     queue_mem: &mut [u8],
 ) -> Advanced
-    ensures* { λ r. ⌜ fed (result state r buf.new slot_mem.new queue_mem.new) numbers.new ≡ advanced_with (choice selector table.now) (still selector table.now) commit numbers.old (world state buf.old slot_mem.old queue_mem.old) ⌝ }
+    ensures { fed (result_of state result buf.new slot_mem.new queue_mem.new) numbers.new ≡ advanced_with (choice selector table.now) (still selector table.now) commit numbers.old (world state buf.old slot_mem.old queue_mem.old) }
 {
     let room = buf.len();
     let fits = numbers[0] as usize == state.end;
@@ -133,7 +133,7 @@ pub fn advance(
 
 // Where the bytes held end after a write.
 fn end_of(wrote: Written, state: State) -> usize
-    ensures* { λ r. ⌜ r ≡ (write_says state wrote).1.end ⌝ }
+    ensures { result ≡ (write_says state wrote).1.end }
 {
     match wrote {
         Written::Is(s, _) => s.end,
@@ -156,7 +156,7 @@ fn write_in(
     queue_mem: &mut [u8],
 ) -> Written
     requires { state.end ≤ length buf.old }
-    ensures* { λ r. ⌜ fed (taking state r buf.new slot_mem.new queue_mem.new) numbers.new ≡ write_in (choice selector table.now) (still selector table.now) piece.now numbers.old (world state buf.old slot_mem.old queue_mem.old) ⌝ }
+    ensures { fed (taking state result buf.new slot_mem.new queue_mem.new) numbers.new ≡ write_in (choice selector table.now) (still selector table.now) piece.now numbers.old (world state buf.old slot_mem.old queue_mem.old) }
 {
     let end = state.end;
     let n = piece.len();
@@ -195,7 +195,7 @@ pub fn write(
     slot_mem: &mut [u8],
     queue_mem: &mut [u8],
 ) -> Written
-    ensures* { λ r. ⌜ fed (taking state r buf.new slot_mem.new queue_mem.new) numbers.new ≡ written_with (choice selector table.now) (still selector table.now) piece.now numbers.old (world state buf.old slot_mem.old queue_mem.old) ⌝ }
+    ensures { fed (taking state result buf.new slot_mem.new queue_mem.new) numbers.new ≡ written_with (choice selector table.now) (still selector table.now) piece.now numbers.old (world state buf.old slot_mem.old queue_mem.old) }
 {
     let fit = numbers[0] as usize == state.end;
     match judge(

@@ -26,7 +26,7 @@ use Rattle.queue.specs.declared.Queue.{Queue}
 use Rattle.queue.specs.declared.Taken.{Taken}
 use Rattle.turn.specs.Turn.{world}
 use Rattle.turn.specs.Says.{held_is}
-use Rattle.ingress.specs.Ingress.{Result, advance_says, advanced, result, write_says, written, taking}
+use Rattle.ingress.specs.Ingress.{Result, advance_says, advanced, result_of, write_says, written, taking}
 use Rattle.turn.specs.declared.State.{State}
 use Rattle.ingress.specs.declared.Advanced.{Advanced}
 use Rattle.ingress.specs.declared.Written.{Written}
@@ -108,7 +108,7 @@ laid_is says f v o r x q n u k e = e ∙ ap (λ (y : _). left_said f (says y) v 
 
 -- from the state s read from the numbers v, by the digester of a number, with what it left of the three memories
 module _ (v o : List ℕ) (s : State) (es : s ≡ state_of v) (j : ℕ) (d : Selector) (ed : d ≡ selector_of j) (t b m n b' m' n' : List ℕ) (x : ℕ) (u k : List ℕ) where
-  pub advance_is : (c : ℕ) (r : Advanced) → result s r b' m' n' ≡ advanced (choice d t) c (world s b m n) → took x u k ≡ left_said no_values (advance_says (state_of v) r) v o → whole x u k b' m' n' ≡ whole_said no_values (advanced (choice (selector_of j) t) c (world (state_of v) b m n)) v o
+  pub advance_is : (c : ℕ) (r : Advanced) → result_of s r b' m' n' ≡ advanced (choice d t) c (world s b m n) → took x u k ≡ left_said no_values (advance_says (state_of v) r) v o → whole x u k b' m' n' ≡ whole_said no_values (advanced (choice (selector_of j) t) c (world (state_of v) b m n)) v o
   advance_is c r e g = ap (λ (y : Take). whole y.number y.state y.out b' m' n') g ∙ ap (λ (z : Result Unit). whole_said no_values z v o) (rw (es, ed) at e)
 
   pub write_is : (p : List ℕ) (r : Written) → taking s r b' m' n' ≡ written (choice d t) p (world s b m n) → took x u k ≡ left_said count_values (write_says (state_of v) r) v o → whole x u k b' m' n' ≡ whole_said count_values (written (choice (selector_of j) t) p (world (state_of v) b m n)) v o
@@ -116,7 +116,7 @@ module _ (v o : List ℕ) (s : State) (es : s ≡ state_of v) (j : ℕ) (d : Sel
 
   -- with the findings' numbers f, of which it left f' (R-14)
   module _ (f f' : List ℕ) where
-    pub feed_advance_is : (c : ℕ) (r : Advanced) → fed (result s r b' m' n') f' ≡ advanced_with (choice d t) (still d t) c f (world s b m n) → took x u k ≡ left_said no_values (advance_says (state_of v) r) v o → feeding (whole x u k b' m' n') f' ≡ feed_said no_values (advanced_with (choice (selector_of j) t) (still (selector_of j) t) c f (world (state_of v) b m n)) v o
+    pub feed_advance_is : (c : ℕ) (r : Advanced) → fed (result_of s r b' m' n') f' ≡ advanced_with (choice d t) (still d t) c f (world s b m n) → took x u k ≡ left_said no_values (advance_says (state_of v) r) v o → feeding (whole x u k b' m' n') f' ≡ feed_said no_values (advanced_with (choice (selector_of j) t) (still (selector_of j) t) c f (world (state_of v) b m n)) v o
     feed_advance_is c r e g = ap (λ (y : Take). feeding (whole y.number y.state y.out b' m' n') f') g ∙ ap (λ (z : Fed Unit). feed_said no_values z v o) (rw (es, ed) at e)
 
     pub feed_write_is : (p : List ℕ) (r : Written) → fed (taking s r b' m' n') f' ≡ written_with (choice d t) (still d t) p f (world s b m n) → took x u k ≡ left_said count_values (write_says (state_of v) r) v o → feeding (whole x u k b' m' n') f' ≡ feed_said count_values (written_with (choice (selector_of j) t) (still (selector_of j) t) p f (world (state_of v) b m n)) v o

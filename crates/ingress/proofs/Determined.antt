@@ -1,4 +1,4 @@
--- Any two results that a contract of this crate allows are equal, every byte of the lent memories too: each can be read off what `result` and `taking` make of it.
+-- Any two results that a contract of this crate allows are equal, every byte of the lent memories too: each can be read off what `result_of` and `taking` make of it.
 use mathlib.Core.Path.{◌≡◌, refl, sym, ap, ◌∙◌}
 use Prim.Native.Nat.{ℕ}
 use lib.ListN.{get_or}

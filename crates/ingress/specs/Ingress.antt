@@ -96,8 +96,8 @@ advance_says s advances.BadState = (refused 3 [], s)
 advance_says s advances.NoRoom = (refused 4 [], s)
 advance_says s (advances.Full x) = (refused 5 [], x)
 
-abbrev pub result : State → Advanced → List ℕ → List ℕ → List ℕ → Result (Unit {0})
-result s r b m n = record { said = (advance_says s r).0; left = world (advance_says s r).1 b m n }
+abbrev pub result_of : State → Advanced → List ℕ → List ℕ → List ℕ → Result (Unit {0})
+result_of s r b m n = record { said = (advance_says s r).0; left = world (advance_says s r).1 b m n }
 
 -- how a write ends: the bytes taken and all that it leaves; or the same at a notice that meets a full queue
 pub data Writing : Type 0 where

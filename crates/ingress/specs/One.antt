@@ -1,4 +1,4 @@
--- Advanced and Written can be read off what `result` and `taking` make of them; so can the memories.
+-- Advanced and Written can be read off what `result_of` and `taking` make of them; so can the memories.
 use Rattle.std.specs.Prelude.{◌≡◌, refl, ℕ, get_or, eqb}
 use Rattle.std.proofs.Common.{ap}
 use Rattle.outcome.specs.Outcome.{Outcome, answered, refused, if◌then◌else◌}

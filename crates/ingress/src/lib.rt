@@ -6,7 +6,7 @@
 ghost use Rattle.std.specs.Prelude.{◌≡◌, ◌≤◌, length, take};
 ghost use Rattle.selector.specs.Selector.{choice};
 ghost use Rattle.turn.specs.Turn.{world};
-ghost use Rattle.ingress.specs.Ingress.{run, ran, is_sound, checks, refusal, advanced, result, write_once, writing, write_on, written, taking, cleared};
+ghost use Rattle.ingress.specs.Ingress.{run, ran, is_sound, checks, refusal, advanced, result_of, write_once, writing, write_on, written, taking, cleared};
 ghost use Rattle.ingress.specs.Story.{Keeps, committed_bytes, NothingLeft, NothingAfter, took_of};
 
 use selector::Selector;
@@ -29,7 +29,7 @@ pub fn run(
     slot_mem: &mut [u8],
     queue_mem: &mut [u8],
 ) -> Ran
-    ensures* { λ r. ⌜ ran r buf.new slot_mem.new queue_mem.new ≡ run (choice selector table.now) (world state buf.old slot_mem.old queue_mem.old) ⌝ }
+    ensures { ran result buf.new slot_mem.new queue_mem.new ≡ run (choice selector table.now) (world state buf.old slot_mem.old queue_mem.old) }
 {
     let mut s = state;
     while 0 < s.end {
@@ -50,7 +50,7 @@ pub fn run(
 
 // Do the numbers fit the memories? The end lies in the buffer, the stored length in the slot's memory, start and count within their bounds.
 fn is_sound(state: State, buf: usize, slot_mem: usize, queue_mem: usize) -> bool
-    ensures* { λ r. ⌜ r ≡ is_sound state buf slot_mem queue_mem ⌝ }
+    ensures { result ≡ is_sound state buf slot_mem queue_mem }
 {
     if buf < state.end {
         return false;
@@ -81,7 +81,7 @@ pub fn judge(
     slot_mem: usize,
     queue_mem: usize,
 ) -> Checks
-    ensures* { λ r. ⌜ refusal r ≡ checks (choice selector table.now).rules state buf slot_mem queue_mem ⌝ }
+    ensures { refusal result ≡ checks (choice selector table.now).rules state buf slot_mem queue_mem }
 {
     if digest::LONGEST < buf {
         return Checks::TooLong;
@@ -117,9 +117,9 @@ pub fn advance(
     slot_mem: &mut [u8],
     queue_mem: &mut [u8],
 ) -> Advanced
-    ensures* queue_mem_after { λ r. ⌜ result state r buf.new slot_mem.new queue_mem.new ≡ advanced (choice selector table.now) commit (world state buf.old slot_mem.old queue_mem.old) ⌝ }
-    ensures* keeps { λ r. ⌜ Keeps (choice selector table.now) (world state buf.old slot_mem.old queue_mem.old) (committed_bytes (world state buf.old slot_mem.old queue_mem.old) commit) (result state r buf.new slot_mem.new queue_mem.new) ⌝ }
-    ensures* nothing_left { λ r. ⌜ NothingLeft (choice selector table.now) (result state r buf.new slot_mem.new queue_mem.new) ⌝ }
+    ensures is { result_of state result buf.new slot_mem.new queue_mem.new ≡ advanced (choice selector table.now) commit (world state buf.old slot_mem.old queue_mem.old) }
+    ensures keeps { Keeps (choice selector table.now) (world state buf.old slot_mem.old queue_mem.old) (committed_bytes (world state buf.old slot_mem.old queue_mem.old) commit) (result_of state result buf.new slot_mem.new queue_mem.new) }
+    ensures nothing_left { NothingLeft (choice selector table.now) (result_of state result buf.new slot_mem.new queue_mem.new) }
 {
     let room = buf.len();
     match judge(
@@ -171,7 +171,7 @@ fn write_once(
     queue_mem: &mut [u8],
 ) -> Wrote
     requires { state.end ≤ length buf.old }
-    ensures* { λ r. ⌜ writing r buf.new slot_mem.new queue_mem.new ≡ write_once (choice selector table.now) bytes.now (world state buf.old slot_mem.old queue_mem.old) ⌝ }
+    ensures { writing result buf.new slot_mem.new queue_mem.new ≡ write_once (choice selector table.now) bytes.now (world state buf.old slot_mem.old queue_mem.old) }
 {
     let end = state.end;
     let n = text::fitting(bytes.len(), buf.len() - end);
@@ -203,7 +203,7 @@ fn write_on(
     queue_mem: &mut [u8],
 ) -> Wrote
     requires { state.end ≤ length buf.old }
-    ensures* { λ r. ⌜ writing r buf.new slot_mem.new queue_mem.new ≡ write_on (choice selector table.now) piece.now 0 (world state buf.old slot_mem.old queue_mem.old) ⌝ }
+    ensures { writing result buf.new slot_mem.new queue_mem.new ≡ write_on (choice selector table.now) piece.now 0 (world state buf.old slot_mem.old queue_mem.old) }
 {
     let mut s = state;
     let mut taken = 0;
@@ -253,9 +253,9 @@ pub fn write(
     slot_mem: &mut [u8],
     queue_mem: &mut [u8],
 ) -> Written
-    ensures* queue_mem_after { λ r. ⌜ taking state r buf.new slot_mem.new queue_mem.new ≡ written (choice selector table.now) piece.now (world state buf.old slot_mem.old queue_mem.old) ⌝ }
-    ensures* keeps { λ r. ⌜ Keeps (choice selector table.now) (world state buf.old slot_mem.old queue_mem.old) (take (took_of (taking state r buf.new slot_mem.new queue_mem.new).said) piece.now) (taking state r buf.new slot_mem.new queue_mem.new) ⌝ }
-    ensures* nothing_left { λ r. ⌜ NothingAfter (choice selector table.now) (taking state r buf.new slot_mem.new queue_mem.new) ⌝ }
+    ensures is { taking state result buf.new slot_mem.new queue_mem.new ≡ written (choice selector table.now) piece.now (world state buf.old slot_mem.old queue_mem.old) }
+    ensures keeps { Keeps (choice selector table.now) (world state buf.old slot_mem.old queue_mem.old) (take (took_of (taking state result buf.new slot_mem.new queue_mem.new).said) piece.now) (taking state result buf.new slot_mem.new queue_mem.new) }
+    ensures nothing_left { NothingAfter (choice selector table.now) (taking state result buf.new slot_mem.new queue_mem.new) }
 {
     match judge(
         selector,
@@ -277,7 +277,7 @@ pub fn write(
 
 // Drops what is in the buffer: the next end.
 pub fn clear(end: usize) -> usize
-    ensures* { λ r. ⌜ r ≡ cleared end ⌝ }
+    ensures { result ≡ cleared end }
 {
     0
 }
