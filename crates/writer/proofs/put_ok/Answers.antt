@@ -9,4 +9,4 @@ returns-then-payload-eq0 c =
 
 pub returns : goal.returns
 returns c =
-    ok_put c.args.own.now c.args.payload.now c.requires c.if-payload-eq0.false _ _ c.words-arg3.given.0.1 c.put_line-from.ensures _ c.words-2.ensures
+    ok_put c.args.own.now c.args.payload.now c.requires c.if-payload-eq0.false _ _ c.put_line-from.array_long c.put_line-from.ensures _ c.words-2.ensures

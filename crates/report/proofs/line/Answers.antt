@@ -1,0 +1,16 @@
+-- `line` meets its contract: its four texts one after the other.
+use mathlib.Core.Path.{sym, ◌∙◌}
+use Rattle.report.specs.Laws.{line_none, value_room, line_some}
+use Rattle.report.proofs.line.Goals as goal
+
+pub returns-then-not-is_found : goal.returns-then-not-is_found
+returns-then-not-is_found c =
+    line_none c.args.a c.args.s.now c.args.out.now c.args.at (sym c.is_found.ensures ∙ c.if-not-is_found.true)
+
+pub value-valued-requires : goal.value-valued-requires
+value-valued-requires c =
+    value_room c.args.a c.args.s.now c.args.out.now c.args.at (c.requires) _ _ c.decimal-counted.ensures c.decimal-counted.auto.out _ _ c.name-named.ensures c.name-named.auto.out _ c.carried-part.ensures _ c.payload-p.ensures.result_value
+
+pub returns : goal.returns
+returns c =
+    line_some c.args.a c.args.s.now c.args.out.now c.args.at (c.requires) _ _ c.decimal-counted.ensures c.decimal-counted.auto.out _ _ c.name-named.ensures c.name-named.auto.out _ c.carried-part.ensures _ c.payload-p.ensures.result_value _ _ c.value-valued.ensures c.value-valued.auto.out (sym c.is_found.ensures ∙ c.if-not-is_found.false) _ c.words.ensures
