@@ -1,0 +1,7 @@
+-- `wx_ingress_advance` meets its contract: it equals `ingress::advance`, with what it answers laid into the numbers.
+use Rattle.gateway.specs.Laws.{advance_is}
+use Rattle.gateway.proofs.wx_ingress_advance.Goals as goal
+
+pub returns : goal.returns
+returns c =
+    advance_is c.args.state.now c.args.out.now _ c.state_of.ensures c.args.digester _ c.selector_of-chosen.ensures c.args.table.now c.args.buf.now c.args.slot_mem.now c.args.queue_mem.now _ _ _ _ _ _ c.args.commit c.advance-what.result c.advance-what.ensures.is c.lay_advanced.ensures
