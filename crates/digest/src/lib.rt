@@ -136,7 +136,7 @@ pub fn digest_unchecked(digester: Digester, table: &[u8], input: &[u8]) -> Answe
 
 // The payload of an answer, its digits (R-2) or its text (R-3) as a part of the caller's own input; a place and length that don't fit give its empty front part.
 pub fn payload(input: &[u8], place: usize, len: usize) -> &[u8]
-    ensures result_value { result.now ≡ part_of input.now place len }
+    ensures is { result.now ≡ part_of input.now place len }
     ensures lies { result.ref_ptr ≡ further input.entry.ref_ptr (part_at input.now place len) }
 {
     text::part(input, place, len)

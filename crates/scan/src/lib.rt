@@ -279,8 +279,8 @@ fn leaves(q: usize, s: &[u8], i: usize) -> bool {
 
 // The findings of f carried on over the rest of s, by the table.
 fn walk(f: Findings, s: &[u8], rows: &[[u8; 32]; 98]) -> Findings
-    requires rows_value { rows.now ≡ table }
-    requires state_bound { (f.state < 98) × (f.seen ≤ length s.now) }
+    requires is_table { rows.now ≡ table }
+    requires within { (f.state < 98) × (f.seen ≤ length s.now) }
     ensures { result ≡ run f (drop f.seen s.now) }
 {
     let mut ends = f.ends;

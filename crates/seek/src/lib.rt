@@ -26,9 +26,9 @@ fn hit(s: &[u8], at: usize, b: u8, to: usize, c: u8, n: usize) -> bool
 
 // A later place with the same answer: past the blocks of n places, up to the place e, none of which has t's bytes k and l.
 fn pass(s: &[u8], from: usize, e: usize, t: &[u8], k: usize, l: usize, n: usize) -> usize
-    requires k_in_bounds { (k < length t.now) × (l < length t.now) }
-    requires from_le_e { (from ≤ e) × (e + length t.now ≤ length s.now + 1) }
-    requires n_nonzero { 0 < n }
+    requires inside { (k < length t.now) × (l < length t.now) }
+    requires between { (from ≤ e) × (e + length t.now ≤ length s.now + 1) }
+    requires some { 0 < n }
     ensures { Later (find_in t.now s.now) from e result }
 {
     let mut i = from;
@@ -54,8 +54,8 @@ fn holds(s: &[u8], p: usize, t: &[u8], k: usize) -> bool
 
 // The first place from `from` on and before e where t stands, one by one.
 fn find_upto(s: &[u8], from: usize, e: usize, t: &[u8], k: usize) -> Found
-    requires k_in_bounds { k < length t.now }
-    requires from_le_e { (from ≤ e) × (e + length t.now ≤ length s.now + 1) }
+    requires inside { k < length t.now }
+    requires between { (from ≤ e) × (e + length t.now ≤ length s.now + 1) }
     ensures { find_in t.now s.now from ≡ or_next result (find_in t.now s.now e) }
 {
     let mut p = from;
@@ -86,8 +86,8 @@ fn block_end(p: usize, e: usize) -> usize
 
 // By blocks, up to the end e of the places where t fits: over those without the two bytes, then one by one through a block that has them.
 fn find_long(s: &[u8], from: usize, e: usize, t: &[u8], k: usize, l: usize) -> Found
-    requires k_in_bounds { (k < length t.now) × (l < length t.now) }
-    requires from_le_e { (from ≤ e) × (e + length t.now ≡ length s.now + 1) }
+    requires inside { (k < length t.now) × (l < length t.now) }
+    requires between { (from ≤ e) × (e + length t.now ≡ length s.now + 1) }
     ensures { result ≡ find_in t.now s.now from }
 {
     let mut i = from;

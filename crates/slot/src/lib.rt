@@ -229,7 +229,7 @@ impl Slot {
     // The payload, or digits, of the answer that can be read, as a part of the caller's memory. A free slot gives the empty front part, and so does
     // a stored length past the memory. It hands no slot back: the caller's stands.
     pub fn payload(self, mem: &[u8]) -> &[u8]
-        ensures result_value { result.now ≡ part_of mem.now 0 (readable self) }
+        ensures is { result.now ≡ part_of mem.now 0 (readable self) }
         ensures lies { result.ref_ptr ≡ further mem.entry.ref_ptr (part_at mem.now 0 (readable self)) }
     {
         text::part(mem, 0, self.readable())

@@ -209,7 +209,7 @@ pub fn find(s: &[u8], from: usize, t: &[u8]) -> Found
 // The part of s that starts at `place` and is `len` bytes long, in the caller's own memory.
 // A place and length that don't fit give the empty front part.
 pub fn part(s: &[u8], place: usize, len: usize) -> &[u8]
-    ensures result_value { result.now ≡ part_of s.now place len }
+    ensures is { result.now ≡ part_of s.now place len }
     ensures lies { result.ref_ptr ≡ further s.entry.ref_ptr (part_at s.now place len) }
 {
     if s.len() < place {

@@ -4,4 +4,4 @@ use Rattle.gateway.proofs.wx_payload.Goals as goal
 
 pub returns : goal.returns
 returns c =
-    part_is c.args.input.now c.args.out.now c.args.place c.args.len _ c.payload-n.ensures.result_value _ c.fitted.ensures
+    part_is c.args.input.now c.args.out.now c.args.place c.args.len _ c.payload-n.ensures.is _ c.fitted.ensures

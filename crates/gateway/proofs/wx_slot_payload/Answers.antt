@@ -4,4 +4,4 @@ use Rattle.gateway.proofs.wx_slot_payload.Goals as goal
 
 pub returns : goal.returns
 returns c =
-    slot_part c.args.state.now c.args.mem.now c.args.out.now _ c.slot_of-slot.ensures _ c.payload-n.ensures.result_value
+    slot_part c.args.state.now c.args.mem.now c.args.out.now _ c.slot_of-slot.ensures _ c.payload-n.ensures.is

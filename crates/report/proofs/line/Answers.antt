@@ -9,8 +9,8 @@ returns-then-not-is_found c =
 
 pub value-valued-requires : goal.value-valued-requires
 value-valued-requires c =
-    value_room c.args.a c.args.s.now c.args.out.now c.args.at (c.requires) _ _ c.decimal-counted.ensures c.decimal-counted.auto.out _ _ c.name-named.ensures c.name-named.auto.out _ c.carried-part.ensures _ c.payload-p.ensures.result_value
+    value_room c.args.a c.args.s.now c.args.out.now c.args.at (c.requires) _ _ c.decimal-counted.ensures c.decimal-counted.auto.out _ _ c.name-named.ensures c.name-named.auto.out _ c.carried-part.ensures _ c.payload-p.ensures.is
 
 pub returns : goal.returns
 returns c =
-    line_some c.args.a c.args.s.now c.args.out.now c.args.at (c.requires) _ _ c.decimal-counted.ensures c.decimal-counted.auto.out _ _ c.name-named.ensures c.name-named.auto.out _ c.carried-part.ensures _ c.payload-p.ensures.result_value _ _ c.value-valued.ensures c.value-valued.auto.out (sym c.is_found.ensures ∙ c.if-not-is_found.false) _ c.words.ensures
+    line_some c.args.a c.args.s.now c.args.out.now c.args.at (c.requires) _ _ c.decimal-counted.ensures c.decimal-counted.auto.out _ _ c.name-named.ensures c.name-named.auto.out _ c.carried-part.ensures _ c.payload-p.ensures.is _ _ c.value-valued.ensures c.value-valued.auto.out (sym c.is_found.ensures ∙ c.if-not-is_found.false) _ c.words.ensures

@@ -6,7 +6,7 @@ use Rattle.scan.proofs.walk.Goals as goal
 
 pub loop-i-init : goal.loop-i-init
 loop-i-init c =
-    going_starts c.args.f c.args.s.now c.requires.state_bound.0 c.requires.state_bound.1
+    going_starts c.args.f c.args.s.now c.requires.within.0 c.requires.within.1
 
 pub ahead-p-requires : goal.ahead-p-requires
 ahead-p-requires c = c.loop-i.invariant.within
@@ -27,7 +27,7 @@ pub finish-requires : goal.finish-requires
 finish-requires c = c.loop-i-2.invariant.1.range
 
 pub step-q-requires : goal.step-q-requires
-step-q-requires c = (c.requires.rows_value, c.loop-i-2.invariant.1.range)
+step-q-requires c = (c.requires.is_table, c.loop-i-2.invariant.1.range)
 
 pub loop-i-smaller : goal.loop-i-smaller
 loop-i-smaller c = omega (arith, c.ahead-p.ensures.after, c.loop-i-2.invariant.0)

@@ -8,6 +8,6 @@ pub walk-requires : goal.walk-requires
 unfolding table
 walk-requires c =
     record {
-      rows_value = refl;
-      state_bound = search rules;
+      is_table = refl;
+      within = search rules;
     }

@@ -21,8 +21,8 @@ returns-then-e-from c =
 pub find_long-requires : goal.find_long-requires
 find_long-requires c =
     record {
-      k_in_bounds = (omega arith, omega arith);
-      from_le_e = (omega arith, omega arith);
+      inside = (omega arith, omega arith);
+      between = (omega arith, omega arith);
     }
 
 pub returns : goal.returns

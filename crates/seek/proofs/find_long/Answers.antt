@@ -12,17 +12,17 @@ loop-i-init c = (omega arith, refl)
 pub pass-past-requires : goal.pass-past-requires
 pass-past-requires c =
     record {
-      k_in_bounds = (omega arith, omega arith);
-      from_le_e = (omega arith, omega arith);
-      n_nonzero = omega arith;
+      inside = (omega arith, omega arith);
+      between = (omega arith, omega arith);
+      some = omega arith;
     }
 
 pub pass-p-requires : goal.pass-p-requires
 pass-p-requires c =
     record {
-      k_in_bounds = (omega arith, omega arith);
-      from_le_e = (omega (arith, c.pass-past.ensures.within), omega arith);
-      n_nonzero = omega arith;
+      inside = (omega arith, omega arith);
+      between = (omega (arith, c.pass-past.ensures.within), omega arith);
+      some = omega arith;
     }
 
 pub block_end-end-requires : goal.block_end-end-requires
@@ -31,8 +31,8 @@ block_end-end-requires c = omega (arith, c.pass-p.ensures.within)
 pub find_upto-requires : goal.find_upto-requires
 find_upto-requires c =
     record {
-      k_in_bounds = omega arith;
-      from_le_e = (omega (arith, c.pass-p.ensures.within, c.block_end-end.ensures), omega (arith, c.block_end-end.ensures));
+      inside = omega arith;
+      between = (omega (arith, c.pass-p.ensures.within, c.block_end-end.ensures), omega (arith, c.block_end-end.ensures));
     }
 
 pub returns-in-At : goal.returns-in-At

@@ -8,20 +8,20 @@ use Rattle.text.proofs.part.Goals as goal
 pub returns-then-s-place : goal.returns-then-s-place
 returns-then-s-place c =
     record {
-      result_value = part_none c.args.s.now c.args.place c.args.len (omega arith);
+      is = part_none c.args.s.now c.args.place c.args.len (omega arith);
       lies = part_front c.args.s.now c.args.place c.args.len c.args.s.ref_ptr (omega arith);
     }
 
 pub returns-then-s-place-2 : goal.returns-then-s-place-2
 returns-then-s-place-2 c =
     record {
-      result_value = part_none c.args.s.now c.args.place c.args.len (omega arith);
+      is = part_none c.args.s.now c.args.place c.args.len (omega arith);
       lies = part_front c.args.s.now c.args.place c.args.len c.args.s.ref_ptr (omega arith);
     }
 
 pub returns : goal.returns
 returns c =
     record {
-      result_value = let e : c.args.place + c.args.len - c.args.place ≡ c.args.len = omega arith in rw e (part_is c.args.s.now c.args.place c.args.len (omega arith));
+      is = let e : c.args.place + c.args.len - c.args.place ≡ c.args.len = omega arith in rw e (part_is c.args.s.now c.args.place c.args.len (omega arith));
       lies = part_on c.args.s.now c.args.place c.args.len c.args.s.ref_ptr (omega arith);
     }

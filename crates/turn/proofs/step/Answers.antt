@@ -24,8 +24,8 @@ overflow_sub-end c =
 
 pub returns-in-Waits : goal.returns-in-Waits
 returns-in-Waits c =
-    step_full (choice c.args.selector c.args.table.now) c.args.state c.args.buf.now c.args.slot_mem.now c.args.queue_mem.now _ c.fitting-end.ensures _ c.digest_unchecked-a.ensures _ c.carried-part.ensures _ c.payload-p.ensures.result_value _ _ _ c.deliver.ensures c.in-Waits.is
+    step_full (choice c.args.selector c.args.table.now) c.args.state c.args.buf.now c.args.slot_mem.now c.args.queue_mem.now _ c.fitting-end.ensures _ c.digest_unchecked-a.ensures _ c.carried-part.ensures _ c.payload-p.ensures.is _ _ _ c.deliver.ensures c.in-Waits.is
 
 pub returns-in-Is : goal.returns-in-Is
 returns-in-Is c =
-    step_is (choice c.args.selector c.args.table.now) c.args.state c.args.buf.now c.args.slot_mem.now c.args.queue_mem.now _ c.fitting-end.ensures _ c.digest_unchecked-a.ensures _ c.carried-part.ensures _ c.payload-p.ensures.result_value _ _ _ c.deliver.ensures _ c.in-Is.is _ c.move_down.ensures _ c.with_end.ensures
+    step_is (choice c.args.selector c.args.table.now) c.args.state c.args.buf.now c.args.slot_mem.now c.args.queue_mem.now _ c.fitting-end.ensures _ c.digest_unchecked-a.ensures _ c.carried-part.ensures _ c.payload-p.ensures.is _ _ _ c.deliver.ensures _ c.in-Is.is _ c.move_down.ensures _ c.with_end.ensures

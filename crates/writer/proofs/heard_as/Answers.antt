@@ -18,8 +18,8 @@ returns-then-not-gives c =
 
 pub returns-then-not-same : goal.returns-then-not-same
 returns-then-not-same c =
-    other_payload c.args.kind c.args.number c.args.payload.now c.args.bytes.now c.args.a (sym c.is_found.ensures ∙ c.if-not-is_found.false) (sym c.kind_number.ensures ∙ c.if-kind_number.false ∙ c.kind_number-2.ensures) (sym c.gives.ensures ∙ c.if-not-gives.false) (ap (same c.args.payload.now) (sym c.payload.ensures.result_value) ∙ sym c.same.ensures ∙ c.if-not-same.true)
+    other_payload c.args.kind c.args.number c.args.payload.now c.args.bytes.now c.args.a (sym c.is_found.ensures ∙ c.if-not-is_found.false) (sym c.kind_number.ensures ∙ c.if-kind_number.false ∙ c.kind_number-2.ensures) (sym c.gives.ensures ∙ c.if-not-gives.false) (ap (same c.args.payload.now) (sym c.payload.ensures.is) ∙ sym c.same.ensures ∙ c.if-not-same.true)
 
 pub returns : goal.returns
 returns c =
-    whole_if c.args.kind c.args.number c.args.payload.now c.args.bytes.now c.args.a (sym c.is_found.ensures ∙ c.if-not-is_found.false) (sym c.kind_number.ensures ∙ c.if-kind_number.false ∙ c.kind_number-2.ensures) (sym c.gives.ensures ∙ c.if-not-gives.false) (ap (same c.args.payload.now) (sym c.payload.ensures.result_value) ∙ sym c.same.ensures ∙ c.if-not-same.false)
+    whole_if c.args.kind c.args.number c.args.payload.now c.args.bytes.now c.args.a (sym c.is_found.ensures ∙ c.if-not-is_found.false) (sym c.kind_number.ensures ∙ c.if-kind_number.false ∙ c.kind_number-2.ensures) (sym c.gives.ensures ∙ c.if-not-gives.false) (ap (same c.args.payload.now) (sym c.payload.ensures.is) ∙ sym c.same.ensures ∙ c.if-not-same.false)

@@ -19,6 +19,6 @@ slice_bounds-part-end c = sym (ink_length _ _ _ _ _ c.put_answer-n.ensures)
 pub returns : goal.returns
 returns c =
     say_laid c.args.table.now c.args.kind c.args.number c.args.payload.now c.args.out.now _ (ap outcome (sym c.in_default.is) ∙ c.check.ensures) _
-    (c.part-bytes.ensures.result_value ∙ written_part c.args.kind c.args.number c.args.payload.now (omega (arith, c.if-payload-gt-LONGEST.false)) _ _ _ refl c.put_answer-n.ensures) _
+    (c.part-bytes.ensures.is ∙ written_part c.args.kind c.args.number c.args.payload.now (omega (arith, c.if-payload-gt-LONGEST.false)) _ _ _ refl c.put_answer-n.ensures) _
     c.heard_in-read.ensures _
     c.lay_out.ensures
