@@ -1,5 +1,5 @@
 -- A client's calls with findings, each starting from the state, memories and findings that the last one left: with genuine findings they are the ingress's calls.
--- So what is told of those, that no byte is lost and no notice delivered twice (`winter`) and what goes on after refusal 5 (`goes_on_lem`), is told of these.
+-- So what is told of those, that no byte is lost and no notice delivered twice (`winter`) and what goes on after refusal 5 (`goes_on`), is told of these.
 use Rattle.std.specs.Prelude.{◌≡◌, Bool, ℕ, ◌+◌}
 use Rattle.std.proofs.Math.Path.{refl, ap}
 use Rattle.std.proofs.Common.{sym, ◌∙◌, inl, arith}

@@ -173,8 +173,8 @@ module _ (c : Choice) (w : World) (z : Waits c w) (q : Queue) (n : Notice) (e : 
       ∙ (λ j. run c (with_state w (with_end with_room.state (i j))))
       ∙ at_run c 0 with_room (passes c with_room room_good) (omega arith)
 
-  pub goes_on_lem : GoesOn c w q
-  goes_on_lem =
+  pub goes_on : GoesOn c w q
+  goes_on =
       let y = room_waits z in
       let d = run_ends c (next c with_room) (next_good c with_room room_good room_goes) in
       let p = turned_payload c with_room (stretch_of c with_room) (next c with_room) room_turn y.0 in

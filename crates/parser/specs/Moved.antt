@@ -4,7 +4,7 @@ use Rattle.std.proofs.Math.Path.{refl}
 use Rattle.std.proofs.Common.{sym, ap, ◌∙◌, ⊎_elim, add-zero, arith, length-drop, drop-drop, lt-ltb, le-ltb}
 use Rattle.text.specs.Bytes.{bytes}
 use Rattle.text.specs.Logic.{order, leb_shift}
-use Rattle.text.specs.Text.{blanks, is_blank, past, keep, stands, find_in}
+use Rattle.text.specs.Text.{is_blank, past, keep, stands, find_in}
 use Rattle.text.specs.Laws.{find_drop, moved, stands_drop, past_drop}
 use Rattle.text.specs.declared.Blanks.TheVariants as blanks
 use Rattle.text.specs.declared.Found.{Found}

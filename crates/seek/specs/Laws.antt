@@ -1,6 +1,6 @@
 -- What lets a search pass over a block: where two of its bytes don't stand, or all bytes are above it, a text doesn't; and the skip, where all are spaces.
 -- Rests on text's laws of `stands` and `find_in`, and its steps of `past`.
-use Rattle.std.specs.Prelude.{◌≡◌, refl, ◌⊎◌, Bool, true, ◌||◌, List, [], ◌∷◌, length, leb}
+use Rattle.std.specs.Prelude.{◌≡◌, refl, Bool, true, ◌||◌, List, [], ◌∷◌, length, leb}
 use Rattle.std.proofs.Math.Path.{sym, ap}
 use Rattle.std.proofs.Common.{◌∙◌, inl, inr, ⊎_elim, add-zero, drop-cons}
 use Rattle.std.proofs.Math.Bool.{false}

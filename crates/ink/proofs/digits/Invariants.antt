@@ -1,4 +1,3 @@
-use Prim.Native.Nat.{◌-◌}
 use Rattle.ink.specs.Laws.{Counting}
 use Rattle.ink.proofs.digits.Given as goal
 

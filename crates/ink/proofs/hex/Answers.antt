@@ -1,5 +1,4 @@
 -- `hex` meets its contract: two digits more for each byte. The measure is what is left of the bytes.
-use Prim.Native.Nat.{◌-◌}
 use Rattle.ink.specs.Laws.{hex_over, hexing_start, hexing_more, hexing_end}
 use native.Mathlib.Omega.{arith}
 use Rattle.ink.proofs.hex.Goals as goal

@@ -1,7 +1,7 @@
 -- `put` meets its contract: so far the memory is the old one with i bytes of p over it. The measure is what is left of p.
 use mathlib.Core.Path.{◌≡◌, refl, ap, ◌∙◌}
 use mathlib.Core.List.{List}
-use Prim.Native.Nat.{ℕ, ◌+◌, ◌-◌}
+use Prim.Native.Nat.{ℕ, ◌+◌}
 use lib.ListN.{length, get_or, set}
 use lib.Seq.{paste, paste-zero, length-paste}
 use Rattle.moves.specs.Laws.{put_none, put_all, paste_more}

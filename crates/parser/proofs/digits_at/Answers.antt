@@ -1,6 +1,5 @@
 -- `digits_at` meets its contract: the run from `from` on is the run from i on, with the value so far, beside which its double is kept. The measure is what is left of buf.
 use mathlib.Core.Path.{refl, sym, ◌∙◌}
-use Prim.Native.Nat.{◌-◌}
 use Rattle.parser.specs.declared.Run.TheVariants.{Value, TooLarge}
 use Rattle.parser.specs.Laws.{sofar_none, run_end, run_stop, run_large, run_more, digit_bounds}
 use native.Mathlib.Omega.{arith}

@@ -1,6 +1,5 @@
 -- `find_custom` meets its contract: the first place from `from` on is the first from `place` on, and past the end there is none. The measure is what is left of buf.
 use mathlib.Core.Path.{sym, ◌∙◌}
-use Prim.Native.Nat.{◌-◌}
 use Rattle.text.specs.Steps.{find_here, find_next, find_end}
 use Rattle.parser.specs.Laws.{line_past}
 use Rattle.parser.proofs.find_custom.Goals as goal

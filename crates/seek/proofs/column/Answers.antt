@@ -1,6 +1,6 @@
 -- `column` meets its contract: no byte of the first i rows is below m. The measure is the rows left.
 use mathlib.Core.Path.{◌≡◌, ap, ◌∙◌}
-use Prim.Native.Nat.{ℕ, ◌+◌, ◌*◌, ◌-◌}
+use Prim.Native.Nat.{ℕ, ◌+◌, ◌*◌}
 use native.Mathlib.Omega.{arith}
 use lib.ListN.{get_or}
 use Rattle.seek.specs.Laws.{one_more_lem}

@@ -2,7 +2,6 @@
 use Rattle.seek.specs.Laws.{byte_here, byte_not}
 use Rattle.text.specs.Laws.{find_late}
 use native.Mathlib.Omega.{arith}
-use Prim.Native.Nat.{◌-◌}
 use mathlib.Core.List.{[], ◌∷◌}
 use mathlib.Core.Path.{sym, ◌∙◌}
 use Rattle.seek.proofs.find_byte.Goals as goal

@@ -1,6 +1,5 @@
 -- `find_long` meets its contract: the first place from `from` on is the first from i on; each turn ends behind the block it looked through. The measure is the places left.
 use mathlib.Core.Path.{refl, sym, ◌∙◌}
-use Prim.Native.Nat.{◌-◌}
 use native.Mathlib.Omega.{arith}
 use Rattle.text.specs.Laws.{find_late}
 use Rattle.seek.specs.Laws.{turn_found, turn_none}

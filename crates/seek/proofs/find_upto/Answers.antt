@@ -1,6 +1,5 @@
 -- `find_upto` meets its contract: the first place from `from` on is the first from p on. The measure is the places left.
 use mathlib.Core.Path.{◌≡◌, refl, sym, ap, ◌∙◌}
-use Prim.Native.Nat.{◌-◌}
 use native.Mathlib.Omega.{arith}
 use Rattle.seek.specs.Seek.{or_next}
 use Rattle.text.specs.Steps.{find_here, find_next}

@@ -1,5 +1,4 @@
 -- `first` meets its contract, which is its invariant over the bytes so far. The measure is those left.
-use Prim.Native.Nat.{◌-◌}
 use native.Mathlib.Omega.{arith}
 use mathlib.Core.Path.{◌≡◌}
 use Rattle.seek.specs.Laws.{first_start, first_more, less_most}

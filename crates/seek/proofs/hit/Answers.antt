@@ -1,6 +1,5 @@
 -- `hit` meets its contract: what was met so far is what the first j have. The measure is what is left of n.
 use mathlib.Core.Path.{◌≡◌, refl, ap, ◌∙◌}
-use Prim.Native.Nat.{◌-◌}
 use native.Mathlib.Numerals.{add-one}
 use native.Mathlib.Omega.{arith}
 use Rattle.seek.specs.Seek.{both_at, any_of}

@@ -1,5 +1,4 @@
 -- `low` meets its contract: where no column so far was low, the first j are above a CR. The measure is the columns left.
-use Prim.Native.Nat.{◌-◌}
 use native.Mathlib.Omega.{arith}
 use Rattle.seek.specs.Laws.{column_more, columns_above}
 use Rattle.seek.proofs.low.Goals as goal

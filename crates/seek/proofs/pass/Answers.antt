@@ -1,6 +1,5 @@
 -- `pass` meets its contract, which is its invariant; a block without the two bytes is passed over by `block_none`. The measure is the places left.
 use mathlib.Core.Path.{refl, sym, ◌∙◌}
-use Prim.Native.Nat.{◌-◌}
 use native.Mathlib.Omega.{arith}
 use Rattle.seek.specs.Laws.{block_none}
 use Rattle.seek.proofs.pass.Goals as goal

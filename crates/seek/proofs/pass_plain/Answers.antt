@@ -1,6 +1,5 @@
 -- `pass_plain` meets its contract, which is its invariant; a block with nothing as low as a CR is passed over by `above_none`. The measure is the bytes left.
 use mathlib.Core.Path.{refl, ◌∙◌}
-use Prim.Native.Nat.{◌-◌}
 use native.Mathlib.Omega.{arith}
 use Rattle.seek.specs.Laws.{above_none}
 use Rattle.seek.proofs.pass_plain.Goals as goal

@@ -1,6 +1,5 @@
 -- `pass_spaces` meets its contract: the spaces from `from` on end where those from i on do. The measure is the bytes left.
 use mathlib.Core.Path.{refl, sym, ◌∙◌}
-use Prim.Native.Nat.{◌-◌}
 use native.Mathlib.Omega.{arith}
 use Rattle.seek.specs.Laws.{spaces_all}
 use Rattle.seek.proofs.pass_spaces.Goals as goal

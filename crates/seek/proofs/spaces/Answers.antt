@@ -1,6 +1,5 @@
 -- `spaces` meets its contract: what was gathered so far is what the first j are. The measure is what is left of n.
 use mathlib.Core.Path.{◌≡◌, refl, ap, ◌∙◌}
-use Prim.Native.Nat.{◌-◌}
 use native.Mathlib.Numerals.{add-one}
 use native.Mathlib.Omega.{arith}
 use Rattle.seek.specs.Seek.{space_at, all_of}

@@ -1,5 +1,4 @@
 -- `check` meets its contract: the ruling on the table is the ruling on what is left of it, n records on. The measure is the records that may still come.
-use Prim.Native.Nat.{◌-◌}
 use Rattle.table.specs.Laws.{counting_none, check_end, check_faulty, check_more, check_full, check_over, good_record_inside}
 use native.Mathlib.Omega.{arith}
 use Rattle.table.proofs.check.Goals as goal

@@ -1,5 +1,4 @@
 -- `next_of` meets its contract: what is sought from `at` on is sought from `place` on. The measure is the records that may still come.
-use Prim.Native.Nat.{◌-◌}
 use Rattle.table.specs.Laws.{next_over, next_end, next_faulty, next_is, next_more, record_inside}
 use native.Mathlib.Omega.{arith}
 use Rattle.table.proofs.next_of.Goals as goal

@@ -1,6 +1,6 @@
 -- `part_plain` meets its contract: what was gathered is whether the first j bytes of the part are plain. The measure is what is left of w.
 use mathlib.Core.Path.{◌≡◌, refl, ap, ◌∙◌}
-use Prim.Native.Nat.{ℕ, ◌-◌}
+use Prim.Native.Nat.{ℕ}
 use native.Mathlib.Omega.{arith}
 use lib.ListN.{take, drop}
 use Rattle.table.specs.Table.{is_plain, all_plain}

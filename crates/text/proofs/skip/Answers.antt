@@ -1,7 +1,5 @@
 -- `skip` meets its contract: the answer from `from` on is the answer from `place` on. The measure is what is left of s.
 use mathlib.Core.Path.{sym, ◌∙◌}
-use Prim.Native.Nat.{◌-◌}
-use Rattle.text.specs.Text.{is_blank}
 use Rattle.text.specs.Steps.{past_more, past_stop, past_end}
 use Rattle.text.proofs.skip.Goals as goal
 

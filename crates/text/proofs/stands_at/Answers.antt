@@ -1,6 +1,6 @@
 -- `stands_at` meets its contract: whether t stands at `at` is whether its rest from k on stands k further on. The measure is what is left of t.
 use mathlib.Core.Path.{sym, ◌∙◌}
-use Prim.Native.Nat.{◌+◌, ◌-◌}
+use Prim.Native.Nat.{◌+◌}
 use lib.ListN.{drop}
 use borrow.Author.Tests.{eqb-true, eqb-false}
 use Rattle.text.specs.Text.{stands}
