@@ -1,3 +1,4 @@
+mod Examples
 mod Before
 mod Determined
 mod Without

@@ -29,24 +29,24 @@ pub record Said : Type 0 where
   pub payload : List ℕ
   pub consumed : ℕ
 
-abbrev said : List ℕ → Answer → Said
+abbrev pub said : List ℕ → Answer → Said
 said s a = record { kind = a.kind; number = number_of a; payload = part_of s a.place a.len; consumed = a.consumed }
 
 abbrev pub said_of : List ℕ → Outcome Answer → Outcome Said
 said_of s (answered a) = answered (said s a)
 said_of s (refused n values) = refused n values
 
-abbrev given : Known → Outcome Said
+abbrev pub given : Known → Outcome Said
 given x = said_of (bytes x.input) (digest digester.Verbose x.table (bytes x.input))
 
-abbrev expected : Known → Outcome Said
+abbrev pub expected : Known → Outcome Said
 expected x = answered (record { kind = x.kind; number = x.number; payload = bytes x.payload; consumed = x.consumed })
 
-abbrev known : List ℕ → String → Kind → Number → String → ℕ → Known
+abbrev pub known : List ℕ → String → Kind → Number → String → ℕ → Known
 known t s k n p c = record { table = t; input = s; kind = k; number = n; payload = p; consumed = c }
 
 -- `UR` +UUSORD
-abbrev uusord : List ℕ
+abbrev pub uusord : List ℕ
 uusord = bytes "UR\u{7}+UUSORD"
 
 abbrev pub examples : List Known
@@ -65,7 +65,3 @@ examples =
     ∷ known uusord "\r\nRING\r\n\r\n+UUSORD: 0,4\r\n" Notice (number 0) "+UUSORD: 0,4" 24
     ∷ known uusord "\r\n+UUSO" None none "" 0
     ∷ []
-
-pub all_known : map given examples ≡ map expected examples
-unfolding digest trimmed_part is_blank past keep trimmed stands find_in part_of ruling tokens of_mark numeric_error prompt_from custom_prompt notice_at
-all_known = refl

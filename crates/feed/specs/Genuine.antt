@@ -16,7 +16,7 @@ use Rattle.answers.specs.declared.Answer.{Answer}
 use Rattle.answers.specs.Answer.{is_notice, nothing}
 use Rattle.findings.specs.declared.Findings.{Findings}
 use Rattle.findings.specs.Findings.{findings_in, numbers_of, findings_of, extended}
-use Rattle.findings.specs.Laws.{extended_findings, numbers_back}
+use Rattle.findings.proofs.Laws.{extended_findings, numbers_back}
 use Rattle.selector.specs.Selector.{Choice}
 use Rattle.turn.specs.Turn.{is_refused, World, held, says, delivering, went, once}
 use Rattle.turn.specs.Says.{held_long, says_answers, says_within}

@@ -1,3 +1,2 @@
 pub mod Findings
 pub mod Steps
-pub mod Laws

@@ -1,11 +1,11 @@
 -- The ways out of the items' functions, over plain lists, and what holds of a chain of rules.
-use Rattle.std.specs.Prelude.{◌≡◌, Bool, ◌&&◌, length, get_or, take, drop, leb}
+use Rattle.std.specs.Prelude.{◌≡◌, Bool, ◌&&◌, ◌||◌, length, get_or, take, drop, eqb, leb}
 use Rattle.std.proofs.Math.Path.{refl, sym, ap, ap₂}
 use Rattle.std.proofs.Common.{◌∙◌, arith, length-append, le-leb, leb-true}
 use Rattle.std.proofs.Math.Bool.{true, false}
 use mathlib.Core.List.{List, [], ◌∷◌}
 use Prim.Native.Nat.{ℕ, ◌+◌, ◌-◌, ◌≤◌, ◌<◌}
-use Rattle.std.proofs.lemmas.Bool.{lt-leb}
+use Rattle.std.proofs.lemmas.Bool.{lt-leb, eqb-false}
 use Rattle.outcome.specs.Outcome.{if◌then◌else◌}
 use Rattle.text.specs.Logic.{false_true, and_both}
 use Rattle.text.specs.Bytes.{bytes}
@@ -13,7 +13,7 @@ use Rattle.text.specs.Text.{stands, find_in}
 use Rattle.text.specs.Laws.{found_at, stands_fits}
 use Rattle.text.specs.declared.Found.{Found}
 use Rattle.text.specs.declared.Found.TheVariants.{At, Nothing}
-use Rattle.seek.specs.Laws.{byte_not}
+use Rattle.seek.specs.Laws.{or-false, byte_not}
 use Rattle.table.specs.Table.{token_of, Entry, entry_of, text_of, next_of, entries}
 use Rattle.table.specs.Laws.{next_nothing, next_first, entries_past, text_length, text_part}
 use Rattle.table.specs.declared.Mark.{Mark}
@@ -258,8 +258,13 @@ place_here first.Cms s e p k q = places.place_here s p fixed.Cms k q
 place_here first.Modem s e p k q = places.place_here s p fixed.Modem k q
 
 -- The ways out of `no_prompt`, of `nowhere`, and of `prompt_bytes` where neither byte is there.
-pub no_prompt_on : (s : List ℕ) (i : ℕ) → i < length s → leb 62 (get_or s i 0) && leb (get_or s i 0) 64 ≡ false → (find_in (bytes ">") s i ≡ find_in (bytes ">") s (i + 1)) × (find_in (bytes "@") s i ≡ find_in (bytes "@") s (i + 1))
-no_prompt_on s i h q = (byte_not 62 s i h (other 62 (omega arith) (omega arith)), byte_not 64 s i h (other 64 (omega arith) (omega arith)))
+pub no_prompt_on : (s : List ℕ) (i : ℕ) → i < length s → eqb (get_or s i 0) 62 || eqb (get_or s i 0) 64 ≡ false → (find_in (bytes ">") s i ≡ find_in (bytes ">") s (i + 1)) × (find_in (bytes "@") s i ≡ find_in (bytes "@") s (i + 1))
+no_prompt_on s i h q =
+    let w = or-false (eqb (get_or s i 0) 62) (eqb (get_or s i 0) 64) q in
+    (byte_not 62 s i h (eqb-false (get_or s i 0) 62 w.0), byte_not 64 s i h (eqb-false (get_or s i 0) 64 w.1))
+
+pub no_prompt_by : (s : List ℕ) (i : ℕ) → i < length s → leb 62 (get_or s i 0) && leb (get_or s i 0) 64 ≡ false → (find_in (bytes ">") s i ≡ find_in (bytes ">") s (i + 1)) × (find_in (bytes "@") s i ≡ find_in (bytes "@") s (i + 1))
+no_prompt_by s i h q = (byte_not 62 s i h (other 62 (omega arith) (omega arith)), byte_not 64 s i h (other 64 (omega arith) (omega arith)))
   where
     other : (b : ℕ) → 62 ≤ b → b ≤ 64 → get_or s i 0 ≡ b → ⊥
     other b l u e =

@@ -18,7 +18,7 @@ use Rattle.parser.specs.Parser.{is_digit, value}
 use Rattle.pieces.specs.declared.Kind.TheVariants as kinds
 use Rattle.lists.specs.declared.Plain.TheVariants as plain
 use Rattle.lists.specs.Grammar.{digits, is_number, empty, number, range, string, piece_word, word, made, elements, too_large, too_many, over}
-use Rattle.lists.specs.Scan.{at, start, low, dash, done, closed, behind, step, run, is_dead, rests, outside, final, many, limit, fault_in, stop, scan}
+use Rattle.lists.specs.Scan.{at, start, low, dash, done, closed, behind, step, is_dead, rests, outside, final, many, limit, fault_in, stop, scan}
 use Rattle.lists.specs.Ends.{is_number_lem, number_digits}
 use Rattle.lists.specs.Strings.{Closed, Breaks-off, no_owing}
 use Rattle.lists.specs.Shows.{large_fault, second_fault, large_there}

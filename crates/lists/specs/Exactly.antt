@@ -1,6 +1,6 @@
 -- The promise leaves one result: a payload is accepted with these elements exactly where it has a derivation within the limits that gives them, and refused
 -- exactly at its first fault.
-use Rattle.std.specs.Prelude.{◌≡◌, refl, ◌⊎◌, true, false, ℕ, suc, length, take}
+use Rattle.std.specs.Prelude.{◌≡◌, refl, true, false, ℕ, suc, length, take}
 use Rattle.std.proofs.Math.Path.{sym, ap}
 use Rattle.std.proofs.Common.{◌∙◌, subst, ⊎_elim, arith}
 use mathlib.Core.List.{List, [], append-nil}

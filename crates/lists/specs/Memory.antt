@@ -36,8 +36,8 @@ module _ (m : List ℕ) (es : List Element) (h : 6 * length es ≤ length m) (i 
       ∙ get_or-append (numbers es) (drop (0 + length (numbers es)) m) 0 (6 * i + k) (omega (arith, length_numbers es))
       ∙ number_back es i k g l
 
-  pub reads_back_lem : element_at (sets m 0 (numbers es)) i ≡ nth es i
-  reads_back_lem =
+  pub reads_back : element_at (sets m 0 (numbers es)) i ≡ nth es i
+  reads_back =
       let n : 6 * i ≡ 6 * i + 0 = omega arith in
       λ j.
       record {

@@ -9,7 +9,7 @@ use Rattle.outcome.specs.Laws.{ways}
 use Rattle.text.specs.Logic.{false_true, order}
 use Rattle.parser.specs.Parser.{is_digit, value}
 use Rattle.lists.specs.Grammar.{Derivation, list, word, Over, over, Begins}
-use Rattle.lists.specs.Scan.{State, at, dead, start, low, dash, high, done, text, step, run, is_dead, final, many, limit, fault_in, stop, told, scan}
+use Rattle.lists.specs.Scan.{State, at, dead, start, low, dash, high, done, text, step, run, is_dead, final, many, limit, fault_in, stop, scan}
 use Rattle.lists.specs.Places.{run_append, run_dead, stopped, Comes, there, before, comes, scan_stops}
 use Rattle.lists.specs.Ends.{ends, alive}
 use Rattle.lists.specs.Shows.{nothing, Shown, shown, UpTo, same_front, refused_there}

@@ -15,7 +15,7 @@ use Rattle.text.specs.Logic.{false_true, and_both}
 use Rattle.parser.specs.Parser.{is_digit, value}
 use Rattle.parser.specs.Laws.{digit_bounds, value_grows}
 use Rattle.lists.specs.Grammar.{digits, is_number, Symbol, Derivation, empty, number, range, string, bracket, spaced, one, more, word, elements, Over, too_deep, too_large, too_many, over}
-use Rattle.lists.specs.Scan.{State, at, start, dash, behind, step, run, is_dead, final, many, limit, fault_in}
+use Rattle.lists.specs.Scan.{State, at, start, dash, step, run, is_dead, final, many, limit, fault_in}
 use Rattle.lists.specs.Places.{run_append}
 use Rattle.lists.specs.Ends.{is_number_lem, number_digits, ends, run_number, run_spaces}
 

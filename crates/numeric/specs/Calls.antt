@@ -101,9 +101,9 @@ module _ (s : List ℕ) where
   unfolding said
   said_within p h = let f = code_fits s p h in payload_within (kind_of (get_or s p 0)) ring (along s p (get_or s p 0)) (p + 2) (length s) (along_within p (get_or s p 0) f) f
 
-  heard_of_lem : (r : Found) → LeastSays (code_at s) (length s) 0 r → Heard s (said_of s r)
+  heard_of : (r : Found) → LeastSays (code_at s) (length s) 0 r → Heard s (said_of s r)
   unfolding said_of
-  heard_of_lem (At p) w =
+  heard_of (At p) w =
       let c = w.here in
       let f = said_found p c in
       record {
@@ -114,7 +114,7 @@ module _ (s : List ℕ) where
         some = λ n. omega (arith, said_consumed p);
         within = omega (arith, said_consumed p, code_fits s p c);
       }
-  heard_of_lem Nothing w =
+  heard_of Nothing w =
       record {
         none = λ n p. none_of p;
         only = λ n. refl;
@@ -130,7 +130,7 @@ module _ (s : List ℕ) where
   -- demand 3, first half
   pub unchecked_heard : Heard s (digest_unchecked s)
   unfolding digest_unchecked
-  unchecked_heard = heard_of_lem (leftmost s) says
+  unchecked_heard = heard_of (leftmost s) says
 
   -- what is consumed lies in the input, and the payload in what is consumed
   inside_of : (r : Found) → LeastSays (code_at s) (length s) 0 r → Within (length s) (said_of s r)

@@ -1,1 +1,2 @@
+pub mod Clears
 mod Determined

@@ -24,7 +24,7 @@ use Rattle.lines.specs.declared.Fixed.{Fixed}
 use Rattle.lines.specs.declared.Fixed.TheVariants as fixed
 use Rattle.scan.specs.Words.{texts, text_of}
 use Rattle.scan.specs.Scan.{end_of}
-use Rattle.scan.specs.Theorem.{first_end, scanned_firsts}
+use Rattle.scan.proofs.Theorem.{first_end, scanned_firsts}
 use Rattle.findings.specs.Findings.{findings_of}
 use Rattle.answers.specs.Answer.{nothing}
 use Rattle.items.specs.Rules.{skipped, custom_prompts, heads}

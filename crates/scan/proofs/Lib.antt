@@ -1,1 +1,5 @@
+pub mod Rule
+pub mod Theorem
+pub mod Steps
+pub mod Laws
 mod Determined

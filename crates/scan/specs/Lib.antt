@@ -2,8 +2,4 @@ pub mod Words
 pub mod Table
 pub mod Scan
 pub mod Every
-pub mod Rule
 pub mod Beginnings
-pub mod Theorem
-pub mod Steps
-pub mod Laws

@@ -61,9 +61,13 @@ module _ (t s : List ℕ) (from i e w p stop : ℕ) (inv : find_in t s from ≡ 
   unfolding or_next
   turn_none e = up_to_block ∙ ap (λ (x : Found). or_next x (find_in t s stop)) e
 
--- one more row, where l is neither above its byte nor above what bounds those before it
-pub one_more_lem : (s : List ℕ) (a n m l : ℕ) → ColumnAbove s a n m → l ≤ m → l ≤ get_or s (a + n * 16) 0 → ColumnAbove s a (n + 1) l
+-- one more byte, where l is neither above it nor above what bounds those before it
+pub one_more_lem : (s : List ℕ) (a n m l : ℕ) → NoneBelow s a n m → l ≤ m → l ≤ get_or s (a + n) 0 → NoneBelow s a (n + 1) l
 one_more_lem s a n m l q h g = λ j w. ⊎_elim (λ (p : j < n). omega (arith, q j p)) (λ (p : n ≤ j). let e : j ≡ n = omega arith in rw e g) (order j n)
+
+-- one more row, where l is neither above its byte nor above what bounds those before it
+pub column_on : (s : List ℕ) (a n m l : ℕ) → ColumnAbove s a n m → l ≤ m → l ≤ get_or s (a + n * 16) 0 → ColumnAbove s a (n + 1) l
+column_on s a n m l q h g = λ j w. ⊎_elim (λ (p : j < n). omega (arith, q j p)) (λ (p : n ≤ j). let e : j ≡ n = omega arith in rw e g) (order j n)
 
 -- one more column, where no column was low and this one isn't
 pub column_more : (s : List ℕ) (a n : ℕ) (any : Bool) (m : ℕ) → (any ≡ false → (c : ℕ) → c < n → ColumnAbove s (a + c) 32 14) → ColumnAbove s (a + n) 32 m → any || leb m 13 ≡ false → (c : ℕ) → c < n + 1 → ColumnAbove s (a + c) 32 14

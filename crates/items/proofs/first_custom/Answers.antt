@@ -1,6 +1,5 @@
 -- `first_custom` meets its contract: the first of all the records is the first of those from `at` on. The measure is the records that may still come.
 use native.Mathlib.Omega.{arith}
-use Prim.Native.Nat.{◌-◌}
 use Rattle.items.specs.Laws.{next_room, custom_end, custom_hit, custom_more}
 use Rattle.items.proofs.first_custom.Goals as goal
 

@@ -1,6 +1,6 @@
 -- `firsts` meets its contract: all five idle, or prompts and then numeric errors.
 use mathlib.Core.Path.{◌∙◌}
-use Rattle.items.specs.Hints.{numerics, firsts}
+use Rattle.items.specs.Hints.{firsts}
 use Rattle.items.specs.Laws.{onward_hit, onward_miss, all_idle_lem}
 use Rattle.items.proofs.firsts.Goals as goal
 

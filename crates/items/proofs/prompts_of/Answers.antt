@@ -1,6 +1,5 @@
 -- `prompts_of` meets its contract: the rule on all the records is the rule on those from `at` on. The measure is the records that may still come.
 use native.Mathlib.Omega.{arith}
-use Prim.Native.Nat.{◌-◌}
 use Rattle.table.specs.declared.Mark.TheVariants as mark
 use Rattle.items.specs.Laws.{next_room, prompts_end, prompts_hit, prompts_more}
 use Rattle.items.proofs.prompts_of.Goals as goal

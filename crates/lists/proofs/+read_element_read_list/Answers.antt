@@ -1,7 +1,6 @@
 -- The list reader and the element reader meet their contracts: each way out is a law of Cycle. The measure is what is left of the payload, twice, so that a list
 -- stands above the element at its place.
 use mathlib.Core.Path.{sym, ◌∙◌}
-use Prim.Native.Nat.{◌-◌}
 use native.Mathlib.Omega.{arith}
 use Rattle.lists.specs.Calls.{told_byte}
 use Rattle.lists.specs.Cycle.{came_to, place_within, no_space, plain_element, too_deep_lem, too_late, inner_refused, inner_unclosed, inner_closed, head_refused, first, list_over, list_on}

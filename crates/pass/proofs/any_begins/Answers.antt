@@ -3,7 +3,6 @@ use Rattle.pass.specs.Begin.{begin_from}
 use Rattle.seek.specs.Seek.{any_of}
 use native.Mathlib.Omega.{arith}
 use native.Mathlib.Numerals.{add-one}
-use Prim.Native.Nat.{◌-◌}
 use mathlib.Core.Path.{◌≡◌, refl, ap, ◌∙◌}
 use Rattle.pass.proofs.any_begins.Goals as goal
 

@@ -1,6 +1,6 @@
 -- `begin` meets its contract: each way does, and a CRLF at which nothing may begin is passed over.
 use mathlib.Core.Path.{sym, ◌∙◌}
-use Rattle.pass.specs.Begin.{clear_here, clear_crlf}
+use Rattle.pass.proofs.Clears.{clear_here, clear_crlf}
 use Rattle.pass.proofs.begin.Goals as goal
 
 pub returns-then-s-from-lt-BLOCK_BYTES : goal.returns-then-s-from-lt-BLOCK_BYTES

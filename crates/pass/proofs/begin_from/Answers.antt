@@ -1,8 +1,7 @@
 -- `begin_from` meets its contract, which is its invariant: nothing begins before the next CR, nor in a block where nothing may. The measure is the places left.
-use Rattle.pass.specs.Begin.{clear_here, clear_join, clear_block, clear_none, cr_inside, clear_cr}
+use Rattle.pass.proofs.Clears.{clear_here, clear_join, clear_block, clear_none, cr_inside, clear_cr}
 use lib.ListN.{length}
 use native.Mathlib.Omega.{arith}
-use Prim.Native.Nat.{◌-◌}
 use mathlib.Core.Path.{sym, ◌∙◌}
 use Rattle.pass.proofs.begin_from.Goals as goal
 

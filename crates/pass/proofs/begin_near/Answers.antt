@@ -1,7 +1,7 @@
 -- `begin_near` meets its contract, which is its invariant: nothing begins before p. The measure is the places left.
-use Rattle.pass.specs.Begin.{clear_here, clear_join, clear_one, clear_end}
+use Rattle.pass.proofs.Clears.{clear_here, clear_join, clear_one, clear_end}
 use lib.ListN.{length}
-use Prim.Native.Nat.{◌+◌, ◌-◌}
+use Prim.Native.Nat.{◌+◌}
 use mathlib.Core.Path.{sym, ◌∙◌}
 use native.Mathlib.Omega.{arith}
 use Rattle.pass.proofs.begin_near.Goals as goal

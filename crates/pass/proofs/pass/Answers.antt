@@ -1,6 +1,6 @@
 -- `pass` meets its contract: by what may begin, and by what the table finds.
 use Rattle.pass.specs.Laws.{pass_none, pass_ok, pass_here, pass_room, pass_found, pass_others}
-use Rattle.pass.specs.Begin.{clear_here}
+use Rattle.pass.proofs.Clears.{clear_here}
 use native.Mathlib.Omega.{arith}
 use mathlib.Core.Path.{sym, ◌∙◌}
 use Rattle.pass.proofs.pass.Goals as goal

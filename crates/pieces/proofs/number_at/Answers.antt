@@ -1,6 +1,5 @@
 -- `number_at` meets its contract: the run from `from` on is the run from i on, with the value so far, beside which its double is kept. The measure is what is left of s.
 use mathlib.Core.Path.{refl, sym, ◌∙◌}
-use Prim.Native.Nat.{◌-◌}
 use Rattle.parser.specs.Laws.{sofar_none, run_end, run_stop, run_large, run_more, digit_bounds}
 use Rattle.pieces.specs.declared.Digits.TheVariants.{Value, TooLarge}
 use native.Mathlib.Omega.{arith}

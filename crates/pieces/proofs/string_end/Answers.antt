@@ -1,5 +1,4 @@
 -- `string_end` meets its contract: the string goes on at `from` as it does at i with what is owed there. The measure is what is left of s.
-use Prim.Native.Nat.{◌-◌}
 use Rattle.pieces.specs.Laws.{string_open, string_more, string_closed, string_broken}
 use Rattle.pieces.proofs.string_end.Goals as goal
 

@@ -1,7 +1,7 @@
 -- `ahead` meets its contract: in a state with a line open at once, else at the CR that was found, or at the end.
 use mathlib.Core.Path.{sym, ◌∙◌}
 use native.Mathlib.Omega.{arith}
-use Rattle.scan.specs.Steps.{ahead_here, ahead_at, ahead_end}
+use Rattle.scan.proofs.Steps.{ahead_here, ahead_at, ahead_end}
 use Rattle.scan.proofs.ahead.Goals as goal
 
 pub returns-then-q-ne0 : goal.returns-then-q-ne0

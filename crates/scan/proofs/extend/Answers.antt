@@ -1,6 +1,6 @@
 -- `extend` meets its contract: nothing to look at, nothing but plain bytes, or a walk.
 use native.Mathlib.Omega.{arith}
-use Rattle.scan.specs.Steps.{extend_none, extend_range, extend_plain, extend_walk}
+use Rattle.scan.proofs.Steps.{extend_none, extend_range, extend_plain, extend_walk}
 use Rattle.scan.proofs.extend.Goals as goal
 
 pub returns-then-s-f : goal.returns-then-s-f

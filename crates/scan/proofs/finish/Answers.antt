@@ -1,6 +1,6 @@
 -- `finish` meets its contract, a return for each kind of state.
 use native.Mathlib.Omega.{arith}
-use Rattle.scan.specs.Steps.{none_lacks, line_last, head_last, comes, misses}
+use Rattle.scan.proofs.Steps.{none_lacks, line_last, head_last, comes, misses}
 use Rattle.scan.proofs.finish.Goals as goal
 
 pub returns-then-q-lt-LACKING : goal.returns-then-q-lt-LACKING

@@ -1,6 +1,6 @@
 -- `note` meets its contract: noted, noted before, or no text.
 use native.Mathlib.Omega.{arith}
-use Rattle.scan.specs.Steps.{note_first, note_had, note_none}
+use Rattle.scan.proofs.Steps.{note_first, note_had, note_none}
 use Rattle.scan.proofs.note.Goals as goal
 
 pub returns-then-ends-k-eq0 : goal.returns-then-ends-k-eq0

@@ -1,5 +1,5 @@
 -- `scan` meets its contract: it carries on what is fresh, and by the theorem its ends are the texts' first.
-use Rattle.scan.specs.Steps.{scan_is}
+use Rattle.scan.proofs.Steps.{scan_is}
 use Rattle.scan.proofs.scan.Goals as goal
 
 pub returns : goal.returns

@@ -1,5 +1,5 @@
 -- `state_of` meets its contract.
-use Rattle.scan.specs.Steps.{state_in, state_out}
+use Rattle.scan.proofs.Steps.{state_in, state_out}
 use native.Mathlib.Omega.{arith}
 use Rattle.scan.proofs.state_of.Goals as goal
 

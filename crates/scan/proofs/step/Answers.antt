@@ -1,8 +1,8 @@
 -- `step` meets its contract: the entry that it reads is the one that `next` reads, a state.
 use mathlib.Core.Path.{refl}
 use native.Mathlib.Omega.{arith}
-use Rattle.scan.specs.Rule.{class_below, next_state}
-use Rattle.scan.specs.Steps.{step_is}
+use Rattle.scan.proofs.Rule.{class_below, next_state}
+use Rattle.scan.proofs.Steps.{step_is}
 use Rattle.scan.proofs.step.Goals as goal
 
 pub bounds-rows-c : goal.bounds-rows-c

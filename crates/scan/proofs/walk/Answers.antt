@@ -1,6 +1,6 @@
 -- `walk` meets its contract: both loops keep `Going`, the inner one from the place where it was entered. The measures are the bytes left.
 use native.Mathlib.Omega.{arith}
-use Rattle.scan.specs.Steps.{found, going_starts, going_ahead, going_join, going_next, going_end}
+use Rattle.scan.proofs.Steps.{found, going_starts, going_ahead, going_join, going_next, going_end}
 use Rattle.scan.proofs.walk.Goals as goal
 
 pub loop-i-init : goal.loop-i-init

@@ -1,6 +1,6 @@
 use Prim.Native.Nat.{◌≤◌, ◌-◌}
 use lib.ListN.{length}
-use Rattle.scan.specs.Steps.{found, Going}
+use Rattle.scan.proofs.Steps.{found, Going}
 use Rattle.scan.proofs.walk.Given as goal
 
 abbrev pub invariant-loop-i-2 : goal.invariant-loop-i-2

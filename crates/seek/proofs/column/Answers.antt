@@ -3,7 +3,7 @@ use mathlib.Core.Path.{◌≡◌, ap, ◌∙◌}
 use Prim.Native.Nat.{ℕ, ◌+◌, ◌*◌}
 use native.Mathlib.Omega.{arith}
 use lib.ListN.{get_or}
-use Rattle.seek.specs.Laws.{one_more_lem}
+use Rattle.seek.specs.Laws.{column_on}
 use Rattle.seek.proofs.column.Goals as goal
 use Rattle.seek.proofs.column.Goals.{then-s-p, else-s-p}
 
@@ -31,10 +31,10 @@ loop-i-preserved c =
     elim c.if-s-p.branch [
       | then-s-p w ↦
           let e : m ≡ get_or s (c.args.at + c.loop-i.i * 16) 0 = w.m-is ∙ here in
-          (omega arith, (omega (arith, c.loop-i.invariant.1.0), one_more_lem s c.args.at c.loop-i.i c.loop-i.m m c.loop-i.invariant.1.1 (omega (arith, w.if-s-p.true, e, here)) (omega (arith, e))))
+          (omega arith, (omega (arith, c.loop-i.invariant.1.0), column_on s c.args.at c.loop-i.i c.loop-i.m m c.loop-i.invariant.1.1 (omega (arith, w.if-s-p.true, e, here)) (omega (arith, e))))
       | else-s-p w ↦
           let e : m ≡ c.loop-i.m = w.m-is in
-          (omega arith, (omega (arith, c.loop-i.invariant.1.0), one_more_lem s c.args.at c.loop-i.i c.loop-i.m m c.loop-i.invariant.1.1 (omega (arith, e)) (omega (arith, w.if-s-p.false, e, here))))
+          (omega arith, (omega (arith, c.loop-i.invariant.1.0), column_on s c.args.at c.loop-i.i c.loop-i.m m c.loop-i.invariant.1.1 (omega (arith, e)) (omega (arith, w.if-s-p.false, e, here))))
     ]
 
 pub returns : goal.returns

@@ -18,8 +18,8 @@ use Rattle.text.specs.declared.Found.TheVariants.{At, Nothing}
 use Rattle.lines.specs.Lines.{fixed_text}
 use Rattle.lines.specs.declared.Fixed.TheVariants.{Na}
 use Rattle.scan.specs.Scan as scan
-use Rattle.scan.specs.Laws as scan-laws
-use Rattle.scan.specs.Theorem.{scanned_firsts}
+use Rattle.scan.proofs.Laws as scan-laws
+use Rattle.scan.proofs.Theorem.{scanned_firsts}
 use Rattle.scan.specs.Words.{texts}
 use Rattle.scan.specs.declared.Findings as found
 use Rattle.findings.specs.Findings.{not_lf, findings_of, na_from, na_end, last_end, texts_of, extended, ends_in, findings_in, numbers_of}

@@ -19,7 +19,7 @@ use Rattle.text.specs.declared.Found.{Found}
 use Rattle.text.specs.declared.Found.TheVariants.{At, Nothing}
 use Rattle.scan.specs.Words.{word, words, texts, longest, longest_of, text_of}
 use Rattle.scan.specs.Table.{finished}
-use Rattle.scan.specs.Rule.{rule, next_state}
+use Rattle.scan.proofs.Rule.{rule, next_state}
 use Rattle.scan.specs.Beginnings.{longest_step, EndsIn, finish_here, finish_only, text_some}
 use Rattle.scan.specs.Scan.{noted, read, run, fresh, scanned, end_of, first_ends}
 use Rattle.scan.specs.declared.Findings.{Findings}

@@ -6,9 +6,9 @@ use mathlib.Core.List.{List, [], ◌∷◌, ◌++◌}
 use Rattle.std.proofs.Math.ListN.{drop, length-drop}
 use Rattle.std.proofs.lemmas.List.{drop-append-le}
 use Rattle.std.proofs.Math.Seq.{drop-append_seam}
-use Rattle.scan.specs.Rule.{next_state}
+use Rattle.scan.proofs.Rule.{next_state}
 use Rattle.scan.specs.Scan.{read, run, state_of, extended, fresh, scanned}
-use Rattle.scan.specs.Steps.{found, state_in, state_range}
+use Rattle.scan.proofs.Steps.{found, state_in, state_range}
 use Rattle.scan.specs.declared.Findings.{Findings}
 
 -- the bytes in two pieces

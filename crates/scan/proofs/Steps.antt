@@ -11,9 +11,9 @@ use Rattle.text.specs.Text.{begins, stands, find_in}
 use Rattle.text.specs.Laws.{stands_byte, found_at, found_none}
 use Rattle.text.specs.declared.Found.TheVariants.{At, Nothing}
 use Rattle.scan.specs.Table.{class_of, table, next, last_of, finished}
-use Rattle.scan.specs.Rule.{next_state, start_stays}
+use Rattle.scan.proofs.Rule.{next_state, start_stays}
 use Rattle.scan.specs.Scan.{noted, read, run, state_of, extended, fresh, scanned, first_ends, Ahead}
-use Rattle.scan.specs.Theorem.{scanned_firsts}
+use Rattle.scan.proofs.Theorem.{scanned_firsts}
 use Rattle.scan.specs.declared.Findings.{Findings}
 
 -- the entry that is read
