@@ -1,12 +1,10 @@
 -- The known examples of document 01 that it marks P, as one statement over a list, by computation.
 -- An example gives the input, and the answer as 01 writes it: kind, number, payload, bytes consumed.
-use Rattle.std.specs.Prelude.{◌≡◌, refl, List, [], ◌∷◌, map, ℕ}
+use Rattle.std.specs.Prelude.{List, [], ◌∷◌, ℕ}
 use Prim.Native.String.{String}
 use Rattle.text.specs.Bytes.{bytes}
-use Rattle.text.specs.Text.{is_blank, past, keep, trimmed, trimmed_part, stands, find_in, part_of}
+use Rattle.text.specs.Text.{part_of}
 use Rattle.outcome.specs.Outcome.{Outcome, answered, refused}
-use Rattle.table.specs.Table.{ruling, tokens, of_mark}
-use Rattle.parser.specs.Parser.{numeric_error, prompt_from, custom_prompt, notice_at}
 use Rattle.lines.specs.declared.Digester.TheVariants as digester
 use Rattle.answers.specs.declared.Kind.{Kind}
 use Rattle.answers.specs.declared.Kind.TheVariants.{None, Ok, Prompt, Cme, Cms, NotAllowed, Notice}

@@ -17,16 +17,15 @@ use Rattle.table.specs.Table.{is_text, Token, Entry, of_mark}
 use Rattle.table.specs.Laws.{Texts, EntryTexts, mark_texts, text_some, text_byte}
 use Rattle.table.specs.declared.Mark.TheVariants as mark
 use Rattle.lines.specs.Lines.{crlf, fixed_text}
-use Rattle.parser.specs.Parser.{line_ending, custom_prompt, wrapped, breaks_off}
+use Rattle.parser.specs.Parser.{line_ending, wrapped, breaks_off}
 use Rattle.lines.specs.declared.Digester.{Digester}
 use Rattle.lines.specs.declared.Fixed.{Fixed}
 use Rattle.lines.specs.declared.Fixed.TheVariants as fixed
-use Rattle.parser.specs.declared.Notice.{Notice}
 use Rattle.answers.specs.declared.Answer.{Answer}
 use Rattle.items.specs.declared.Tried.{Tried}
 use Rattle.items.specs.declared.Tried.TheVariants as tries
 use Rattle.outcome.specs.Outcome.{if◌then◌else◌}
-use Rattle.items.specs.Rules.{or_else, custom_success, custom_error, heads}
+use Rattle.items.specs.Rules.{or_else, heads}
 use Rattle.items.specs.Laws.{wrapped_length}
 use Rattle.digest.specs.Finished.{Some, NoticeEnd, crlf_end, colon, NoticeEnded, Unfinished, NumericEnded, FirstAlone, EndsIn, nine, Line, TextLine, Item}
 use Rattle.digest.specs.Finished as items

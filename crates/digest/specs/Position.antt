@@ -23,7 +23,6 @@ use Rattle.outcome.specs.Outcome.{if◌then◌else◌}
 use Rattle.parser.specs.Parser.{only_blanks, prompt_from, custom_prompt, is_digit, value, run_at, ended_run, tail_at, numeric_at, line_ending, breaks_off, through, notice_text, notice_at}
 use Rattle.parser.specs.Laws.{text_broken, text_bare, text_through, notice_none, notice_is, digit_bounds, ending_fits}
 use Rattle.parser.specs.declared.Digits.{Digits}
-use Rattle.parser.specs.declared.Run.{Run}
 use Rattle.parser.specs.declared.Run.TheVariants.{Value, TooLarge}
 use Rattle.parser.specs.declared.Numeric.{Numeric}
 use Rattle.parser.specs.declared.Numeric.TheVariants as numeric

@@ -26,7 +26,7 @@ use Rattle.items.specs.declared.Tried.{Tried}
 use Rattle.items.specs.declared.Tried.TheVariants as tries
 use Rattle.answers.specs.declared.Answer.{Answer}
 use Rattle.answers.specs.Answer.{bare, with_digits}
-use Rattle.items.specs.Rules.{first_of, heard, notices, first_custom, kind_of, success, custom_success, line_success, through_crlf, connect_at, first_connect, connect_success, successes, prompt_tried, custom_prompts, prompts, custom_error, heads, numeric_tried, numeric_errors, error_lines, line_tried, line_errors, not_allowed, errors, tried}
+use Rattle.items.specs.Rules.{first_of, heard, notices, first_custom, kind_of, custom_success, line_success, through_crlf, connect_at, first_connect, connect_success, successes, prompt_tried, custom_prompts, prompts, custom_error, heads, numeric_tried, numeric_errors, error_lines, line_tried, line_errors, not_allowed, errors, tried}
 use Rattle.items.specs.Connect.{connect_bare, connect_text, connect_none}
 use Rattle.items.specs.Laws.{next_both, done_next}
 use Rattle.level.specs.Levels.{occurs_none, success_nowhere, error_nowhere, line_success_nowhere, line_nowhere, prompt_nowhere}

@@ -19,7 +19,6 @@ use Rattle.table.specs.Laws.{Texts, mark_texts}
 use Rattle.table.specs.declared.Mark.TheVariants as mark
 use Rattle.lines.specs.Lines.{crlf}
 use Rattle.lines.specs.declared.Digester.{Digester}
-use Rattle.parser.specs.declared.Notice.{Notice}
 use Rattle.answers.specs.declared.Answer.{Answer}
 use Rattle.items.specs.declared.Tried.{Tried}
 use Rattle.items.specs.declared.Tried.TheVariants as tries

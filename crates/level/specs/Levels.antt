@@ -12,7 +12,6 @@ use Rattle.text.specs.declared.Found.{Found}
 use Rattle.text.specs.declared.Found.TheVariants.{At, Nothing}
 use Rattle.table.specs.Table.{Token, Entry, of_mark, tokens, entries}
 use Rattle.table.specs.declared.Mark.TheVariants as mark
-use Rattle.table.specs.declared.Next.{Next}
 use Rattle.lines.specs.Lines.{fixed_text}
 use Rattle.lines.specs.declared.Digester.{Digester}
 use Rattle.lines.specs.declared.Fixed.{Fixed}
@@ -21,7 +20,6 @@ use Rattle.parser.specs.Parser.{prompt_from, custom_prompt, wrapped, at_found, n
 use Rattle.parser.specs.Moved.{prompt_moved, custom_moved, shift_numeric, numeric_moved_on}
 use Rattle.parser.specs.declared.Numeric.{Numeric}
 use Rattle.parser.specs.declared.Numeric.TheVariants as numeric
-use Rattle.parser.specs.declared.Notice.{Notice}
 use Rattle.places.specs.Places.{unsought}
 use Rattle.pass.specs.Pass.{first_places}
 use Rattle.places.specs.Laws.{sought_first}
@@ -35,7 +33,7 @@ use Rattle.items.specs.declared.First.TheVariants as first
 use Rattle.items.specs.declared.Hints.{Hints}
 use Rattle.items.specs.declared.Level.{Level}
 use Rattle.items.specs.declared.Level.TheVariants as level
-use Rattle.items.specs.Rules.{or_else, first_of, skipped, heard, notices, occurs_or, first_custom, success, custom_success, line_success, successes, prompt_tried, custom_prompts, prompts, custom_error, numeric_tried, numeric_errors, error_lines, line_tried, line_errors, not_allowed, errors, tried}
+use Rattle.items.specs.Rules.{or_else, first_of, skipped, notices, occurs_or, first_custom, success, custom_success, line_success, successes, prompt_tried, custom_prompts, prompts, custom_error, numeric_tried, numeric_errors, error_lines, line_tried, line_errors, not_allowed, errors, tried}
 use Rattle.items.specs.Hints.{given, prompt_bytes, numerics, firsts, unknown, hint_of, Known, Says}
 use Rattle.items.specs.Connect.{connect_none, connect_next, connect_lost}
 use Rattle.items.specs.Laws.{next_both, both_next, done_next, or_next_lem, or_assoc, custom_error_none, prompt_miss}

@@ -1,7 +1,6 @@
 -- `notices` meets its contract: the rule on all the records is the rule on those from `at` on, and those before are notices unless `others` says else. The measure is the records that may still come.
 use mathlib.Core.Path.{refl}
 use native.Mathlib.Omega.{arith}
-use Prim.Native.Nat.{◌-◌}
 use Rattle.table.specs.declared.Mark.TheVariants as mark
 use Rattle.items.specs.Laws.{next_room}
 use Rattle.level.specs.Laws.{notices_end, notices_hit, notices_more}

@@ -1,6 +1,5 @@
 -- `leftmost` meets its contract: each line start is walked to, and no code is passed over. The measure is what is left of s.
 use mathlib.Core.Path.{sym, ap, ◌∙◌}
-use Prim.Native.Nat.{◌-◌}
 use native.Mathlib.Omega.{arith}
 use Rattle.numeric.specs.declared.Line.{Line}
 use Rattle.numeric.specs.Laws.{cr_inside, walked_first, walk_found, walk_end, walk_last, walk_on, walk_less}

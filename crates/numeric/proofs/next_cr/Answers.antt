@@ -1,7 +1,6 @@
 -- `next_cr` meets its contract: the answer from `from` on is the answer from `place` on. The measure is what is left of s.
 use mathlib.Core.Path.{sym, ap, ◌∙◌}
 use mathlib.Core.Bool.{not}
-use Prim.Native.Nat.{◌-◌}
 use borrow.Author.Tests.{eq-eqb, ne_eqb}
 use Rattle.text.specs.Steps.{past_more, past_stop, past_end}
 use Rattle.numeric.proofs.next_cr.Goals as goal

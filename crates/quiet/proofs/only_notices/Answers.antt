@@ -1,7 +1,7 @@
 -- `only_notices` meets its contract: were no record from `at` on a custom prompt, none were at all. The measure is the bytes left.
 use Rattle.quiet.specs.Customs.{none_end, none_step, none_all}
 use lib.ListN.{get_or}
-use Prim.Native.Nat.{◌+◌, ◌-◌}
+use Prim.Native.Nat.{◌+◌}
 use native.Mathlib.Omega.{arith}
 use mathlib.Core.Path.{◌≡◌, sym, ◌∙◌}
 use Rattle.quiet.proofs.only_notices.Goals as goal

@@ -2,7 +2,6 @@
 use mathlib.Core.Path.{sym, ap, ◌∙◌}
 use Rattle.selector.specs.Selector.{choice}
 use Rattle.selector.specs.declared.Selector.{Selector}
-use borrow.Author.Rules.{rules}
 use Rattle.selector.proofs.check.Goals as goal
 
 pub returns-in-Verbal : goal.returns-in-Verbal
