@@ -1,10 +1,7 @@
-use mathlib.Core.Path.{◌≡◌}
+-- `fill` ends. The measure is what is left of the buffer.
 use Prim.Native.Nat.{◌-◌}
 use lib.ListN.{length}
 use Rattle.deep.proofs.fill.Given as goal
 
-abbrev pub invariant-loop-i : goal.invariant-loop-i
-invariant-loop-i l = length l.buf ≡ length l.initial.buf
-
 abbrev pub decreases-loop-i : goal.decreases-loop-i
-decreases-loop-i l = length l.buf - l.i
+decreases-loop-i l = length l.initial.buf - l.i
