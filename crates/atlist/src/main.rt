@@ -2,9 +2,9 @@
 // It promises only that it doesn't trip. What a payload holds is `lists::read`'s promise; how it is shown is held to tests/atlist. bin/atlist makes the status.
 #![tactic(auto)]
 
-use libc::{STDIN_FILENO, STDOUT_FILENO};
 use lists::Listed;
 use pieces::{Element, Kind};
+use std::io;
 
 // The longest payload; and that with a line ending and one byte more, so that a longer input is seen to be.
 const LONGEST: usize = 65536;
@@ -182,10 +182,10 @@ fn report(payload: &[u8], out: &mut [u8]) -> usize {
     }
 }
 
-fn main() {
+fn main(rt: HostRuntime) -> io::Result<()> {
     let mut input = [0u8; INPUT];
-    let n = io::read_full(STDIN_FILENO, &mut input);
+    let n = intake::read_full(&mut rt.stdin(), &mut input)?;
     let mut out = [0u8; ROOM];
     let k = report(payload_of(text::part(&input, 0, n)), &mut out);
-    io::write_all(STDOUT_FILENO, text::part(&out, 0, k));
+    rt.write_all(text::part(&out, 0, k))
 }

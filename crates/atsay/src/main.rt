@@ -6,7 +6,7 @@
 use answers::Kind;
 use data::Filled;
 use fields::{Amount, Memory};
-use libc::{STDERR_FILENO, STDIN_FILENO, STDOUT_FILENO};
+use std::io;
 use table::Checked;
 use text::Blanks;
 use words::{Misspelt, Named, Payload};
@@ -242,100 +242,110 @@ fn take_lines(input: &[u8], table: &mut Memory, mem: &mut Memory, out: &mut [u8]
     Ended::Is(far.written)
 }
 
-fn tell(t: &[u8]) {
-    io::write_all(STDERR_FILENO, t);
+fn tell(rt: &impl Eprint, t: &str) -> io::Result<()> {
+    rt.eprint(t)
 }
 
 // What is wrong with a payload.
-fn tell_misspelt(m: Misspelt) {
+fn tell_misspelt(rt: &impl Eprint, m: Misspelt) -> io::Result<()> {
     match m {
         Misspelt::Hex => tell(
-            b"its payload must be HEX, two digits a byte, or text in double quotes",
+            rt,
+            "its payload must be HEX, two digits a byte, or text in double quotes",
         ),
-        Misspelt::Unclosed => tell(b"its text has no closing quote"),
+        Misspelt::Unclosed => tell(rt, "its text has no closing quote"),
         Misspelt::Unprintable => tell(
-            b"its text has a byte that can not be printed; HEX takes any byte",
+            rt,
+            "its text has a byte that can not be printed; HEX takes any byte",
         ),
-        Misspelt::Escape => tell(b"a backslash in its text may only begin \\r \\n \\\" \\\\"),
-        Misspelt::Behind => tell(b"something stands behind its end"),
-        Misspelt::Long => tell(b"its payload is longer than there is memory for"),
+        Misspelt::Escape => tell(
+            rt,
+            "a backslash in its text may only begin \\r \\n \\\" \\\\",
+        ),
+        Misspelt::Behind => tell(rt, "something stands behind its end"),
+        Misspelt::Long => tell(rt, "its payload is longer than there is memory for"),
     }
 }
 
 // What is wrong in a line that doesn't read.
-fn tell_misread(f: Fault) {
+fn tell_misread(rt: &impl Eprint, f: Fault) -> io::Result<()> {
     match f {
         Fault::Word => tell(
-            b"its first word is none of ok cme cms error nocarrier busy noanswer nodialtone prompt notice table",
+            rt,
+            "its first word is none of ok cme cms error nocarrier busy noanswer nodialtone prompt notice table",
         ),
         Fault::Number => tell(
-            b"its number must be decimal, at most 4,294,967,295, with no zero in front",
+            rt,
+            "its number must be decimal, at most 4,294,967,295, with no zero in front",
         ),
-        Fault::Payload(m) => tell_misspelt(m),
-        Fault::Behind => tell(b"something stands behind its end"),
-        Fault::Hex => tell(b"its table must be HEX, two digits a byte"),
-        Fault::LateTable => tell(b"a table must stand before the first answer"),
-        Fault::SecondTable => tell(b"a table was given before, in the options or in a line above"),
-        _ => tell(b"the answers are longer than there is memory for"),
+        Fault::Payload(m) => tell_misspelt(rt, m),
+        Fault::Behind => tell(rt, "something stands behind its end"),
+        Fault::Hex => tell(rt, "its table must be HEX, two digits a byte"),
+        Fault::LateTable => tell(rt, "a table must stand before the first answer"),
+        Fault::SecondTable => tell(
+            rt,
+            "a table was given before, in the options or in a line above",
+        ),
+        _ => tell(rt, "the answers are longer than there is memory for"),
     }
 }
 
-fn tell_refusal(number: u64) {
-    tell(b"refused ");
-    io::print_decimal(STDERR_FILENO, number);
-    tell(b": ");
+fn tell_refusal(rt: &impl Eprint, number: u64) -> io::Result<()> {
+    tell(rt, "refused ")?;
+    rt.eprint(number)?;
+    tell(rt, ": ")
 }
 
 // Why a line is wrong.
-fn tell_why(f: Fault) {
+fn tell_why(rt: &impl Eprint, f: Fault) -> io::Result<()> {
     match f {
         Fault::BadTable(k) => {
-            tell_refusal(2);
-            tell(b"the table is faulty in its record ");
-            io::print_decimal(STDERR_FILENO, k as u64);
-            tell(b", counted from 0");
+            tell_refusal(rt, 2)?;
+            tell(rt, "the table is faulty in its record ")?;
+            rt.eprint(k)?;
+            tell(rt, ", counted from 0")?;
         }
         Fault::OtherKind => {
-            tell_refusal(16);
-            tell(b"answers of this kind are not written");
+            tell_refusal(rt, 16)?;
+            tell(rt, "answers of this kind are not written")?;
         }
         Fault::Unread => {
-            tell_refusal(16);
-            tell(b"it would not be read back so");
+            tell_refusal(rt, 16)?;
+            tell(rt, "it would not be read back so")?;
         }
         _ => {
-            tell(b"it does not read: ");
-            tell_misread(f);
+            tell(rt, "it does not read: ")?;
+            tell_misread(rt, f)?;
         }
     }
-    tell(b"\n");
+    tell(rt, "\n")
 }
 
 // Which line it is. Line 0 is that of the options.
-fn tell_line(line: usize) {
+fn tell_line(rt: &impl Eprint, line: usize) -> io::Result<()> {
     if line == 0 {
-        tell(b"the options: ");
-        return;
+        return tell(rt, "the options: ");
     }
-    tell(b"line ");
-    io::print_decimal(STDERR_FILENO, line as u64);
-    tell(b": ");
+    tell(rt, "line ")?;
+    rt.eprint(line)?;
+    tell(rt, ": ")
 }
 
 // Writes the answers, or tells what is wrong.
-fn answer(input: &[u8]) {
+fn answer(rt: &(impl Print + Eprint), input: &[u8]) -> io::Result<()> {
     let mut table = [0u8; fields::LENGTH];
     let mut mem = [0u8; fields::LENGTH];
     let mut out = [0u8; ROOM];
     match take_lines(input, &mut table, &mut mem, &mut out) {
         Ended::Not(line, f) => {
-            tell_line(line);
-            tell_why(f);
+            tell_line(rt, line)?;
+            tell_why(rt, f)
         }
         Ended::Is(n) => {
-            if !io::write_all(STDOUT_FILENO, text::part(&out, 0, n)) {
-                tell(b"the answers could not be written\n");
+            if rt.write_all(text::part(&out, 0, n)).is_err() {
+                tell(rt, "the answers could not be written\n")?;
             }
+            Ok(())
         }
     }
 }
@@ -349,13 +359,12 @@ fn is_long(input: &[u8]) -> bool {
     LONGEST < fields::between(input, script, input.len()).len()
 }
 
-fn main() {
+fn main(rt: HostRuntime) -> io::Result<()> {
     let mut input = [0u8; INPUT];
-    let n = io::read_full(STDIN_FILENO, &mut input);
+    let n = intake::read_full(&mut rt.stdin(), &mut input)?;
     let all = text::part(&input, 0, n);
     if is_long(all) {
-        tell(b"the script is over 65,536 bytes\n");
-        return;
+        return tell(&rt, "the script is over 65,536 bytes\n");
     }
-    answer(all);
+    answer(&rt, all)
 }

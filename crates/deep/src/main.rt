@@ -3,8 +3,8 @@
 #![tactic(auto)]
 
 use digest::Digested;
-use libc::STDOUT_FILENO;
 use lines::Digester;
+use std::io;
 
 // CR at each even place, LF at each odd one.
 fn byte_at(i: usize) -> u8 {
@@ -23,24 +23,20 @@ fn fill(buf: &mut [u8]) {
     }
 }
 
-fn main() {
-    let mut buf = io::buffer();
+fn main(rt: HostRuntime) -> io::Result<()> {
+    let mut buf = [0u8; 4096];
     fill(&mut buf);
     match digest::digest(Digester::Verbose, b"", &buf) {
         Digested::Is(a) => {
             if answers::is_found(a) {
-                io::write_all(STDOUT_FILENO, b"4096 bytes of CRLF: found something, ");
+                rt.write_all(b"4096 bytes of CRLF: found something, ")?;
             } else {
-                io::write_all(STDOUT_FILENO, b"4096 bytes of CRLF: None, ");
+                rt.write_all(b"4096 bytes of CRLF: None, ")?;
             }
-            io::print_decimal(STDOUT_FILENO, a.consumed as u64);
-            io::write_all(STDOUT_FILENO, b"\n");
+            rt.print(a.consumed)?;
+            rt.write_all(b"\n")
         }
-        Digested::TooLong => {
-            io::write_all(STDOUT_FILENO, b"refused 1\n");
-        }
-        Digested::BadTable(_) => {
-            io::write_all(STDOUT_FILENO, b"refused 2\n");
-        }
+        Digested::TooLong => rt.write_all(b"refused 1\n"),
+        Digested::BadTable(_) => rt.write_all(b"refused 2\n"),
     }
 }

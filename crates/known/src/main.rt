@@ -3,127 +3,126 @@
 
 use answers::{Answer, Kind};
 use digest::Digested;
-use libc::STDOUT_FILENO;
 use lines::Digester;
+use std::io;
 
-fn put(text: &[u8]) {
-    io::write_all(STDOUT_FILENO, text);
+fn put(rt: &impl Print, text: &[u8]) -> io::Result<()> {
+    rt.write_all(text)
 }
 
-fn put_number(n: u64) {
-    io::print_decimal(STDOUT_FILENO, n);
+fn put_number(rt: &impl Print, n: u64) -> io::Result<()> {
+    rt.print(n)
 }
 
 // 01's name of a kind.
-fn put_kind(kind: Kind) {
+fn put_kind(rt: &impl Print, kind: Kind) -> io::Result<()> {
     match kind {
-        Kind::None => put(b"None"),
-        Kind::Ok => put(b"Ok"),
-        Kind::Prompt => put(b"Prompt"),
-        Kind::Cme => put(b"CME"),
-        Kind::Cms => put(b"CMS"),
-        Kind::Unknown => put(b"unknown"),
-        Kind::NotAllowed => put(b"not allowed"),
-        Kind::Error => put(b"Error"),
-        Kind::NoCarrier => put(b"no carrier"),
-        Kind::Busy => put(b"busy"),
-        Kind::NoAnswer => put(b"no answer"),
-        Kind::NoDialtone => put(b"no dialtone"),
-        Kind::Custom => put(b"custom error"),
-        Kind::Notice => put(b"notice"),
+        Kind::None => put(rt, b"None"),
+        Kind::Ok => put(rt, b"Ok"),
+        Kind::Prompt => put(rt, b"Prompt"),
+        Kind::Cme => put(rt, b"CME"),
+        Kind::Cms => put(rt, b"CMS"),
+        Kind::Unknown => put(rt, b"unknown"),
+        Kind::NotAllowed => put(rt, b"not allowed"),
+        Kind::Error => put(rt, b"Error"),
+        Kind::NoCarrier => put(rt, b"no carrier"),
+        Kind::Busy => put(rt, b"busy"),
+        Kind::NoAnswer => put(rt, b"no answer"),
+        Kind::NoDialtone => put(rt, b"no dialtone"),
+        Kind::Custom => put(rt, b"custom error"),
+        Kind::Notice => put(rt, b"notice"),
     }
 }
 
 // A text between back quotes.
-fn put_quoted(text: &[u8]) {
-    put(b" `");
-    put(text);
-    put(b"`");
+fn put_quoted(rt: &impl Print, text: &[u8]) -> io::Result<()> {
+    put(rt, b" `")?;
+    put(rt, text)?;
+    put(rt, b"`")
 }
 
 // A prompt's byte, a code, or an Ok's or a notice's payload; an Ok may have none.
-fn put_value(input: &[u8], a: Answer) {
+fn put_value(rt: &impl Print, input: &[u8], a: Answer) -> io::Result<()> {
     let kind = a.kind;
     let payload = digest::payload(input, a.place, a.len);
     match kind {
         Kind::Prompt => {
             let byte = [(a.number % 256) as u8];
-            put_quoted(&byte);
+            put_quoted(rt, &byte)
         }
         Kind::Cme => {
-            put(b" ");
-            put_number(a.number as u64);
+            put(rt, b" ")?;
+            put_number(rt, a.number as u64)
         }
         Kind::Cms => {
-            put(b" ");
-            put_number(a.number as u64);
+            put(rt, b" ")?;
+            put_number(rt, a.number as u64)
         }
-        Kind::Ok => put_text(payload),
-        Kind::Notice => put_text(payload),
-        Kind::Custom => put_text(payload),
-        Kind::None => {}
-        Kind::Unknown => {}
-        Kind::NotAllowed => {}
-        Kind::Error => {}
-        Kind::NoCarrier => {}
-        Kind::Busy => {}
-        Kind::NoAnswer => {}
-        Kind::NoDialtone => {}
+        Kind::Ok => put_text(rt, payload),
+        Kind::Notice => put_text(rt, payload),
+        Kind::Custom => put_text(rt, payload),
+        Kind::None => Ok(()),
+        Kind::Unknown => Ok(()),
+        Kind::NotAllowed => Ok(()),
+        Kind::Error => Ok(()),
+        Kind::NoCarrier => Ok(()),
+        Kind::Busy => Ok(()),
+        Kind::NoAnswer => Ok(()),
+        Kind::NoDialtone => Ok(()),
     }
 }
 
-fn put_text(payload: &[u8]) {
+fn put_text(rt: &impl Print, payload: &[u8]) -> io::Result<()> {
     if payload.len() == 0 {
-        put(b", empty");
-        return;
+        return put(rt, b", empty");
     }
-    put_quoted(payload);
+    put_quoted(rt, payload)
 }
 
 // One line: the answer, and the bytes consumed.
-fn show(table: &[u8], input: &[u8]) {
+fn show(rt: &impl Print, table: &[u8], input: &[u8]) -> io::Result<()> {
     match digest::digest(Digester::Verbose, table, input) {
         Digested::Is(a) => {
             let kind = a.kind;
-            put_kind(kind);
-            put_value(input, a);
-            put(b", ");
-            put_number(a.consumed as u64);
-            put(b"\n");
+            put_kind(rt, kind)?;
+            put_value(rt, input, a)?;
+            put(rt, b", ")?;
+            put_number(rt, a.consumed as u64)?;
+            put(rt, b"\n")
         }
-        Digested::TooLong => put(b"refused 1\n"),
+        Digested::TooLong => put(rt, b"refused 1\n"),
         Digested::BadTable(k) => {
-            put(b"refused 2 ");
-            put_number(k as u64);
-            put(b"\n");
+            put(rt, b"refused 2 ")?;
+            put_number(rt, k as u64)?;
+            put(rt, b"\n")
         }
     }
 }
 
 // Under the empty table.
-fn show_alone(input: &[u8]) {
-    show(b"", input);
+fn show_alone(rt: &impl Print, input: &[u8]) -> io::Result<()> {
+    show(rt, b"", input)
 }
 
 // The examples under the empty table.
-fn show_plain() {
-    show_alone(b"");
-    show_alone(b"   ");
-    show_alone(b"\r\nOK\r\n");
-    show_alone(b"\r\nERROR\r\n\r\nOK\r\n");
-    show_alone(b"\r\n+CME ERROR: 65535\r\n");
-    show_alone(b"\r\n+CME ERROR: 65536\r\n");
-    show_alone(b"\r\n+CMS ERROR:\t7\n");
-    show_alone(b">\r\n");
-    show_alone(b"\r\na>b\r\n>");
-    show_alone(b"x\r\n\r\nNA\r\n");
-    show_alone(b"\r\nok\r\n");
-    show_alone(b"\r\nBUSY\r\n\r\nERROR\r\n");
+fn show_plain(rt: &impl Print) -> io::Result<()> {
+    show_alone(rt, b"")?;
+    show_alone(rt, b"   ")?;
+    show_alone(rt, b"\r\nOK\r\n")?;
+    show_alone(rt, b"\r\nERROR\r\n\r\nOK\r\n")?;
+    show_alone(rt, b"\r\n+CME ERROR: 65535\r\n")?;
+    show_alone(rt, b"\r\n+CME ERROR: 65536\r\n")?;
+    show_alone(rt, b"\r\n+CMS ERROR:\t7\n")?;
+    show_alone(rt, b">\r\n")?;
+    show_alone(rt, b"\r\na>b\r\n>")?;
+    show_alone(rt, b"x\r\n\r\nNA\r\n")?;
+    show_alone(rt, b"\r\nok\r\n")?;
+    show_alone(rt, b"\r\nBUSY\r\n\r\nERROR\r\n")
 }
 
-fn main() {
-    show_plain();
-    show(b"UR\x07+UUSORD", b"\r\nRING\r\n\r\n+UUSORD: 0,4\r\n");
-    show(b"UR\x07+UUSORD", b"\r\n+UUSO");
-    show(b"UR\x07+UUSORD", b"\r\n+UUSORD: >");
+fn main(rt: HostRuntime) -> io::Result<()> {
+    show_plain(&rt)?;
+    show(&rt, b"UR\x07+UUSORD", b"\r\nRING\r\n\r\n+UUSORD: 0,4\r\n")?;
+    show(&rt, b"UR\x07+UUSORD", b"\r\n+UUSO")?;
+    show(&rt, b"UR\x07+UUSORD", b"\r\n+UUSORD: >")
 }

@@ -9,6 +9,7 @@ use notation::op::Op;
 use queue::{Notice, Taken};
 use selector::Selector;
 use slot::{Held, Looked, Reset, Slot, Turned};
+use std::io;
 use turn::State;
 
 // What an op answered. Full is refusal 5 of a write, with the bytes taken.
@@ -242,55 +243,68 @@ fn perform(
 }
 
 // A notice's number and its payload in hex.
-fn say_notice(x: Notice, queue_mem: &[u8], out: &mut Memory, at: usize) -> usize {
-    let head = say::words(out, at, b"notice");
-    let numbered = say::and_number(out, head, x.number as u64);
-    let apart = say::words(out, numbered, b" ");
-    say::hex(out, apart, text::part(queue_mem, x.place, x.len))
+fn say_notice(
+    rt: &impl Print,
+    x: Notice,
+    queue_mem: &[u8],
+    out: &mut Memory,
+    at: usize,
+) -> io::Result<usize> {
+    let head = say::words(rt, out, at, b"notice")?;
+    let numbered = say::and_number(rt, out, head, x.number as u64)?;
+    let apart = say::words(rt, out, numbered, b" ")?;
+    say::hex(rt, out, apart, text::part(queue_mem, x.place, x.len))
 }
 
 // What a slot holds, and its number.
-pub fn say_content(x: Slot, out: &mut Memory, at: usize) -> usize {
+pub fn say_content(rt: &impl Print, x: Slot, out: &mut Memory, at: usize) -> io::Result<usize> {
     let held = x.held;
     match held {
-        Held::Heard(k) => say::kind_number(out, at, k, x.number),
-        Held::Capacity => say::words(out, at, b"capacity -"),
+        Held::Heard(k) => say::kind_number(rt, out, at, k, x.number),
+        Held::Capacity => say::words(rt, out, at, b"capacity -"),
     }
 }
 
 // What a signalled slot holds, with its payload or digits in hex and the serial number that it bears.
-fn say_held(x: Slot, slot_mem: &[u8], out: &mut Memory, at: usize) -> usize {
-    let head = say::words(out, at, b"held ");
-    let named = say_content(x, out, head);
-    let apart = say::words(out, named, b" ");
-    let bytes = say::hex(out, apart, x.payload(slot_mem));
-    say::serial(out, bytes, x.serial)
+fn say_held(
+    rt: &impl Print,
+    x: Slot,
+    slot_mem: &[u8],
+    out: &mut Memory,
+    at: usize,
+) -> io::Result<usize> {
+    let head = say::words(rt, out, at, b"held ")?;
+    let named = say_content(rt, x, out, head)?;
+    let apart = say::words(rt, out, named, b" ")?;
+    let bytes = say::hex(rt, out, apart, x.payload(slot_mem))?;
+    say::serial(rt, out, bytes, x.serial)
 }
 
 // Refusal 5 of a write.
-fn say_full(n: usize, out: &mut Memory, at: usize) -> usize {
-    let used = say::words(out, at, b"refused 5 ");
-    say::took(out, used, n)
+fn say_full(rt: &impl Print, n: usize, out: &mut Memory, at: usize) -> io::Result<usize> {
+    let used = say::words(rt, out, at, b"refused 5 ")?;
+    say::took(rt, out, used, n)
 }
 
 // Says what an op answered.
 fn say_outcome(
+    rt: &impl Print,
     o: Answered,
     slot_mem: &[u8],
     queue_mem: &[u8],
     out: &mut Memory,
     at: usize,
-) -> usize {
+) -> io::Result<usize> {
     match o {
-        Answered::Took(n) => say::took(out, at, n),
-        Answered::Advanced => say::words(out, at, b"advanced"),
-        Answered::Done => say::words(out, at, b"done"),
-        Answered::Nothing => say::words(out, at, b"nothing"),
-        Answered::Notice(x) => say_notice(x, queue_mem, out, at),
-        Answered::Held(x) => say_held(x, slot_mem, out, at),
-        Answered::Refused(n) => say::refusal(out, at, n),
-        Answered::BadTable(k) => say::refusal_of_record(out, at, k),
-        Answered::Full(n) => say_full(n, out, at),
+        Answered::Took(n) => say::took(rt, out, at, n),
+        Answered::Advanced => say::words(rt, out, at, b"advanced"),
+        Answered::Done => say::words(rt, out, at, b"done"),
+        Answered::Nothing => say::words(rt, out, at, b"nothing"),
+        Answered::Notice(x) => say_notice(rt, x, queue_mem, out, at),
+        Answered::Held(x) => say_held(rt, x, slot_mem, out, at),
+        Answered::Refused(n) => say::refusal(rt, out, at, n),
+        Answered::BadTable(k) => say::refusal_of_record(rt, out, at, k),
+        Answered::Full(n) => say_full(rt, n, out, at),
     }
 }
 
@@ -304,6 +318,7 @@ pub struct Said {
 
 // Reads an op, does it, and says its answer.
 pub fn do_op(
+    rt: &impl Print,
     s: &[u8],
     now: Said,
     piece: &mut Memory,
@@ -314,7 +329,7 @@ pub fn do_op(
     slot_mem: &mut [u8],
     queue_mem: &mut [u8],
     out: &mut Memory,
-) -> Said {
+) -> io::Result<Said> {
     let op = notation::op::read_op(s, piece);
     let state = now.state;
     let fed = now.fed;
@@ -323,10 +338,11 @@ pub fn do_op(
     );
     let next = done.state;
     let outcome = done.outcome;
-    let used = say_outcome(outcome, slot_mem, queue_mem, out, now.at);
-    Said {
+    let used = say_outcome(rt, outcome, slot_mem, queue_mem, out, now.at)?;
+    let behind = say::words(rt, out, used, b";")?;
+    Ok(Said {
         state: next,
-        at: say::words(out, used, b";"),
+        at: behind,
         fed: fed || notation::op::has_findings(op),
-    }
+    })
 }

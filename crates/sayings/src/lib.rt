@@ -5,6 +5,7 @@
 use answers::Kind;
 use data::Filled;
 use fields::{Amount, LENGTH, Memory};
+use std::io;
 use words::Named;
 use writer::{Given, Said};
 
@@ -35,6 +36,7 @@ fn asked_of(line: &[u8]) -> Asked {
 
 // Writes the answer, and says how many bytes it has with all of the output memory, or the refusal.
 fn do_say(
+    rt: &impl Print,
     table: &[u8],
     kind: Kind,
     number: Given,
@@ -42,25 +44,26 @@ fn do_say(
     mem: &mut [u8],
     out: &mut Memory,
     at: usize,
-) -> usize {
+) -> io::Result<usize> {
     match writer::say(table, kind, number, payload, mem) {
         Said::Is(n) => {
-            let head = say::words(out, at, b"said");
-            let long = say::and_number(out, head, n as u64);
-            let used = say::memory(out, long, mem);
-            say::words(out, used, b"\n")
+            let head = say::words(rt, out, at, b"said")?;
+            let long = say::and_number(rt, out, head, n as u64)?;
+            let used = say::memory(rt, out, long, mem)?;
+            say::words(rt, out, used, b"\n")
         }
         Said::BadTable(k) => {
-            let used = say::refusal_of_record(out, at, k);
-            say::words(out, used, b"\n")
+            let used = say::refusal_of_record(rt, out, at, k)?;
+            say::words(rt, out, used, b"\n")
         }
-        Said::Unread => say::words(out, at, b"refused 16\n"),
-        Said::Short => say::words(out, at, b"refused 17\n"),
+        Said::Unread => say::words(rt, out, at, b"refused 16\n"),
+        Said::Short => say::words(rt, out, at, b"refused 17\n"),
     }
 }
 
 // Cuts the output memory to its length, which isn't past it.
 fn cut_say(
+    rt: &impl Print,
     table: &[u8],
     kind: Kind,
     number: Given,
@@ -69,35 +72,37 @@ fn cut_say(
     n: usize,
     out: &mut Memory,
     at: usize,
-) -> usize {
+) -> io::Result<usize> {
     if mem.len() < n {
-        return at;
+        return Ok(at);
     }
-    do_say(table, kind, number, payload, &mut mem[..n], out, at)
+    do_say(rt, table, kind, number, payload, &mut mem[..n], out, at)
 }
 
 // The case say TABLE KIND NUMBER PAYLOAD OUTPUT: nothing is done before all of it reads.
 pub fn say_case(
+    rt: &impl Print,
     line: &[u8],
     table: &mut Memory,
     payload: &mut Memory,
     mem: &mut Memory,
     out: &mut Memory,
     at: usize,
-) -> usize {
+) -> io::Result<usize> {
     let Asked::For(kind, number) = asked_of(line) else {
-        return say::bad_line(out, at);
+        return say::bad_line(rt, out, at);
     };
     let Filled::Is(t) = data::data(fields::part_of(line, 1, b' '), table) else {
-        return say::bad_line(out, at);
+        return say::bad_line(rt, out, at);
     };
     let Filled::Is(p) = data::data(fields::part_of(line, 4, b' '), payload) else {
-        return say::bad_line(out, at);
+        return say::bad_line(rt, out, at);
     };
     let Filled::Is(n) = data::data(fields::part_of(line, 5, b' '), mem) else {
-        return say::bad_line(out, at);
+        return say::bad_line(rt, out, at);
     };
     cut_say(
+        rt,
         text::part(table, 0, t),
         kind,
         number,
