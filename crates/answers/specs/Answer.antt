@@ -1,6 +1,5 @@
 -- The answer of a digest in document 01's terms.
-use Rattle.std.specs.Prelude.{Bool, true, false, ◌&&◌, List, [], ◌∷◌, ℕ, zero, suc, ◌+◌, ◌≤◌, leb}
-use Rattle.outcome.specs.Outcome.{if◌then◌else◌}
+use Rattle.std.specs.Prelude.{Bool, true, false, ◌&&◌, List, [], ◌∷◌, ℕ, zero, suc, ◌+◌, ◌≤◌, leb, if◌then◌else◌}
 use Rattle.text.specs.declared.Span.{Span}
 use Rattle.answers.specs.declared.Kind.{Kind}
 use Rattle.answers.specs.declared.Kind.TheVariants.{None, Ok, Prompt, Cme, Cms, Unknown, NotAllowed, Error, NoCarrier, Busy, NoAnswer, NoDialtone, Custom, Notice}

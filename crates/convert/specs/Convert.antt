@@ -1,6 +1,6 @@
 -- The conversion of R-9 over two geometries: a queue in the old form is read, and written in the new form into other memory.
-use Rattle.std.specs.Prelude.{◌⊎◌, Bool, true, ◌&&◌, not, List, [], ◌∷◌, ℕ, zero, suc, ◌+◌, ◌*◌, ◌≤◌, ◌<◌, length, ltb}
-use Rattle.outcome.specs.Outcome.{Outcome, answered, refused, if◌then◌else◌}
+use Rattle.std.specs.Prelude.{◌⊎◌, Bool, true, ◌&&◌, not, List, [], ◌∷◌, ℕ, zero, suc, ◌+◌, ◌*◌, ◌≤◌, ◌<◌, length, ltb, if◌then◌else◌}
+use Rattle.outcome.specs.Outcome.{Outcome, answered, refused}
 use Rattle.queue.specs.Queue.{Geometry, capacity_of, in_bounds, ring_place, recorded, record_good, After, after, Arrival, waiting}
 use Rattle.queue.specs.declared.Queue.{Queue}
 use Rattle.convert.specs.declared.Converted.{Converted}

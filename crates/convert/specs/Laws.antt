@@ -1,5 +1,5 @@
 -- The walk round the old ring, what it has seen and written, and the ways out of the conversion.
-use Rattle.std.specs.Prelude.{◌≡◌, refl, true, false, ◌&&◌, length, drop, leb, ltb}
+use Rattle.std.specs.Prelude.{◌≡◌, refl, true, false, ◌&&◌, length, drop, leb, ltb, if◌then◌else◌}
 use Rattle.std.proofs.Math.Path.{sym, ap}
 use Rattle.std.proofs.Common.{◌∙◌, ⊎_elim, get_or-take, get_or-drop}
 use mathlib.Core.List.{List, [], ◌∷◌}
@@ -10,7 +10,7 @@ use borrow.Author.Tests.{lt-ltb, le-ltb, ltb-true, eqb-true}
 use Rattle.text.specs.Logic.{and_both, order}
 use Rattle.text.specs.Text.{part_of}
 use Rattle.text.specs.Laws.{part_is}
-use Rattle.outcome.specs.Outcome.{answered, refused, if◌then◌else◌}
+use Rattle.outcome.specs.Outcome.{answered, refused}
 use Rattle.queue.specs.Queue.{ours, older, capacity_of, start_in, in_bounds, ring_place, recorded, length_at, record_good, after, Arrival, held_from, waiting}
 use Rattle.queue.specs.Laws.{older_sound, start_none, start_some, bounds_count, ring_near, ring_far, ring_below, record_in}
 use Rattle.queue.specs.Waiting.{arrival_is, good_length}

@@ -3,8 +3,7 @@
 // changes; refused, the new memory doesn't either. No offset is multiplied on the way round the ring: it is carried along.
 #![tactic(auto)]
 
-ghost use Rattle.std.specs.Prelude.{◌≡◌, true, ◌+◌, ◌*◌, ◌≤◌, length, get_or, ltb};
-ghost use Rattle.outcome.specs.Outcome.{if◌then◌else◌};
+ghost use Rattle.std.specs.Prelude.{◌≡◌, true, ◌+◌, ◌*◌, ◌≤◌, length, get_or, ltb, if◌then◌else◌};
 ghost use Rattle.text.specs.Text.{part_of};
 ghost use Rattle.queue.specs.Queue.{ours, older, capacity_of, start_in, recorded, length_at, record_good, after, held_from};
 ghost use Rattle.convert.specs.Convert.{held_good, laid, converted, outcome};

@@ -1,6 +1,6 @@
 -- Rules 6 and 7 of one digest, and its refusals. They compute. Rules 1 to 5 are items' `Rules`.
-use Rattle.std.specs.Prelude.{Bool, ◌&&◌, List, [], ◌∷◌, ℕ, zero, suc, ◌+◌, ◌-◌, length, drop, ltb}
-use Rattle.outcome.specs.Outcome.{Outcome, answered, refused, if◌then◌else◌}
+use Rattle.std.specs.Prelude.{Bool, ◌&&◌, List, [], ◌∷◌, ℕ, zero, suc, ◌+◌, ◌-◌, length, drop, ltb, if◌then◌else◌}
+use Rattle.outcome.specs.Outcome.{Outcome, answered, refused}
 use Rattle.text.specs.Text.{stands}
 use Rattle.table.specs.Table.{Token, tokens, ruling}
 use Rattle.lines.specs.Lines.{crlf}

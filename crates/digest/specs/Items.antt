@@ -1,5 +1,5 @@
 -- What an item takes: lines begin with CRLF and end in LF, so that no notice is unfinished where one stands, and each item takes a byte.
-use Rattle.std.specs.Prelude.{◌≡◌, refl, ◌⊎◌, Bool, List, [], ◌∷◌, ◌++◌, ℕ, zero, suc, ◌+◌, ◌-◌, ◌≤◌, ◌<◌}
+use Rattle.std.specs.Prelude.{◌≡◌, refl, ◌⊎◌, Bool, List, [], ◌∷◌, ◌++◌, ℕ, zero, suc, ◌+◌, ◌-◌, ◌≤◌, ◌<◌, if◌then◌else◌}
 use Rattle.std.proofs.Common.{sym, ◌∙◌, inl, inr, add-zero}
 use Rattle.std.proofs.Math.Path.{ap}
 use Rattle.std.proofs.Math.Logic.{⊎_elim}
@@ -12,7 +12,6 @@ use Rattle.text.specs.Logic.{false_true, order}
 use Rattle.text.specs.Text.{stands, find_in}
 use Rattle.text.specs.declared.Found.TheVariants.{At}
 use Rattle.text.specs.Laws.{found_at, find_is, stands_drop, stands_front, stands_fits, stands_byte, stands_get_d, stands_room}
-use Rattle.outcome.specs.Outcome.{if◌then◌else◌}
 use Rattle.table.specs.Table.{is_text, Token, Entry, of_mark}
 use Rattle.table.specs.Laws.{Texts, EntryTexts, mark_texts, text_some, text_byte}
 use Rattle.table.specs.declared.Mark.TheVariants as mark
@@ -24,7 +23,6 @@ use Rattle.lines.specs.declared.Fixed.TheVariants as fixed
 use Rattle.answers.specs.declared.Answer.{Answer}
 use Rattle.items.specs.declared.Tried.{Tried}
 use Rattle.items.specs.declared.Tried.TheVariants as tries
-use Rattle.outcome.specs.Outcome.{if◌then◌else◌}
 use Rattle.items.specs.Rules.{or_else, heads}
 use Rattle.items.specs.Laws.{wrapped_length}
 use Rattle.digest.specs.Finished.{Some, NoticeEnd, crlf_end, colon, NoticeEnded, Unfinished, NumericEnded, FirstAlone, EndsIn, nine, Line, TextLine, Item}

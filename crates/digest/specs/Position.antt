@@ -1,6 +1,6 @@
 -- What stands at a place, by position: each form of `Finished` is what the parser's definition computes, both ways.
 -- It is enough to look at place 0, since the parser's definitions don't see what stands before the place (parser's `Moved`).
-use Rattle.std.specs.Prelude.{◌≡◌, Bool, ◌&&◌, ℕ, zero, suc, ◌+◌, ◌*◌, ◌-◌, ◌≤◌, ◌<◌, get_or, take, drop, leb}
+use Rattle.std.specs.Prelude.{◌≡◌, Bool, ◌&&◌, ℕ, zero, suc, ◌+◌, ◌*◌, ◌-◌, ◌≤◌, ◌<◌, get_or, take, drop, leb, if◌then◌else◌}
 use Rattle.std.proofs.Math.Path.{refl, sym, ap}
 use Rattle.std.proofs.Common.{◌∙◌, length-append, length-drop}
 use Rattle.std.proofs.Math.Bool.{true, false}
@@ -19,7 +19,6 @@ use Rattle.text.specs.declared.Found.TheVariants.{At, Nothing}
 use Rattle.table.specs.Table.{is_text}
 use Rattle.table.specs.Laws.{text_some, text_end}
 use Rattle.lines.specs.Lines.{crlf}
-use Rattle.outcome.specs.Outcome.{if◌then◌else◌}
 use Rattle.parser.specs.Parser.{only_blanks, prompt_from, custom_prompt, is_digit, value, run_at, ended_run, tail_at, numeric_at, line_ending, breaks_off, through, notice_text, notice_at}
 use Rattle.parser.specs.Laws.{text_broken, text_bare, text_through, notice_none, notice_is, digit_bounds, ending_fits}
 use Rattle.parser.specs.declared.Digits.{Digits}

@@ -1,7 +1,7 @@
 -- Each rule answers an item: it stands where buf begins or at a CRLF, and ends at the consumed count; a numeric error's digits and a CONNECT line's text are told (`tried_sound`).
 use Rattle.std.proofs.Math.Path.{◌≡◌, refl, sym, ap}
 use Rattle.std.proofs.Common.{◌∙◌, drop-drop, get_or-drop, lt-ltb, ltb-true}
-use Rattle.std.specs.Prelude.{◌⊎◌, Bool, ℕ, ◌+◌, ◌-◌, ◌≤◌, ◌<◌, take}
+use Rattle.std.specs.Prelude.{◌⊎◌, Bool, ℕ, ◌+◌, ◌-◌, ◌≤◌, ◌<◌, take, if◌then◌else◌}
 use Rattle.std.proofs.Math.Logic.{inl, inr, ⊎_elim}
 use Rattle.std.proofs.Math.Bool.{true, false}
 use mathlib.Core.List.{List, [], ◌∷◌}
@@ -13,7 +13,6 @@ use Rattle.text.specs.Bytes.{bytes}
 use Rattle.text.specs.Laws.{FoundAt, found_at, stands_drop, stands_front, stands_fits, stands_get_d}
 use Rattle.text.specs.declared.Found.{Found}
 use Rattle.text.specs.declared.Found.TheVariants.{At, Nothing}
-use Rattle.outcome.specs.Outcome.{if◌then◌else◌}
 use Rattle.table.specs.Table.{Token, Entry, of_mark}
 use Rattle.table.specs.Laws.{Texts, mark_texts}
 use Rattle.table.specs.declared.Mark.TheVariants as mark
@@ -34,7 +33,6 @@ use Rattle.items.specs.declared.Occurs.{Occurs}
 use Rattle.items.specs.declared.Occurs.TheVariants as occurs
 use Rattle.items.specs.declared.Tried.{Tried}
 use Rattle.items.specs.declared.Tried.TheVariants as tries
-use Rattle.outcome.specs.Outcome.{if◌then◌else◌}
 use Rattle.answers.specs.Answer.{has_number, stored, kind_found, is_found, is_numeric, placed, bare, nothing, with_number, with_digits, with_payload, with_text}
 use Rattle.answers.specs.Laws.{numbered_some, placed_some}
 use Rattle.items.specs.Rules.{or_else, first_of, heard, notices, occurs_or, first_custom, kind_of, success, custom_success, line_success, connect_at, first_connect, connected, connect_success, successes, prompt_tried, custom_prompts, prompts, custom_error, heads, numeric_tried, numeric_errors, error_lines, line_tried, line_errors, not_allowed, errors, tried}

@@ -1,5 +1,5 @@
 -- Demand 3, first half: the digest is None exactly when no line start holds a finished item (`complete`, `sound`), and what it gave then (`heard_so`).
-use Rattle.std.specs.Prelude.{◌≡◌, ◌⊎◌, Bool, ◌||◌, List, [], ◌∷◌, ℕ, zero, suc, ◌+◌, ◌-◌, ◌≤◌, ◌<◌, length, ltb}
+use Rattle.std.specs.Prelude.{◌≡◌, ◌⊎◌, Bool, ◌||◌, List, [], ◌∷◌, ℕ, zero, suc, ◌+◌, ◌-◌, ◌≤◌, ◌<◌, length, ltb, if◌then◌else◌}
 use Rattle.std.proofs.Math.Path.{refl, sym, ap}
 use Rattle.std.proofs.Common.{◌∙◌, inl, inr}
 use Rattle.std.proofs.Math.Logic.{⊎_elim}
@@ -13,7 +13,6 @@ use Rattle.text.specs.Logic.{false_true, not_true_false, and_both, order}
 use Rattle.text.specs.Text.{among, blanks, is_blank, stands}
 use Rattle.text.specs.Laws.{stands_drop, stands_fits, stands_byte}
 use Rattle.text.specs.declared.Blanks.TheVariants as sets
-use Rattle.outcome.specs.Outcome.{if◌then◌else◌}
 use Rattle.table.specs.Table.{Token, of_mark}
 use Rattle.table.specs.Laws.{Texts, mark_texts}
 use Rattle.table.specs.declared.Mark.TheVariants as mark
@@ -22,7 +21,6 @@ use Rattle.lines.specs.declared.Digester.{Digester}
 use Rattle.answers.specs.declared.Answer.{Answer}
 use Rattle.items.specs.declared.Tried.{Tried}
 use Rattle.items.specs.declared.Tried.TheVariants as tries
-use Rattle.outcome.specs.Outcome.{if◌then◌else◌}
 use Rattle.answers.specs.Answer.{is_found, nothing, shift, Within}
 use Rattle.answers.specs.Laws.{placed_some, shift_within_lem}
 use Rattle.items.specs.Rules.{skipped, tried}

@@ -1,6 +1,6 @@
 -- R-14: the ingress's calls with findings, sixteen numbers beside the buffer: what each says and leaves, for any numbers.
-use Rattle.std.specs.Prelude.{Bool, List, [], ℕ, ◌-◌, length, take, eqb, leb, ltb}
-use Rattle.outcome.specs.Outcome.{Outcome, answered, refused, if◌then◌else◌}
+use Rattle.std.specs.Prelude.{Bool, List, [], ℕ, ◌-◌, length, take, eqb, leb, ltb, if◌then◌else◌}
+use Rattle.outcome.specs.Outcome.{Outcome, answered, refused}
 use Rattle.findings.specs.declared.Findings.{Findings}
 use Rattle.findings.specs.Findings.{findings_in, numbers_of, findings_of, extended}
 use Rattle.selector.specs.Selector.{Choice}

@@ -1,5 +1,5 @@
 -- Genuine findings, those of the very bytes held, make a call with findings the ingress's own call; and what it leaves them is genuine again, refused by 5 or not.
-use Rattle.std.specs.Prelude.{◌≡◌, Bool, drop, eqb}
+use Rattle.std.specs.Prelude.{◌≡◌, Bool, drop, eqb, if◌then◌else◌}
 use Rattle.std.proofs.Math.Path.{refl, sym, ap}
 use Rattle.std.proofs.Common.{◌∙◌, ⊎_elim, length-append, length-take-le, eq-eqb, eqb-true, le-leb, leb-true, leb-false, ltb-false}
 use Rattle.std.proofs.Math.Bool.{true, false}
@@ -10,7 +10,7 @@ use Rattle.std.proofs.Math.ListN.{length, length-drop}
 use Rattle.std.proofs.Math.Seq.{take-length}
 use Rattle.std.proofs.Math.Dec.{leb, ltb}
 use Rattle.text.specs.Logic.{order, false_true, not_true_false}
-use Rattle.outcome.specs.Outcome.{Outcome, answered, refused, if◌then◌else◌}
+use Rattle.outcome.specs.Outcome.{Outcome, answered, refused}
 use Rattle.outcome.specs.Laws.{ways}
 use Rattle.answers.specs.declared.Answer.{Answer}
 use Rattle.answers.specs.Answer.{is_notice, nothing}

@@ -1,5 +1,5 @@
 -- Findings carried on piece by piece are those of all the bytes at once. Rests on scan's law of the same, and on text's laws of `keep` and `find_in`.
-use Rattle.std.specs.Prelude.{◌≡◌, refl, Bool, true, List, [], ◌∷◌, ◌++◌, ℕ, ◌+◌, ◌≤◌, ◌<◌, length, drop}
+use Rattle.std.specs.Prelude.{◌≡◌, refl, Bool, true, List, [], ◌∷◌, ◌++◌, ℕ, ◌+◌, ◌≤◌, ◌<◌, length, drop, if◌then◌else◌}
 use Rattle.std.proofs.Math.Path.{sym, ap}
 use Rattle.std.proofs.Common.{◌∙◌, ⊎_elim, arith, length-drop}
 use Rattle.std.proofs.Math.Bool.{false}
@@ -7,7 +7,6 @@ use Rattle.std.proofs.lemmas.List.{drop-append-le}
 use Rattle.std.proofs.Math.Seq.{drop-append_seam}
 use Rattle.std.proofs.Math.Dec.{eqb}
 use borrow.Author.Tests.{ne_eqb, eqb-true, eqb-false}
-use Rattle.outcome.specs.Outcome.{if◌then◌else◌}
 use Rattle.outcome.specs.Laws.{ways}
 use Rattle.text.specs.Logic.{order}
 use Rattle.text.specs.Text.{is_blank, keep, find_in}

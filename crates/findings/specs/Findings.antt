@@ -1,6 +1,5 @@
 -- What the bytes of a buffer have to say about the fixed lines, and how that is carried on over more bytes.
-use Rattle.std.specs.Prelude.{Bool, not, List, [], ◌∷◌, ℕ, ◌+◌, ◌-◌, length, get_or, drop, eqb}
-use Rattle.outcome.specs.Outcome.{if◌then◌else◌}
+use Rattle.std.specs.Prelude.{Bool, not, List, [], ◌∷◌, ℕ, ◌+◌, ◌-◌, length, get_or, drop, eqb, if◌then◌else◌}
 use Rattle.text.specs.Text.{is_blank, keep, find_in}
 use Rattle.text.specs.declared.Blanks.TheVariants.{Run}
 use Rattle.lines.specs.Lines.{fixed_text}

@@ -8,7 +8,8 @@ use lib.ListN.{length, drop, length-append}
 use lib.Seq.{length-take-le, drop_at}
 use lib.Dec.{ltb}
 use borrow.Author.Tests.{ltb-false}
-use Rattle.outcome.specs.Outcome.{Outcome, answered, refused, if◌then◌else◌}
+use Rattle.std.specs.Prelude.{if◌then◌else◌}
+use Rattle.outcome.specs.Outcome.{Outcome, answered, refused}
 use Rattle.outcome.specs.Laws.{ways}
 use Rattle.text.specs.Logic.{false_true}
 use Rattle.answers.specs.declared.Answer.{Answer}

@@ -1,8 +1,8 @@
 -- A client's calls under one table, each starting from the state and memories that the last one left; and what can be told of them: the winter's fault, shut out, over a restart too (R-9), and the serial number (R-11).
-use Rattle.std.specs.Prelude.{◌≡◌, true, false, List, [], ◌∷◌, ◌++◌, map, ℕ, ◌+◌, length, take}
+use Rattle.std.specs.Prelude.{◌≡◌, true, false, List, [], ◌∷◌, ◌++◌, map, ℕ, ◌+◌, length, take, if◌then◌else◌}
 use Rattle.text.specs.Text.{part_of}
 use Rattle.moves.specs.Moves.{put}
-use Rattle.outcome.specs.Outcome.{Outcome, answered, refused, if◌then◌else◌}
+use Rattle.outcome.specs.Outcome.{Outcome, answered, refused}
 use Rattle.slot.specs.Slot.{was_reset, was_read, Stands}
 use Rattle.slot.specs.declared.Slot.{Slot}
 use Rattle.queue.specs.Queue.{ours, older, capacity_of, taken, Got, got, empty, Arrival, waiting}

@@ -1,5 +1,5 @@
 -- An advance and a write keep what they promise: no byte is lost, and nothing finished is left. From the laws of a run.
-use Rattle.std.specs.Prelude.{◌≡◌, Bool, true, false, not, drop, leb, ltb}
+use Rattle.std.specs.Prelude.{◌≡◌, Bool, true, false, not, drop, leb, ltb, if◌then◌else◌}
 use Rattle.std.proofs.Math.Path.{refl}
 use Rattle.std.proofs.Common.{sym, ap, ◌∙◌, ⊎_elim, eq-or-lt_of_le, length-drop, take-add, drop-drop, eqb-true, leb-true, leb-false, ltb-false}
 use mathlib.Core.List.{List, [], ◌∷◌, ◌++◌, append-nil, append_assoc, map}
@@ -10,7 +10,7 @@ use Rattle.std.proofs.Math.Seq.{length-take-le}
 use Rattle.text.specs.Logic.{false_true}
 use Rattle.moves.specs.Moves.{put}
 use Rattle.moves.specs.Laws.{put_length, put_held}
-use Rattle.outcome.specs.Outcome.{Outcome, answered, refused, if◌then◌else◌}
+use Rattle.outcome.specs.Outcome.{Outcome, answered, refused}
 use Rattle.outcome.specs.Laws.{ways}
 use Rattle.selector.specs.Selector.{Choice}
 use Rattle.turn.specs.Turn.{with_end, is_refused, World, world, held, Quiet}

@@ -1,7 +1,7 @@
 -- The ingress in document 01's words, over one turn of it.
-use Rattle.std.specs.Prelude.{Bool, ◌&&◌, not, List, [], ◌∷◌, ℕ, zero, suc, ◌+◌, ◌-◌, min, length, take, drop, leb, ltb}
+use Rattle.std.specs.Prelude.{Bool, ◌&&◌, not, List, [], ◌∷◌, ℕ, zero, suc, ◌+◌, ◌-◌, min, length, take, drop, leb, ltb, if◌then◌else◌}
 use Rattle.moves.specs.Moves.{put}
-use Rattle.outcome.specs.Outcome.{Outcome, answered, refused, if◌then◌else◌}
+use Rattle.outcome.specs.Outcome.{Outcome, answered, refused}
 use Rattle.queue.specs.Queue.{ours, capacity_of, in_bounds}
 use Rattle.selector.specs.Selector.{Choice}
 use Rattle.turn.specs.Turn.{with_end, is_refused, World, world, with_state, Step, went, stuck, once}

@@ -1,10 +1,9 @@
 -- What a run keeps: it loses no byte and adds each notice once. From the laws of a turn.
-use Rattle.std.specs.Prelude.{◌≡◌, refl, Bool, true, false, List, [], ◌∷◌, ◌++◌, map, ℕ, zero, suc, ◌≤◌, ◌<◌, take, leb}
+use Rattle.std.specs.Prelude.{◌≡◌, refl, Bool, true, false, List, [], ◌∷◌, ◌++◌, map, ℕ, zero, suc, ◌≤◌, ◌<◌, take, leb, if◌then◌else◌}
 use Rattle.std.proofs.Common.{sym, ap, ◌∙◌, append-nil, append_assoc, arith}
 use borrow.Author.Tests.{leb-true, leb-false}
 use Rattle.text.specs.Logic.{false_true}
 use Rattle.text.specs.Laws.{part_take}
-use Rattle.outcome.specs.Outcome.{if◌then◌else◌}
 use Rattle.outcome.specs.Laws.{ways, same_way}
 use Rattle.answers.specs.Answer.{is_notice}
 use Rattle.answers.specs.declared.Answer.{Answer}

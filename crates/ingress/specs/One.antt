@@ -1,7 +1,7 @@
 -- Advanced and Written can be read off what `result_of` and `taking` make of them; so can the memories.
-use Rattle.std.specs.Prelude.{◌≡◌, refl, ℕ, get_or, eqb}
+use Rattle.std.specs.Prelude.{◌≡◌, refl, ℕ, get_or, eqb, if◌then◌else◌}
 use Rattle.std.proofs.Common.{ap}
-use Rattle.outcome.specs.Outcome.{Outcome, answered, refused, if◌then◌else◌}
+use Rattle.outcome.specs.Outcome.{Outcome, answered, refused}
 use Rattle.turn.specs.declared.State.{State}
 use Rattle.ingress.specs.declared.Advanced.{Advanced}
 use Rattle.ingress.specs.declared.Advanced.TheVariants as advances

@@ -1,7 +1,7 @@
 -- Where every byte goes and which notices come out, told as a story of events. Demand 3's second half and the winter's fault are stated over it.
-use Rattle.std.specs.Prelude.{◌≡◌, Bool, true, false, List, [], ◌∷◌, ◌++◌, ℕ, ◌≤◌, length, get_or, take, drop, eqb}
+use Rattle.std.specs.Prelude.{◌≡◌, Bool, true, false, List, [], ◌∷◌, ◌++◌, ℕ, ◌≤◌, length, get_or, take, drop, eqb, if◌then◌else◌}
 use Rattle.text.specs.Text.{part_of}
-use Rattle.outcome.specs.Outcome.{Outcome, answered, refused, if◌then◌else◌}
+use Rattle.outcome.specs.Outcome.{Outcome, answered, refused}
 use Rattle.answers.specs.Answer.{is_notice}
 use Rattle.answers.specs.declared.Answer.{Answer}
 use Rattle.slot.specs.Slot.{was_reset}

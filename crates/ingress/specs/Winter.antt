@@ -1,8 +1,8 @@
 -- The winter's fault is shut out: each call is a story, and so is a sequence of calls. From what advance and write keep.
-use Rattle.std.specs.Prelude.{◌≡◌, refl, Bool, true, false, List, [], ◌∷◌, ◌++◌, ℕ, ◌+◌, ◌≤◌, length, get_or, take, eqb}
+use Rattle.std.specs.Prelude.{◌≡◌, refl, Bool, true, false, List, [], ◌∷◌, ◌++◌, ℕ, ◌+◌, ◌≤◌, length, get_or, take, eqb, if◌then◌else◌}
 use Rattle.std.proofs.Common.{sym, ap, ◌∙◌, inl, append-nil, arith}
 use Rattle.moves.specs.Laws.{put_elsewhere}
-use Rattle.outcome.specs.Outcome.{Outcome, answered, refused, if◌then◌else◌}
+use Rattle.outcome.specs.Outcome.{Outcome, answered, refused}
 use Rattle.outcome.specs.Laws.{ways}
 use Rattle.answers.specs.Answer.{is_notice}
 use Rattle.answers.specs.declared.Answer.{Answer}

@@ -1,6 +1,5 @@
 -- Texts in lent memory: what the memory holds and where the text ends, and what numbers and bytes are as text.
-use Rattle.std.specs.Prelude.{List, [], ◌∷◌, ◌++◌, ℕ, zero, suc, ◌+◌, ◌/◌, ◌%◌, length, leb, ltb}
-use Rattle.outcome.specs.Outcome.{if◌then◌else◌}
+use Rattle.std.specs.Prelude.{List, [], ◌∷◌, ◌++◌, ℕ, zero, suc, ◌+◌, ◌/◌, ◌%◌, length, leb, ltb, if◌then◌else◌}
 use Rattle.moves.specs.Moves.{put}
 
 -- memory with a text put into it, and where the text ends

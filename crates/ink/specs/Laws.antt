@@ -1,12 +1,11 @@
 -- Laws of texts in lent memory: one behind another, how long they are, and the loops over digits and bytes.
-use Rattle.std.specs.Prelude.{◌≡◌, refl, List, [], ◌∷◌, ◌++◌, get_or, set, leb, ltb}
+use Rattle.std.specs.Prelude.{◌≡◌, refl, List, [], ◌∷◌, ◌++◌, get_or, set, leb, ltb, if◌then◌else◌}
 use Rattle.std.proofs.Math.Path.{sym, ap}
 use Rattle.std.proofs.Common.{◌∙◌, inr, append-nil, append_assoc, length-append, length-drop, length-set, take-append-drop, drop_of_length-le, take_all, take-suc, drop-cons, drop-set-lt, get_or-set_same, length-take-le, le-leb, lt-ltb, le-ltb, ltb-false}
 use Prim.Native.Nat.{ℕ, zero, suc, ◌+◌, ◌-◌, ◌*◌, ◌/◌, ◌%◌, ◌≤◌, ◌<◌}
 use native.Mathlib.Omega.{arith}
 use Rattle.std.proofs.Math.ListN.{length, take, drop}
 use Rattle.std.proofs.lemmas.Bool.{lt-leb}
-use Rattle.outcome.specs.Outcome.{if◌then◌else◌}
 use Rattle.outcome.specs.Laws.{ways}
 use Rattle.moves.specs.Moves.{put}
 use Rattle.moves.specs.Laws.{put_is, put_length, put_held, put_elsewhere}

@@ -1,12 +1,11 @@
 -- The ways out of the items' functions, over plain lists, and what holds of a chain of rules.
-use Rattle.std.specs.Prelude.{◌≡◌, Bool, ◌&&◌, ◌||◌, length, get_or, take, drop, eqb, leb}
+use Rattle.std.specs.Prelude.{◌≡◌, Bool, ◌&&◌, ◌||◌, length, get_or, take, drop, eqb, leb, if◌then◌else◌}
 use Rattle.std.proofs.Math.Path.{refl, sym, ap, ap₂}
 use Rattle.std.proofs.Common.{◌∙◌, arith, length-append, le-leb, leb-true}
 use Rattle.std.proofs.Math.Bool.{true, false}
 use mathlib.Core.List.{List, [], ◌∷◌}
 use Prim.Native.Nat.{ℕ, ◌+◌, ◌-◌, ◌≤◌, ◌<◌}
 use Rattle.std.proofs.lemmas.Bool.{lt-leb, eqb-false}
-use Rattle.outcome.specs.Outcome.{if◌then◌else◌}
 use Rattle.text.specs.Logic.{false_true, and_both}
 use Rattle.text.specs.Bytes.{bytes}
 use Rattle.text.specs.Text.{stands, find_in}

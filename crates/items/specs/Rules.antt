@@ -1,7 +1,6 @@
 -- Rules 1 to 5 of one digest, in document 01's order. They compute.
 -- The input is s; `buf` is what stands from the place e on, so a place in `buf` is a place of s at or after e.
-use Rattle.std.specs.Prelude.{Bool, ◌&&◌, List, [], ◌∷◌, ℕ, ◌+◌, ◌-◌, length}
-use Rattle.outcome.specs.Outcome.{if◌then◌else◌}
+use Rattle.std.specs.Prelude.{Bool, ◌&&◌, List, [], ◌∷◌, ℕ, ◌+◌, ◌-◌, length, if◌then◌else◌}
 use Rattle.text.specs.Text.{is_blank, past, trimmed_part, stands, find_in}
 use Rattle.text.specs.declared.Blanks.TheVariants as blanks
 use Rattle.text.specs.declared.Found.{Found}

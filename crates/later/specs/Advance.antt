@@ -1,10 +1,10 @@
 -- What a final answer means for an advance: had the later bytes come with the first ones, the first turn would have heard, delivered and consumed the same (`sooner`);
 -- so for the answers that R-13 names (`advance_sooner`).
-use Rattle.std.specs.Prelude.{◌≡◌, refl, Bool, true, false, List, ◌++◌, ℕ, ◌+◌, ◌-◌, ◌≤◌, length, take, drop}
+use Rattle.std.specs.Prelude.{◌≡◌, refl, Bool, true, false, List, ◌++◌, ℕ, ◌+◌, ◌-◌, ◌≤◌, length, take, drop, if◌then◌else◌}
 use Rattle.std.proofs.Common.{sym, ap, ◌∙◌, arith, length-append, length-take-le, take-add}
 use Rattle.std.proofs.lemmas.List.{take-append-le, drop-append-le}
 use Rattle.std.proofs.Math.Seq.{drop-append_seam}
-use Rattle.outcome.specs.Outcome.{answered, if◌then◌else◌}
+use Rattle.outcome.specs.Outcome.{answered}
 use Rattle.text.specs.Text.{part_of}
 use Rattle.text.specs.Laws.{part_is}
 use Rattle.moves.specs.Laws.{part_first}

@@ -2,12 +2,11 @@
 -- or where an OK line stands and no `CS` text is looked for (`line_stays`).
 use Rattle.std.proofs.Math.Path.{◌≡◌, refl, sym, ap}
 use Rattle.std.proofs.Common.{◌∙◌, ⊎_elim, length-append}
-use Rattle.std.specs.Prelude.{Bool, ℕ, ◌+◌, ◌-◌, ◌≤◌, ◌<◌, get_or}
+use Rattle.std.specs.Prelude.{Bool, ℕ, ◌+◌, ◌-◌, ◌≤◌, ◌<◌, get_or, if◌then◌else◌}
 use Rattle.std.proofs.Math.Bool.{true, false}
 use mathlib.Core.List.{List, [], ◌∷◌, ◌++◌}
 use native.Mathlib.Omega.{arith}
 use Rattle.std.proofs.Math.ListN.{length, get_or-append}
-use Rattle.outcome.specs.Outcome.{if◌then◌else◌}
 use Rattle.outcome.specs.Laws.{same_way}
 use Rattle.text.specs.Bytes.{bytes}
 use Rattle.text.specs.Logic.{false_true, not_true_false, and_both, order}

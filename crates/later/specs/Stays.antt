@@ -4,10 +4,10 @@
 use Rattle.std.proofs.Math.Path.{◌≡◌, refl, ap}
 use Rattle.std.proofs.Common.{sym, ◌∙◌, ⊎_elim, arith, length-append}
 use Rattle.std.proofs.Math.Bool.{true, false}
-use Rattle.std.specs.Prelude.{Bool, ℕ, ◌+◌, ◌-◌, ◌≤◌, length, drop, ltb}
+use Rattle.std.specs.Prelude.{Bool, ℕ, ◌+◌, ◌-◌, ◌≤◌, length, drop, ltb, if◌then◌else◌}
 use mathlib.Core.List.{List, [], ◌++◌, append-nil}
 use Rattle.std.proofs.Math.Seq.{drop-append_seam}
-use Rattle.outcome.specs.Outcome.{if◌then◌else◌, Outcome, answered, refused}
+use Rattle.outcome.specs.Outcome.{Outcome, answered, refused}
 use Rattle.text.specs.Bytes.{bytes}
 use Rattle.text.specs.Logic.{false_true}
 use Rattle.text.specs.Text.{begins, stands}

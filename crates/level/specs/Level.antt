@@ -1,6 +1,5 @@
 -- The rules of a level in their order, with the hints from the levels above. No promise of a public call of 01 cites it; that it says what rules 1 to 5 say is `level_says`.
-use Rattle.std.specs.Prelude.{◌≡◌, Bool, true, false, List, [], ℕ, ◌≤◌, length}
-use Rattle.outcome.specs.Outcome.{if◌then◌else◌}
+use Rattle.std.specs.Prelude.{◌≡◌, Bool, true, false, List, [], ℕ, ◌≤◌, length, if◌then◌else◌}
 use Rattle.table.specs.Table.{Token, Entry, same_mark, of_mark, entries}
 use Rattle.table.specs.declared.Mark.{Mark}
 use Rattle.table.specs.declared.Mark.TheVariants as mark

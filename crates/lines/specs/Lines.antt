@@ -1,6 +1,5 @@
 -- The fixed texts of document 01's rules 3 and 5, byte for byte, and which digester hears which.
-use Rattle.std.specs.Prelude.{Bool, true, false, List, ℕ, leb}
-use Rattle.outcome.specs.Outcome.{if◌then◌else◌}
+use Rattle.std.specs.Prelude.{Bool, true, false, List, ℕ, leb, if◌then◌else◌}
 use Rattle.text.specs.Bytes.{bytes}
 use Rattle.text.specs.declared.Found.{Found}
 use Rattle.text.specs.declared.Found.TheVariants.{At, Nothing}

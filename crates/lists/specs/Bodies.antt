@@ -1,5 +1,5 @@
 -- A body that holds no list: what stands at its place tells what it is, or which fault is the first there.
-use Rattle.std.specs.Prelude.{◌≡◌, Bool, ◌&&◌, ◌||◌, get_or, take, drop}
+use Rattle.std.specs.Prelude.{◌≡◌, Bool, ◌&&◌, ◌||◌, get_or, take, drop, if◌then◌else◌}
 use Rattle.std.proofs.Math.Path.{refl, sym, ap, subst}
 use Rattle.std.proofs.Common.{◌∙◌, arith, take-append-drop, length-take-le}
 use Rattle.std.proofs.Math.Logic.{inl, inr}
@@ -10,7 +10,6 @@ use Prim.Native.Nat.{ℕ, zero, suc, ◌+◌, ◌≤◌, ◌<◌}
 use Rattle.std.proofs.Math.ListN.{length, length-append}
 use Rattle.std.proofs.Math.Dec.{eqb}
 use borrow.Author.Tests.{le-leb, lt-leb, eqb-true}
-use Rattle.outcome.specs.Outcome.{if◌then◌else◌}
 use Rattle.text.specs.Logic.{false_true}
 use Rattle.text.specs.Text.{lead}
 use Rattle.text.specs.Laws.{lead_le}

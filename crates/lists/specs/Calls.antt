@@ -1,13 +1,12 @@
 -- From a place of the payload to the laws: what the tests of the readers say of the bytes from there on.
 use Rattle.std.proofs.Math.Path.{◌≡◌, refl, ap}
 use Rattle.std.proofs.Common.{sym, ◌∙◌, subst, ⊎_elim, arith, drop_of_length-le, drop-cons, drop-drop, get_or-drop}
-use Rattle.std.specs.Prelude.{Bool, not, ◌&&◌, List, ◌∷◌, length, get_or, drop, eqb}
+use Rattle.std.specs.Prelude.{Bool, not, ◌&&◌, List, ◌∷◌, length, get_or, drop, eqb, if◌then◌else◌}
 use Rattle.std.proofs.Math.Bool.{true, false}
 use Prim.Native.Nat.{ℕ, zero, suc, ◌+◌, ◌≤◌, ◌<◌}
 use Rattle.std.proofs.Math.ListN.{get_or-eq_default}
 use Rattle.std.proofs.Math.Dec.{leb}
 use borrow.Author.Tests.{ne_eqb, leb-true, leb-false}
-use Rattle.outcome.specs.Outcome.{if◌then◌else◌}
 use Rattle.text.specs.Logic.{false_true, order}
 use Rattle.text.specs.Text.{lead, past}
 use Rattle.parser.specs.Parser.{is_digit, value, run_at}

@@ -3,10 +3,9 @@
 --   element = *SP ( "" / number [ "-" number ] / string / "(" list ")" )
 --   number  = 1*DIGIT
 --   string  = DQUOTE *( char / "\" HEX HEX ) DQUOTE
-use Rattle.std.specs.Prelude.{◌≡◌, ◌⊎◌, Bool, true, false, ◌&&◌, ℕ, suc, ◌+◌, ◌≤◌, ◌<◌, length, take, replicate, leb, ltb}
+use Rattle.std.specs.Prelude.{◌≡◌, ◌⊎◌, Bool, true, false, ◌&&◌, ℕ, suc, ◌+◌, ◌≤◌, ◌<◌, length, take, replicate, leb, ltb, if◌then◌else◌}
 use mathlib.Core.List.{List, [], ◌∷◌, ◌++◌, Memᴰ}
 use Rattle.std.proofs.lemmas.List.Edits.{sets}
-use Rattle.outcome.specs.Outcome.{if◌then◌else◌}
 use Rattle.text.specs.Bytes.{bytes}
 use Rattle.parser.specs.Parser.{is_digit, value}
 use Rattle.pieces.specs.Pieces.{is_hex, is_char, numbers_of}

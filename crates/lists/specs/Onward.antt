@@ -1,5 +1,5 @@
 -- How the reading goes on over each form, and that a derivation within the limits is read to its end.
-use Rattle.std.specs.Prelude.{◌≡◌, Bool, true, false, get_or, replicate, eqb, leb, ltb}
+use Rattle.std.specs.Prelude.{◌≡◌, Bool, true, false, get_or, replicate, eqb, leb, ltb, if◌then◌else◌}
 use Rattle.std.proofs.Math.Path.{refl, ap}
 use Rattle.std.proofs.Common.{sym, ◌∙◌, subst, arith, length-append}
 use mathlib.Core.List.{List, [], ◌∷◌, ◌++◌, append_assoc, append-eq-nil_iff, cons-ne-nil}
@@ -7,7 +7,6 @@ use Prim.Native.Nat.{ℕ, zero, suc, ◌+◌, ◌*◌, ◌-◌, ◌≤◌, ◌<�
 use Rattle.std.proofs.Math.ListN.{length}
 use Rattle.std.proofs.lemmas.List.{length-replicate}
 use borrow.Author.Tests.{le-leb, lt-leb, leb-false, ltb-false}
-use Rattle.outcome.specs.Outcome.{if◌then◌else◌}
 use Rattle.text.specs.Logic.{and_both}
 use Rattle.parser.specs.Parser.{is_digit, value}
 use Rattle.pieces.specs.Pieces.{is_char, is_hex, heard}

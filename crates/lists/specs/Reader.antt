@@ -1,9 +1,8 @@
 -- What the readers tell, each of what stands from its place on: a derivation read to its end, or one that begins as the bytes do, with the fault.
-use Rattle.std.specs.Prelude.{◌≡◌, refl, ◌⊎◌, Bool, true, false, not, ◌&&◌, ◌||◌, ℕ, zero, suc, ◌+◌, ◌≤◌, ◌<◌, length, get_or, eqb, leb, ltb}
+use Rattle.std.specs.Prelude.{◌≡◌, refl, ◌⊎◌, Bool, true, false, not, ◌&&◌, ◌||◌, ℕ, zero, suc, ◌+◌, ◌≤◌, ◌<◌, length, get_or, eqb, leb, ltb, if◌then◌else◌}
 use Rattle.std.proofs.Common.{sym, subst, le-leb, lt-ltb, le-ltb, eqb-true}
 use mathlib.Core.List.{List, [], ◌∷◌, ◌++◌, Memᴰ}
 use Rattle.std.proofs.lemmas.Bool.{lt-leb}
-use Rattle.outcome.specs.Outcome.{if◌then◌else◌}
 use Rattle.text.specs.Logic.{false_true}
 use Rattle.parser.specs.Parser.{is_digit, value}
 use Rattle.pieces.specs.declared.Element.{Element}

@@ -1,10 +1,9 @@
 -- The verdict is the grammar's: no list goes on where the reading says 6, and no limit is passed before it stops.
-use Rattle.std.specs.Prelude.{◌≡◌, refl, ◌⊎◌, Bool, true, false, ℕ, suc, ◌+◌, ◌≤◌, ◌<◌, length, take, drop, eqb, leb}
+use Rattle.std.specs.Prelude.{◌≡◌, refl, ◌⊎◌, Bool, true, false, ℕ, suc, ◌+◌, ◌≤◌, ◌<◌, length, take, drop, eqb, leb, if◌then◌else◌}
 use Rattle.std.proofs.Common.{sym, ◌∙◌, subst, inl, inr, ⊎_elim, arith, length-append, take-append-drop, length-take-le, take_all, take-take}
 use Rattle.std.proofs.Math.Path.{ap}
 use mathlib.Core.List.{List, [], ◌∷◌, ◌++◌, Memᴰ, append_assoc, append-nil}
 use Rattle.std.proofs.Math.Seq.{take-append_seam, take-append-add, drop-append_seam}
-use Rattle.outcome.specs.Outcome.{if◌then◌else◌}
 use Rattle.outcome.specs.Laws.{ways}
 use Rattle.text.specs.Logic.{false_true, order}
 use Rattle.parser.specs.Parser.{is_digit, value}

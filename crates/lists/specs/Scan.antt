@@ -1,6 +1,5 @@
 -- A list read byte by byte: what may come next, and the first fault. Nothing here is promised: it is how the laws reach from a place in the bytes to the derivations.
-use Rattle.std.specs.Prelude.{Bool, true, false, ◌&&◌, List, [], ◌∷◌, ℕ, zero, suc, eqb, leb}
-use Rattle.outcome.specs.Outcome.{if◌then◌else◌}
+use Rattle.std.specs.Prelude.{Bool, true, false, ◌&&◌, List, [], ◌∷◌, ℕ, zero, suc, eqb, leb, if◌then◌else◌}
 use Rattle.parser.specs.Parser.{is_digit, value}
 use Rattle.pieces.specs.Pieces.{heard}
 use Rattle.pieces.specs.declared.Heard.{Heard}

@@ -1,5 +1,5 @@
 -- How a string goes on, where hexadecimal digits may be owed: closed, with what stands between, or broken off where no string goes on.
-use Rattle.std.specs.Prelude.{◌≡◌, Bool, true, ◌&&◌}
+use Rattle.std.specs.Prelude.{◌≡◌, Bool, true, ◌&&◌, if◌then◌else◌}
 use Rattle.std.proofs.Math.Path.{refl, ap}
 use Rattle.std.proofs.Common.{sym, ◌∙◌, arith, eqb-true}
 use Rattle.std.proofs.Math.Bool.{false}
@@ -7,7 +7,6 @@ use mathlib.Core.List.{List, [], ◌∷◌, ◌++◌}
 use Prim.Native.Nat.{ℕ, zero, suc, ◌+◌}
 use Rattle.std.proofs.Math.ListN.{length, replicate, length-replicate}
 use Rattle.std.proofs.Math.Dec.{eqb}
-use Rattle.outcome.specs.Outcome.{if◌then◌else◌}
 use Rattle.text.specs.Logic.{and_both}
 use Rattle.parser.specs.Parser.{is_digit}
 use Rattle.pieces.specs.Pieces.{is_char, is_hex, heard, goes_on, string_end}

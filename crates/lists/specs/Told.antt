@@ -1,12 +1,11 @@
 -- What each reader promises: what it read or refused, and what it left in the memory; and what that makes of a whole payload.
-use Rattle.std.specs.Prelude.{◌≡◌, ◌⊎◌, Bool, ◌&&◌, ℕ, suc, ◌+◌, ◌*◌, ◌≤◌, ◌<◌, length, get_or, set, take, eqb}
+use Rattle.std.specs.Prelude.{◌≡◌, ◌⊎◌, Bool, ◌&&◌, ℕ, suc, ◌+◌, ◌*◌, ◌≤◌, ◌<◌, length, get_or, set, take, eqb, if◌then◌else◌}
 use Rattle.std.proofs.Math.Path.{refl}
 use Rattle.std.proofs.Common.{sym, ap, ◌∙◌, subst, inl, inr, ⊎_elim, arith, length-append, take-take}
 use Rattle.std.proofs.Math.Bool.{true, false}
 use mathlib.Core.List.{List, [], ◌∷◌, ◌++◌, Memᴰ, append-nil}
 use Rattle.std.proofs.lemmas.List.Edits.{sets}
 use Rattle.std.proofs.lemmas.List.{set_comm, take-append-le}
-use Rattle.outcome.specs.Outcome.{if◌then◌else◌}
 use Rattle.text.specs.Logic.{false_true, order}
 use Rattle.pieces.specs.Pieces.{numbers_of}
 use Rattle.pieces.specs.declared.Element.{Element}

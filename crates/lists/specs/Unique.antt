@@ -1,8 +1,7 @@
 -- A word has one derivation: what follows an element tells where it is over.
-use Rattle.std.specs.Prelude.{◌≡◌, refl, true, false, List, [], ◌∷◌, ◌++◌, ℕ, zero, suc, get_or, drop, replicate, eqb}
+use Rattle.std.specs.Prelude.{◌≡◌, refl, true, false, List, [], ◌∷◌, ◌++◌, ℕ, zero, suc, get_or, drop, replicate, eqb, if◌then◌else◌}
 use Rattle.std.proofs.Common.{sym, ap, ◌∙◌, subst, append_assoc, arith}
 use Rattle.std.proofs.Math.Bool.{Bool-set}
-use Rattle.outcome.specs.Outcome.{if◌then◌else◌}
 use Rattle.text.specs.Logic.{false_true, and_both}
 use Rattle.parser.specs.Parser.{is_digit}
 use Rattle.pieces.specs.Pieces.{is_char, is_hex}

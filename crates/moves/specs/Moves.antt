@@ -1,6 +1,5 @@
 -- What lent memory holds after bytes were put into it, and after its bytes went to the front: every byte is said.
-use Rattle.std.specs.Prelude.{◌&&◌, List, ◌++◌, ℕ, ◌+◌, ◌-◌, min, length, take, drop, leb}
-use Rattle.outcome.specs.Outcome.{if◌then◌else◌}
+use Rattle.std.specs.Prelude.{◌&&◌, List, ◌++◌, ℕ, ◌+◌, ◌-◌, min, length, take, drop, leb, if◌then◌else◌}
 
 -- m with p from the place i on, where it fits
 unfoldable pub put : List ℕ → ℕ → List ℕ → List ℕ

@@ -1,7 +1,6 @@
 -- What each number of a lent array means: a state as ten numbers, what a call answers at the front of an array of nine, and a digester by its number.
-use Rattle.std.specs.Prelude.{List, [], ◌∷◌, ℕ, min, get_or, eqb, ltb}
+use Rattle.std.specs.Prelude.{List, [], ◌∷◌, ℕ, min, get_or, eqb, ltb, if◌then◌else◌}
 use Rattle.std.proofs.lemmas.List.Edits.{sets}
-use Rattle.outcome.specs.Outcome.{if◌then◌else◌}
 use Rattle.lines.specs.declared.Digester.TheVariants.{Verbose, Connect}
 use Rattle.answers.specs.declared.Kind.{Kind}
 use Rattle.answers.specs.declared.Kind.TheVariants as kind

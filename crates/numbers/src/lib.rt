@@ -3,8 +3,7 @@
 // as it stood, in plain form or not: so a call changes no number but those that it gives another meaning.
 #![tactic(auto)]
 
-ghost use Rattle.std.specs.Prelude.{◌≡◌, ◌<◌, get_or};
-ghost use Rattle.outcome.specs.Outcome.{if◌then◌else◌};
+ghost use Rattle.std.specs.Prelude.{◌≡◌, ◌<◌, get_or, if◌then◌else◌};
 ghost use Rattle.numbers.specs.Numbers.{selector_of, kind_of, word, held_number, held_of, answer_of, slot_of, queue_of, state_of, kept, with_slot, with_queue, with_state, laid, answer_values};
 
 use answers::{Answer, Kind};

@@ -1,6 +1,6 @@
 -- The digester for modems in V0 (R-1), in the request's words. It computes. Past the input's end `get_or` gives 0, which is no CR, no LF and no digit.
-use Rattle.std.specs.Prelude.{Bool, true, ◌&&◌, ◌||◌, not, List, [], ◌∷◌, ℕ, zero, suc, ◌+◌, length, get_or, eqb, ltb}
-use Rattle.outcome.specs.Outcome.{Outcome, answered, refused, if◌then◌else◌}
+use Rattle.std.specs.Prelude.{Bool, true, ◌&&◌, ◌||◌, not, List, [], ◌∷◌, ℕ, zero, suc, ◌+◌, length, get_or, eqb, ltb, if◌then◌else◌}
+use Rattle.outcome.specs.Outcome.{Outcome, answered, refused}
 use Rattle.text.specs.Bytes.{bytes}
 use Rattle.text.specs.Text.{among, trimmed_part}
 use Rattle.text.specs.declared.Found.{Found}

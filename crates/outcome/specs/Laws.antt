@@ -1,6 +1,5 @@
 -- The laws of the conditional that rewriting doesn't give.
-use Rattle.std.specs.Prelude.{◌≡◌, refl, Bool, true, false}
-use Rattle.outcome.specs.Outcome.{if◌then◌else◌}
+use Rattle.std.specs.Prelude.{◌≡◌, refl, Bool, true, false, if◌then◌else◌}
 
 -- What holds of each of two ways holds of what the test chooses. The ways are found from the goal; write the property and the test.
 pub ways : {A : Type 0} {x y : A} (P : A → Type 0) (b : Bool) → (b ≡ true → P x) → (b ≡ false → P y) → P (if b then x else y)

@@ -1,6 +1,6 @@
 -- Laws of what stands at a place: the ways out of each function, over plain lists.
 -- Each rests on text's laws of `stands`, `find_in` and `past`; none looks into a search.
-use Rattle.std.specs.Prelude.{◌≡◌, Bool, ◌&&◌, get_or, take, drop, ltb}
+use Rattle.std.specs.Prelude.{◌≡◌, Bool, ◌&&◌, get_or, take, drop, ltb, if◌then◌else◌}
 use Rattle.std.proofs.Math.Path.{refl, sym, ap}
 use Rattle.std.proofs.Common.{◌∙◌, add-one, length-append, drop_of_length-le}
 use Rattle.std.proofs.Math.Bool.{true, false}
@@ -25,7 +25,6 @@ use Rattle.parser.specs.declared.Digits.{Digits}
 use Rattle.parser.specs.declared.Numeric.TheVariants as numeric
 use Rattle.parser.specs.declared.Notice.TheVariants as notice
 use Rattle.lines.specs.Lines.{crlf}
-use Rattle.outcome.specs.Outcome.{if◌then◌else◌}
 use Rattle.outcome.specs.Laws.{ways}
 use Rattle.parser.specs.Parser.{line_ending, is_digit, value, run_at, digits_at, ended_run, tail_at, numeric_at, at_found, numeric_error, custom_prompt, wrapped, breaks_off, through, notice_text, after_ending, notice_at}
 

@@ -1,5 +1,5 @@
 -- The parser's definitions don't see what stands before the place: at d + p of s they say what they say at p of the suffix from d on, moved by d.
-use Rattle.std.specs.Prelude.{◌≡◌, Bool, true, false, ◌&&◌, List, [], ◌∷◌, ◌++◌, ℕ, zero, suc, ◌+◌, ◌-◌, ◌≤◌, ◌<◌, length, drop, leb, ltb}
+use Rattle.std.specs.Prelude.{◌≡◌, Bool, true, false, ◌&&◌, List, [], ◌∷◌, ◌++◌, ℕ, zero, suc, ◌+◌, ◌-◌, ◌≤◌, ◌<◌, length, drop, leb, ltb, if◌then◌else◌}
 use Rattle.std.proofs.Math.Path.{refl}
 use Rattle.std.proofs.Common.{sym, ap, ◌∙◌, ⊎_elim, add-zero, arith, length-drop, drop-drop, lt-ltb, le-ltb}
 use Rattle.text.specs.Bytes.{bytes}
@@ -10,7 +10,6 @@ use Rattle.text.specs.declared.Blanks.TheVariants as blanks
 use Rattle.text.specs.declared.Found.{Found}
 use Rattle.text.specs.declared.Found.TheVariants.{At, Nothing}
 use Rattle.lines.specs.Lines.{crlf}
-use Rattle.outcome.specs.Outcome.{if◌then◌else◌}
 use Rattle.parser.specs.Parser.{only_blanks, prompt_from, custom_prompt, is_digit, value, run_at, digits_at, ended_run, tail_at, numeric_at, line_ending, breaks_off, through, notice_text, after_ending, notice_at}
 use Rattle.parser.specs.declared.Digits.{Digits}
 use Rattle.parser.specs.declared.Run.{Run}

@@ -1,12 +1,11 @@
 -- What may stand at a place of the input, in the words of document 01's rules 2 to 5.
-use Rattle.std.specs.Prelude.{Bool, false, ◌&&◌, List, [], ◌∷◌, ◌++◌, ℕ, zero, suc, ◌+◌, ◌*◌, ◌-◌, length, drop, leb, ltb}
+use Rattle.std.specs.Prelude.{Bool, false, ◌&&◌, List, [], ◌∷◌, ◌++◌, ℕ, zero, suc, ◌+◌, ◌*◌, ◌-◌, length, drop, leb, ltb, if◌then◌else◌}
 use Rattle.text.specs.Bytes.{bytes}
 use Rattle.text.specs.Text.{is_blank, past, keep, begins, stands, find_in}
 use Rattle.text.specs.declared.Blanks.TheVariants as blanks
 use Rattle.text.specs.declared.Found.{Found}
 use Rattle.text.specs.declared.Found.TheVariants.{At, Nothing}
 use Rattle.lines.specs.Lines.{crlf}
-use Rattle.outcome.specs.Outcome.{if◌then◌else◌}
 use Rattle.parser.specs.declared.Run.{Run}
 use Rattle.parser.specs.declared.Run.TheVariants.{Value, TooLarge}
 use Rattle.parser.specs.declared.Numeric.{Numeric}

@@ -1,6 +1,5 @@
 -- The bytes that strings and numbers of docs/LISTS.md are made of, and an element as six numbers.
-use Rattle.std.specs.Prelude.{Bool, ◌&&◌, ◌||◌, not, List, [], ◌∷◌, ℕ, zero, suc, ◌+◌, ◌*◌, get_or, eqb, leb}
-use Rattle.outcome.specs.Outcome.{if◌then◌else◌}
+use Rattle.std.specs.Prelude.{Bool, ◌&&◌, ◌||◌, not, List, [], ◌∷◌, ℕ, zero, suc, ◌+◌, ◌*◌, get_or, eqb, leb, if◌then◌else◌}
 use Rattle.parser.specs.Parser.{is_digit, run_at}
 use Rattle.pieces.specs.declared.Heard.{Heard}
 use Rattle.pieces.specs.declared.Heard.TheVariants.{Owes, Closes, Breaks}

@@ -1,10 +1,9 @@
 -- What a caller may know of places, and the ways out of the functions. Rests on text's laws of `stands` and `find_in`.
-use Rattle.std.specs.Prelude.{◌≡◌, refl, Bool, true, false, ◌&&◌, List, ℕ, ◌+◌, ◌-◌, ◌≤◌, ◌<◌, leb}
+use Rattle.std.specs.Prelude.{◌≡◌, refl, Bool, true, false, ◌&&◌, List, ℕ, ◌+◌, ◌-◌, ◌≤◌, ◌<◌, leb, if◌then◌else◌}
 use Rattle.std.proofs.Math.Path.{sym, ap}
 use Rattle.std.proofs.Common.{◌∙◌, arith}
 use Rattle.std.proofs.Math.ListN.{length}
 use borrow.Author.Tests.{le-leb, lt-leb}
-use Rattle.outcome.specs.Outcome.{if◌then◌else◌}
 use Rattle.text.specs.Logic.{and_both}
 use Rattle.text.specs.Text.{stands, find_in}
 use Rattle.text.specs.Laws.{found_at, stands_fits}

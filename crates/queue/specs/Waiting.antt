@@ -1,7 +1,7 @@
 -- What puts and takes do to the notices that wait: an answered put adds its own at the back or loses it, a refused one changes no byte, a take hands out the oldest.
 use Rattle.std.proofs.Math.Path.{◌≡◌, refl, sym, ap}
 use Rattle.std.proofs.Common.{◌∙◌, add-one, zero-add, take-append-drop, length-append, drop-drop, take_all}
-use Rattle.std.specs.Prelude.{◌⊎◌, Bool, false, ◌&&◌, not, eqb}
+use Rattle.std.specs.Prelude.{◌⊎◌, Bool, false, ◌&&◌, not, eqb, if◌then◌else◌}
 use Rattle.std.proofs.Math.Logic.{inl, inr, ⊎_elim}
 use Rattle.std.proofs.Math.Bool.{true}
 use mathlib.Core.List.{List, [], ◌∷◌, ◌++◌, append-nil, append_assoc}
@@ -18,7 +18,7 @@ use Rattle.text.specs.Text.{begins, stands, part_of}
 use Rattle.text.specs.Laws.{part_is}
 use Rattle.moves.specs.Moves.{put}
 use Rattle.moves.specs.Laws.{put_there, put_elsewhere, put_length, part_first}
-use Rattle.outcome.specs.Outcome.{Outcome, answered, refused, if◌then◌else◌}
+use Rattle.outcome.specs.Outcome.{Outcome, answered, refused}
 use Rattle.outcome.specs.Laws.{ways}
 use Rattle.queue.specs.declared.Queue.{Queue}
 use Rattle.queue.specs.declared.Notice.{Notice}

@@ -1,6 +1,5 @@
 -- What atread prints, in document 01's words.
-use Rattle.std.specs.Prelude.{List, [], ◌∷◌, ◌++◌, ℕ, ◌-◌, length, drop, ltb}
-use Rattle.outcome.specs.Outcome.{if◌then◌else◌}
+use Rattle.std.specs.Prelude.{List, [], ◌∷◌, ◌++◌, ℕ, ◌-◌, length, drop, ltb, if◌then◌else◌}
 use Rattle.text.specs.Bytes.{bytes}
 use Rattle.text.specs.Text.{part_of}
 use Rattle.ink.specs.Ink.{Ink, inked, ink, decimal, hex}

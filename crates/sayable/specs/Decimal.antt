@@ -1,9 +1,8 @@
 -- A number's decimal digits are digits, at least one, and the value that rule 5 makes of them is the number (`decimal_digits`, `decimal_some`, `decimal_value`).
 -- By induction on the fuel, of which 20 is enough below the twentieth power of ten.
-use Rattle.std.specs.Prelude.{◌≡◌, refl, true, List, [], ◌∷◌, ◌++◌, ℕ, zero, suc, ◌+◌, ◌-◌, ◌*◌, ◌/◌, ◌%◌, ◌^◌, ◌≤◌, ◌<◌, length, get_or, leb}
+use Rattle.std.specs.Prelude.{◌≡◌, refl, true, List, [], ◌∷◌, ◌++◌, ℕ, zero, suc, ◌+◌, ◌-◌, ◌*◌, ◌/◌, ◌%◌, ◌^◌, ◌≤◌, ◌<◌, length, get_or, leb, if◌then◌else◌}
 use Rattle.std.proofs.Common.{sym, ap, ◌∙◌, ⊎_elim, suc-le-suc, pow-suc, arith, length-append, get_or-append-add, le-leb, leb-false}
 use Rattle.std.proofs.Math.ListN.{get_or-append}
-use Rattle.outcome.specs.Outcome.{if◌then◌else◌}
 use Rattle.outcome.specs.Laws.{ways}
 use Rattle.text.specs.Logic.{order}
 use Rattle.lines.specs.Lines.{crlf}

@@ -1,11 +1,11 @@
 -- To be read back under the empty table, taken apart (`heard_back`) and put together (`back_heard`), by what the digester hears in what is written.
 -- Rests on the empty table's having no records, by computation.
-use Rattle.std.specs.Prelude.{◌≡◌, Bool, ℕ, ◌≤◌, length, ltb}
+use Rattle.std.specs.Prelude.{◌≡◌, Bool, ℕ, ◌≤◌, length, ltb, if◌then◌else◌}
 use Rattle.std.proofs.Math.Path.{refl}
 use Rattle.std.proofs.Common.{sym, ap, ◌∙◌, le-ltb, ltb-false}
 use Rattle.std.proofs.Math.Bool.{true, false}
 use mathlib.Core.List.{List, []}
-use Rattle.outcome.specs.Outcome.{answered, refused, if◌then◌else◌}
+use Rattle.outcome.specs.Outcome.{answered, refused}
 use Rattle.text.specs.Logic.{false_true}
 use Rattle.text.specs.Text.{part_of}
 use Rattle.table.specs.Table.{ruling, tokens}

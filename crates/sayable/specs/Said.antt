@@ -2,11 +2,11 @@
 -- (`said_back`). Under a good table refusal 16 is given where it would not be (`unread`), else 17 where the bytes don't fit (`short`), else they are written (`wrote`).
 use Rattle.std.proofs.Math.Path.{◌≡◌, refl}
 use Rattle.std.proofs.Common.{sym, ap, ◌∙◌, zero-add, arith, eqb-true, eq-eqb, ltb-false, lt-ltb, le-ltb}
-use Rattle.std.specs.Prelude.{Bool, ◌&&◌, List, [], ℕ, ◌+◌, ◌≤◌, ◌<◌, length, take, drop, eqb, ltb}
+use Rattle.std.specs.Prelude.{Bool, ◌&&◌, List, [], ℕ, ◌+◌, ◌≤◌, ◌<◌, length, take, drop, eqb, ltb, if◌then◌else◌}
 use Rattle.std.proofs.Math.Bool.{true, false, not}
 use Rattle.std.proofs.Math.Seq.{drop-append_seam}
 use Rattle.std.proofs.lemmas.Bool.{not-true}
-use Rattle.outcome.specs.Outcome.{Outcome, answered, refused, if◌then◌else◌}
+use Rattle.outcome.specs.Outcome.{Outcome, answered, refused}
 use Rattle.text.specs.Logic.{false_true, not_true_false, and_both}
 use Rattle.text.specs.Text.{stands, part_of}
 use Rattle.text.specs.Laws.{begins_self, begins_whole}

@@ -1,9 +1,8 @@
 -- Under no records whatever the digester says can be said, and has no payload, unless it is None, an Ok, unknown or not allowed (`digest_told`).
 -- Rests on the rules of items one by one, and on the retry's answer being of the same kind, number and payload's length.
-use Rattle.std.specs.Prelude.{◌≡◌, refl, Bool, true, false, ◌&&◌, List, [], ℕ, ◌+◌, ◌≤◌, ◌<◌, length, drop, leb, ltb}
+use Rattle.std.specs.Prelude.{◌≡◌, refl, Bool, true, false, ◌&&◌, List, [], ℕ, ◌+◌, ◌≤◌, ◌<◌, length, drop, leb, ltb, if◌then◌else◌}
 use Rattle.std.proofs.Math.Path.{subst}
 use Rattle.std.proofs.Common.{arith, leb-true}
-use Rattle.outcome.specs.Outcome.{if◌then◌else◌}
 use Rattle.outcome.specs.Laws.{ways}
 use Rattle.text.specs.Logic.{false_true}
 use Rattle.text.specs.Text.{is_blank, past, stands, find_in}

@@ -1,6 +1,5 @@
 -- The table's numbers, as the source has them, and what a step by it is.
-use Rattle.std.specs.Prelude.{◌&&◌, List, [], ◌∷◌, ◌++◌, ℕ, zero, suc, ◌-◌, eqb, ltb, leb, get_or, replicate}
-use Rattle.outcome.specs.Outcome.{if◌then◌else◌}
+use Rattle.std.specs.Prelude.{◌&&◌, List, [], ◌∷◌, ◌++◌, ℕ, zero, suc, ◌-◌, eqb, ltb, leb, get_or, replicate, if◌then◌else◌}
 use Rattle.text.specs.Bytes.{bytes}
 
 -- the bytes that the texts have, in the order of their classes

@@ -1,7 +1,7 @@
 -- The response slot in document 01's words: what each call leaves of the slot and of its memory, and when it refuses.
-use Rattle.std.specs.Prelude.{◌≡◌, Bool, true, false, not, List, [], ℕ, length, ltb, eqb}
+use Rattle.std.specs.Prelude.{◌≡◌, Bool, true, false, not, List, [], ℕ, length, ltb, eqb, if◌then◌else◌}
 use Rattle.moves.specs.Moves.{put, one_more}
-use Rattle.outcome.specs.Outcome.{Outcome, answered, refused, if◌then◌else◌}
+use Rattle.outcome.specs.Outcome.{Outcome, answered, refused}
 use Rattle.answers.specs.Answer.{numbered, stored, is_numeric}
 use Rattle.answers.specs.declared.Kind.{Kind}
 use Rattle.answers.specs.declared.Kind.TheVariants as kind

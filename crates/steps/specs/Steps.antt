@@ -1,6 +1,5 @@
 -- The steps of an input s that is digested to its end under a table t.
-use Rattle.std.specs.Prelude.{List, [], ◌∷◌, ℕ, zero, suc, ◌+◌, length, drop, eqb}
-use Rattle.outcome.specs.Outcome.{if◌then◌else◌}
+use Rattle.std.specs.Prelude.{List, [], ◌∷◌, ℕ, zero, suc, ◌+◌, length, drop, eqb, if◌then◌else◌}
 use Rattle.lines.specs.declared.Digester.TheVariants as digester
 use Rattle.digest.specs.Digest.{digest_unchecked}
 use Rattle.steps.specs.declared.Step.{Step}

@@ -1,7 +1,7 @@
 -- Laws of the token table: the ways out of each reader, a text by its two ends, the loops over the records, the records with a mark, and what a good table's tokens are.
 use Rattle.std.proofs.Math.Path.{◌≡◌, refl, sym, ap}
 use Rattle.std.proofs.Common.{◌∙◌, add-one, not-suc-le-zero, le_of_suc-le-suc, length-drop, take-append-drop, take-suc, take-add, take_all, get_or-drop, length-take-le}
-use Rattle.std.specs.Prelude.{Bool, not, ◌&&◌, length, take, drop, eqb, leb, ltb}
+use Rattle.std.specs.Prelude.{Bool, not, ◌&&◌, length, take, drop, eqb, leb, ltb, if◌then◌else◌}
 use Rattle.std.proofs.Math.Bool.{true, false, and-true, and-false, and_assoc, and_self_left}
 use mathlib.Core.List.{List, [], ◌∷◌, ◌++◌}
 use Prim.Native.Nat.{ℕ, zero, suc, ◌+◌, ◌-◌, ◌*◌, ◌≤◌, ◌<◌}
@@ -13,7 +13,7 @@ use Rattle.text.specs.Logic.{and_both}
 use Rattle.text.specs.Text.{among, blanks, is_blank, stands}
 use Rattle.text.specs.Laws.{part_is}
 use Rattle.text.specs.declared.Blanks.TheVariants.{Run}
-use Rattle.outcome.specs.Outcome.{Outcome, answered, refused, if◌then◌else◌}
+use Rattle.outcome.specs.Outcome.{Outcome, answered, refused}
 use Rattle.outcome.specs.Laws.{ways}
 use Rattle.table.specs.declared.Mark.{Mark}
 use Rattle.table.specs.declared.Mark.TheVariants.{Notice, Success, Error, Prompt}

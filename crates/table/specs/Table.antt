@@ -1,8 +1,8 @@
 -- The token table: its records as they lie, what a good table is, and the tokens that the digester goes by.
-use Rattle.std.specs.Prelude.{Bool, true, ◌&&◌, not, List, [], ◌∷◌, ℕ, zero, suc, ◌+◌, ◌-◌, length, get_or, eqb, leb, ltb}
+use Rattle.std.specs.Prelude.{Bool, true, ◌&&◌, not, List, [], ◌∷◌, ℕ, zero, suc, ◌+◌, ◌-◌, length, get_or, eqb, leb, ltb, if◌then◌else◌}
 use Rattle.text.specs.Bytes.{bytes}
 use Rattle.text.specs.Text.{stands, part_of}
-use Rattle.outcome.specs.Outcome.{Outcome, answered, refused, if◌then◌else◌}
+use Rattle.outcome.specs.Outcome.{Outcome, answered, refused}
 use Rattle.table.specs.declared.Mark.{Mark}
 use Rattle.table.specs.declared.Mark.TheVariants.{Notice, Success, Error, Prompt}
 use Rattle.table.specs.declared.Record.{Record}

@@ -1,6 +1,6 @@
 -- What a caller may know of the definitions of `Text`, whatever their text. No caller unfolds a search.
 -- Rests on the steps of `Steps`; the search by induction on how far there is to go.
-use Rattle.std.specs.Prelude.{◌≡◌, refl, Bool, true, false, ◌&&◌, length, get_or, drop}
+use Rattle.std.specs.Prelude.{◌≡◌, refl, Bool, true, false, ◌&&◌, length, get_or, drop, if◌then◌else◌}
 use Rattle.std.proofs.Math.Path.{sym, ap}
 use Rattle.std.proofs.Common.{◌∙◌, ⊎_elim, add-one, sub-one, add-zero, zero-add, not-suc-le-zero, le_of_suc-le-suc, eq-or-lt_of_le, take-append-drop, take_all, drop-cons, length-take-le, drop-drop, get_or-drop}
 use Rattle.std.proofs.Math.Bool.{and-true, and-false, and_assoc}
@@ -12,7 +12,6 @@ use Rattle.std.proofs.Math.Seq.{take-length}
 use Rattle.std.proofs.lemmas.List.{take-append-le, drop-append-le}
 use Rattle.std.proofs.Math.Dec.{eqb}
 use borrow.Author.Tests.{eq-eqb, ne_eqb, eqb-true, eqb-false, le-leb, lt-leb}
-use Rattle.outcome.specs.Outcome.{if◌then◌else◌}
 use Rattle.outcome.specs.Laws.{ways}
 use Rattle.text.specs.Logic.{false_true, not_true_false, and_both, order}
 use Rattle.text.specs.Text.{is_blank, lead, past, keep, trimmed, trimmed_part, begins, stands, search, find_in, part_of, part_at, further}

@@ -1,5 +1,5 @@
 -- One step of each definition of `Text`, as the loops take it: the byte at hand passes, fails, or there is none.
-use Rattle.std.specs.Prelude.{◌≡◌, refl, Bool, true, false, ◌&&◌, ◌||◌, length, get_or, take, drop}
+use Rattle.std.specs.Prelude.{◌≡◌, refl, Bool, true, false, ◌&&◌, ◌||◌, length, get_or, take, drop, if◌then◌else◌}
 use Rattle.std.proofs.Math.Path.{ap}
 use Rattle.std.proofs.Common.{◌∙◌, add-one, sub-one, le_of_suc-le-suc, arith, length-drop, drop_of_length-le, take-suc, length-take-le, eq-eqb, ne_eqb}
 use Rattle.std.proofs.Math.Bool.{and-false}
@@ -7,7 +7,6 @@ use mathlib.Core.List.{List, [], ◌∷◌, ◌++◌}
 use Prim.Native.Nat.{ℕ, zero, suc, ◌+◌, ◌-◌, ◌≤◌, ◌<◌}
 use Rattle.std.proofs.Math.Seq.{drop-cons}
 use Rattle.std.proofs.Math.Dec.{eqb, eqb-suc-zero}
-use Rattle.outcome.specs.Outcome.{if◌then◌else◌}
 use Rattle.text.specs.Text.{among, blanks, is_blank, lead, past, keep, begins, stands, search, find_in}
 use Rattle.text.specs.declared.Blanks.TheVariants.{Run, Trim}
 use Rattle.text.specs.declared.Found.TheVariants.{At, Nothing}

@@ -1,6 +1,5 @@
 -- Blanks, trimming and searching as functions on lists that compute. A place is a number of bytes from the front.
-use Rattle.std.specs.Prelude.{Bool, true, false, ◌&&◌, ◌||◌, List, [], ◌∷◌, ℕ, zero, suc, ◌+◌, ◌-◌, length, take, drop, eqb, leb}
-use Rattle.outcome.specs.Outcome.{if◌then◌else◌}
+use Rattle.std.specs.Prelude.{Bool, true, false, ◌&&◌, ◌||◌, List, [], ◌∷◌, ℕ, zero, suc, ◌+◌, ◌-◌, length, take, drop, eqb, leb, if◌then◌else◌}
 use Rattle.text.specs.Bytes.{bytes}
 use Rattle.text.specs.declared.Blanks.{Blanks}
 use Rattle.text.specs.declared.Blanks.TheVariants.{Space, Run, Trim}

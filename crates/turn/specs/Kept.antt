@@ -1,13 +1,13 @@
 -- What a turn keeps: it stays within the bounds, loses no byte, adds its notice once, and changes neither the serial number nor what is stored (R-11).
 -- From laws that the layers below export.
-use Rattle.std.specs.Prelude.{◌≡◌, Bool, List, [], ◌++◌, ℕ, ◌-◌, ◌≤◌, length, take, drop}
+use Rattle.std.specs.Prelude.{◌≡◌, Bool, List, [], ◌++◌, ℕ, ◌-◌, ◌≤◌, length, take, drop, if◌then◌else◌}
 use Rattle.std.proofs.Math.Path.{refl, ap}
 use Rattle.std.proofs.Common.{sym, ◌∙◌, append-nil, arith, take-append-drop}
 use Rattle.std.proofs.Math.Bool.{true, false}
 use Rattle.text.specs.Logic.{false_true, not_true_false}
 use Rattle.moves.specs.Moves.{moved}
 use Rattle.moves.specs.Laws.{moved_length, moved_held, moved_still}
-use Rattle.outcome.specs.Outcome.{Outcome, answered, refused, if◌then◌else◌}
+use Rattle.outcome.specs.Outcome.{Outcome, answered, refused}
 use Rattle.answers.specs.Answer.{is_found, is_notice}
 use Rattle.answers.specs.Laws.{none_only, notice_plain}
 use Rattle.outcome.specs.Laws.{ways, same_way}

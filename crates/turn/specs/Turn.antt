@@ -1,8 +1,8 @@
 -- One turn of the ingress in document 01's words: digest what is in the buffer, deliver, move the rest to the front.
-use Rattle.std.specs.Prelude.{Bool, true, false, List, ℕ, ◌-◌, length, take}
+use Rattle.std.specs.Prelude.{Bool, true, false, List, ℕ, ◌-◌, length, take, if◌then◌else◌}
 use Rattle.text.specs.Text.{part_of}
 use Rattle.moves.specs.Moves.{moved}
-use Rattle.outcome.specs.Outcome.{Outcome, answered, refused, if◌then◌else◌}
+use Rattle.outcome.specs.Outcome.{Outcome, answered, refused}
 use Rattle.answers.specs.Answer.{is_notice, carried}
 use Rattle.answers.specs.declared.Answer.{Answer}
 use Rattle.selector.specs.Selector.{Choice}

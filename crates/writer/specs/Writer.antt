@@ -1,6 +1,6 @@
 -- The modem's side (R-12): how an answer is written, when it would be read back so, and what a call leaves. They compute.
-use Rattle.std.specs.Prelude.{Bool, false, ◌&&◌, not, List, [], ◌∷◌, ◌++◌, ℕ, length, eqb, ltb}
-use Rattle.outcome.specs.Outcome.{Outcome, answered, refused, if◌then◌else◌}
+use Rattle.std.specs.Prelude.{Bool, false, ◌&&◌, not, List, [], ◌∷◌, ◌++◌, ℕ, length, eqb, ltb, if◌then◌else◌}
+use Rattle.outcome.specs.Outcome.{Outcome, answered, refused}
 use Rattle.text.specs.Bytes.{bytes}
 use Rattle.text.specs.Text.{stands, part_of}
 use Rattle.table.specs.Table.{ruling}
