@@ -12,10 +12,12 @@ use ops::Said;
 use queue::Queue;
 use selector::Selector;
 use slot::{Held, Slot};
+use std::io;
 use turn::State;
 
 // Does each op of a script.
 fn do_all(
+    rt: &impl Print,
     ops: &[u8],
     first: Said,
     piece: &mut Memory,
@@ -26,7 +28,7 @@ fn do_all(
     slot_mem: &mut [u8],
     queue_mem: &mut [u8],
     out: &mut Memory,
-) -> Said {
+) -> io::Result<Said> {
     let mut said = first;
     let mut from = 0;
     let mut left = notation::op::count(ops);
@@ -34,68 +36,82 @@ fn do_all(
         let to = fields::seek(ops, from, b';');
         let one = fields::between(ops, from, to);
         said = ops::do_op(
-            one, said, piece, selector, table, numbers, buf, slot_mem, queue_mem, out,
-        );
+            rt, one, said, piece, selector, table, numbers, buf, slot_mem, queue_mem, out,
+        )?;
         from = fields::plus(to, 1);
         left -= 1;
     }
-    said
+    Ok(said)
 }
 
 // Says a slot and its memory.
-fn say_slot(x: Slot, slot_mem: &[u8], out: &mut Memory, at: usize) -> usize {
+fn say_slot(
+    rt: &impl Print,
+    x: Slot,
+    slot_mem: &[u8],
+    out: &mut Memory,
+    at: usize,
+) -> io::Result<usize> {
     let is_signalled = x.signalled;
-    let flag = say_flag(is_signalled, out, at);
-    let named = ops::say_content(x, out, flag);
-    let long = say::and_number(out, named, x.len as u64);
-    let lost = say::and_number(out, long, x.lost as u64);
-    let serial = say::serial(out, lost, x.serial);
-    say::memory(out, serial, slot_mem)
+    let flag = say_flag(rt, is_signalled, out, at)?;
+    let named = ops::say_content(rt, x, out, flag)?;
+    let long = say::and_number(rt, out, named, x.len as u64)?;
+    let lost = say::and_number(rt, out, long, x.lost as u64)?;
+    let serial = say::serial(rt, out, lost, x.serial)?;
+    say::memory(rt, out, serial, slot_mem)
 }
 
 // Says whether the slot is free.
-fn say_flag(is_signalled: bool, out: &mut Memory, at: usize) -> usize {
+fn say_flag(rt: &impl Print, is_signalled: bool, out: &mut Memory, at: usize) -> io::Result<usize> {
     if is_signalled {
-        return say::words(out, at, b" slot signalled ");
+        return say::words(rt, out, at, b" slot signalled ");
     }
-    say::words(out, at, b" slot free ")
+    say::words(rt, out, at, b" slot free ")
 }
 
 // Says how many bytes the findings are about, where an op was with findings.
-fn say_findings(said: Said, numbers: &[u64; NUMBERS], out: &mut Memory, at: usize) -> usize {
+fn say_findings(
+    rt: &impl Print,
+    said: Said,
+    numbers: &[u64; NUMBERS],
+    out: &mut Memory,
+    at: usize,
+) -> io::Result<usize> {
     let fed = said.fed;
     if !fed {
-        return at;
+        return Ok(at);
     }
-    let named = say::words(out, at, b" findings ");
-    say::number(out, named, numbers[0])
+    let named = say::words(rt, out, at, b" findings ")?;
+    say::number(rt, out, named, numbers[0])
 }
 
 // Says the last state, and ends the line.
 fn say_last(
+    rt: &impl Print,
     said: Said,
     numbers: &[u64; NUMBERS],
     buf: &[u8],
     slot_mem: &[u8],
     queue_mem: &[u8],
     out: &mut Memory,
-) -> usize {
+) -> io::Result<usize> {
     let now = said.state;
     let slot = now.slot;
     let queue = now.queue;
-    let head = say::words(out, said.at, b" end ");
-    let end = say::number(out, head, now.end as u64);
-    let apart = say::words(out, end, b" buffer ");
-    let bytes = say::hex(out, apart, buf);
-    let slotted = say_slot(slot, slot_mem, out, bytes);
-    let named = say::words(out, slotted, b" queue");
-    let queued = cases::say_queue(queue, queue_mem, out, named);
-    let found = say_findings(said, numbers, out, queued);
-    say::words(out, found, b"\n")
+    let head = say::words(rt, out, said.at, b" end ")?;
+    let end = say::number(rt, out, head, now.end as u64)?;
+    let apart = say::words(rt, out, end, b" buffer ")?;
+    let bytes = say::hex(rt, out, apart, buf)?;
+    let slotted = say_slot(rt, slot, slot_mem, out, bytes)?;
+    let named = say::words(rt, out, slotted, b" queue")?;
+    let queued = cases::say_queue(rt, queue, queue_mem, out, named)?;
+    let found = say_findings(rt, said, numbers, out, queued)?;
+    say::words(rt, out, found, b"\n")
 }
 
 // Does a script over memories of their own lengths, and says the last state. The first findings are those of what the buffer holds.
 fn run_script(
+    rt: &impl Print,
     ops: &[u8],
     first: Said,
     piece: &mut Memory,
@@ -105,10 +121,11 @@ fn run_script(
     slot_mem: &mut [u8],
     queue_mem: &mut [u8],
     out: &mut Memory,
-) -> usize {
+) -> io::Result<usize> {
     let mut numbers = [0; NUMBERS];
     ops::find(first.state, &mut numbers, buf);
     let said = do_all(
+        rt,
         ops,
         first,
         piece,
@@ -119,12 +136,13 @@ fn run_script(
         slot_mem,
         queue_mem,
         out,
-    );
-    say_last(said, &numbers, buf, slot_mem, queue_mem, out)
+    )?;
+    say_last(rt, said, &numbers, buf, slot_mem, queue_mem, out)
 }
 
 // Cuts the memories to their lengths, none of which is past its memory.
 fn cut_script(
+    rt: &impl Print,
     ops: &[u8],
     first: Said,
     len: Lengths,
@@ -135,20 +153,21 @@ fn cut_script(
     slot_mem: &mut [u8],
     queue_mem: &mut [u8],
     out: &mut Memory,
-) -> usize {
+) -> io::Result<usize> {
     let b = len.buf;
     let s = len.slot;
     let q = len.queue;
     if buf.len() < b {
-        return first.at;
+        return Ok(first.at);
     }
     if slot_mem.len() < s {
-        return first.at;
+        return Ok(first.at);
     }
     if queue_mem.len() < q {
-        return first.at;
+        return Ok(first.at);
     }
     run_script(
+        rt,
         ops,
         first,
         piece,
@@ -211,6 +230,7 @@ fn load(
 
 // The case of a script whose memories' fields begin at the field k: nothing is done before all of it reads.
 fn script_case(
+    rt: &impl Print,
     line: &[u8],
     k: usize,
     start: State,
@@ -222,13 +242,13 @@ fn script_case(
     queue_mem: &mut Memory,
     out: &mut Memory,
     at: usize,
-) -> usize {
+) -> io::Result<usize> {
     let Loaded::Is(len) = load(line, k, table, buf, slot_mem, queue_mem) else {
-        return say::bad_line(out, at);
+        return say::bad_line(rt, out, at);
     };
     let ops = fields::part_of(line, fields::plus(k, 4), b' ');
     if !notation::op::are_good(ops, piece) {
-        return say::bad_line(out, at);
+        return say::bad_line(rt, out, at);
     }
     let first = Said {
         state: start,
@@ -236,7 +256,7 @@ fn script_case(
         fed: false,
     };
     cut_script(
-        ops, first, len, piece, selector, table, buf, slot_mem, queue_mem, out,
+        rt, ops, first, len, piece, selector, table, buf, slot_mem, queue_mem, out,
     )
 }
 
@@ -293,6 +313,7 @@ fn case_of(line: &[u8]) -> Case {
 
 // Answers a line whose first field is a digester's word or none.
 fn chosen_case(
+    rt: &impl Print,
     line: &[u8],
     piece: &mut Memory,
     table: &mut Memory,
@@ -301,23 +322,24 @@ fn chosen_case(
     queue_mem: &mut Memory,
     out: &mut Memory,
     at: usize,
-) -> usize {
+) -> io::Result<usize> {
     let chosen = notation::form::first_word(line);
     let selector = chosen.selector;
     let rest = fields::between(line, chosen.from, line.len());
     match case_of(rest) {
-        Case::Digest => cases::digest_case(rest, selector, table, buf, out, at),
+        Case::Digest => cases::digest_case(rt, rest, selector, table, buf, out, at),
         Case::Script(k, start) => {
             script_case(
-                rest, k, start, selector, piece, table, buf, slot_mem, queue_mem, out, at,
+                rt, rest, k, start, selector, piece, table, buf, slot_mem, queue_mem, out, at,
             )
         }
-        Case::Bad => say::bad_line(out, at),
+        Case::Bad => say::bad_line(rt, out, at),
     }
 }
 
 // Answers a line. A case of one call that has no digester is told by its word.
 pub fn answer(
+    rt: &impl Print,
     line: &[u8],
     piece: &mut Memory,
     table: &mut Memory,
@@ -326,15 +348,15 @@ pub fn answer(
     queue_mem: &mut Memory,
     out: &mut Memory,
     at: usize,
-) -> usize {
+) -> io::Result<usize> {
     if text::matches_at(line, 0, b"convert ") {
-        return cases::convert_case(line, buf, queue_mem, out, at);
+        return cases::convert_case(rt, line, buf, queue_mem, out, at);
     }
     if text::matches_at(line, 0, b"list ") {
-        return cases::list_case(line, buf, out, at);
+        return cases::list_case(rt, line, buf, out, at);
     }
     if text::matches_at(line, 0, b"say ") {
-        return sayings::say_case(line, table, buf, queue_mem, out, at);
+        return sayings::say_case(rt, line, table, buf, queue_mem, out, at);
     }
-    chosen_case(line, piece, table, buf, slot_mem, queue_mem, out, at)
+    chosen_case(rt, line, piece, table, buf, slot_mem, queue_mem, out, at)
 }
