@@ -1,6 +1,7 @@
-// Standard input, line by line.
+// The input, which `source` reads, line by line.
 use fields::{LENGTH, Memory};
-use libc::STDIN_FILENO;
+use std::io;
+use std::io::Read;
 use text::Blanks;
 
 // Where the reading stands: the bytes of the chunk from `from` up to `to` wait, and `len` bytes of a line are gathered.
@@ -71,26 +72,31 @@ fn gather(chunk: &[u8], line: &mut Memory, now: Input) -> Input {
 }
 
 // Where the chunk is used up before the line's end, reads the next one; where none is left the line counts as whole, and the input is over.
-fn refill(chunk: &mut Memory, now: Input) -> Input {
+fn refill(source: &mut impl Read, chunk: &mut Memory, now: Input) -> io::Result<Input> {
     let is_whole = now.is_whole;
     if is_whole {
-        return now;
+        return Ok(now);
     }
-    let n = io::count(libc::read(STDIN_FILENO, chunk), chunk);
+    let n = source.read(chunk)?;
     let is_over = n == 0;
-    Input {
+    Ok(Input {
         from: 0,
         to: n,
         len: now.len,
         is_whole: is_over,
         is_over: is_over,
-    }
+    })
 }
 
 // Gathers to the next line's end, or comes as far as the next chunk.
-pub fn read_on(chunk: &mut Memory, line: &mut Memory, now: Input) -> Input {
+pub fn read_on(
+    source: &mut impl Read,
+    chunk: &mut Memory,
+    line: &mut Memory,
+    now: Input,
+) -> io::Result<Input> {
     let gathered = gather(chunk, line, now);
-    refill(chunk, gathered)
+    refill(source, chunk, gathered)
 }
 
 // Is the line a comment, or blank? One that fills the memory is too long, and may go on with anything.
