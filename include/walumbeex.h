@@ -4,7 +4,7 @@
  * Bytes from a modem go in; what they were comes out: an answer (OK, an error, a prompt) at the slot, unsolicited lines (notices) at the queue. The reader takes what
  * stands behind the colon of an answer or a notice.
  *
- * Link with libgateway.a (`rt staticlib gateway`; x86-64, System V calling convention, pointers of 64 bits). Each function is proved to equal
+ * Link with libgateway.a (`bin/archive` makes it; x86-64, System V calling convention, pointers of 64 bits). Each function is proved to equal
  * the call of document 01 (docs/01.md) behind it: the definitions are in crates/numbers/specs/Numbers.antt (what each number means) and
  * crates/gateway/specs/Gateway.antt (what a call returns and leaves), the promises in crates/gateway/src/lib.rt. Behind wx_list_read stands the grammar of docs/LISTS.md,
  * in crates/lists/specs/Grammar.antt, behind wx_say what docs/SAYING.md shows, in crates/writer/specs/Writer.antt. No function has a condition on its numbers: any
