@@ -142,12 +142,12 @@
  * WX_NUMERIC doesn't recurse: its stack is the same for every input, and small. wx_list_read recurses once for each element, of which there are at most WX_ELEMENTS: it
  * took 176 bytes for each, and 45 KB at most, whatever the payload.
  *
- * Work: a digest's grows with its input, and no faster: twice the input takes at most 2.2 times the instructions (docs/BENCHMARKS.md; at most some 1.2 million for
- * 4,096 bytes). An advance or write digests again all that is in the buffer, so that a stream handed over in pieces that finish nothing costs the square of its
- * length: 1,024 bytes one by one took 29 million instructions, and 4,096 took 448 million. By wx_feed_write they took 1.2 and 4.9 million: about a thousand for
- * a byte that finishes nothing, however many lie before it, and a search by blocks of 16 bytes where no CRLF came yet, or with WX_CONNECT. It digests again all that is
- * in the buffer where the byte may finish something; with WX_NUMERIC; under a table that isn't empty, once a line has ended; and behind a line that is no error for its
- * code, such as +CME ERROR: 65536.
+ * Work, as docs/BENCHMARKS.md has it, which was counted with an older kit: a digest's grows with its input, and no faster: twice the input takes at most 2.2 times
+ * the instructions (at most some 1.2 million for 4,096 bytes). An advance or write digests again all that is in the buffer, so that a stream handed over in pieces
+ * that finish nothing costs the square of its length: 1,024 bytes one by one took 29 million instructions, and 4,096 took 448 million. By wx_feed_write they took
+ * 1.2 and 4.9 million: about a thousand for a byte that finishes nothing, however many lie before it, and a search by blocks of 16 bytes where no CRLF came yet,
+ * or with WX_CONNECT. It digests again all that is in the buffer where the byte may finish something; with WX_NUMERIC; under a table that isn't empty, once a line
+ * has ended; and behind a line that is no error for its code, such as +CME ERROR: 65536.
  * WX_NUMERIC walks over its input once; the same limit holds for it, and for wx_list_read, which walks over a payload that it accepts twice: it judges all of it
  * before it writes. An answer of 1,024 bytes with 31 operators took 55,000. wx_say costs a digest of the bytes that it writes, and clearing 4 KB.
  *
