@@ -1,5 +1,5 @@
 # For a script that stands in the repository's folder and sources it, of a program that reads standard input: bin/atread and bin/atlist, which print a report, and bin/atsay.
-# It has set `name`, the program's; `usage`, its line of usage; and `help`. A Rattle program has no status of its own: the script makes it from what was said.
+# It has set `name`, the program's; `usage`, its line of usage; and `help`. These programs end in 0 whatever they heard: the script makes the status from what was said.
 . bin/program.sh
 
 # fail WHY: ends the script, which says as the program what is wrong.
@@ -44,11 +44,9 @@ take_words() {
 
 # ready: sees that standard input is open, and proves the program.
 ready() {
-    local crates
     { : 3<&0; } 2>/dev/null || fail "standard input is closed; $usage"
     command -v rt >/dev/null || fail 'no rt here: this needs the Rattle kit (its command rt on the PATH)'
-    mapfile -t crates < <(with_below "$name")
-    prove "$name" "${crates[@]}" </dev/null || exit 1
+    prove "$name" "$name" </dev/null || exit 1
     [ ! -t 0 ] || printf '%s: reading what is typed, until Ctrl-D\n' "$name" >&2
 }
 

@@ -4,7 +4,7 @@
  * Bytes from a modem go in; what they were comes out: an answer (OK, an error, a prompt) at the slot, unsolicited lines (notices) at the queue. The reader takes what
  * stands behind the colon of an answer or a notice.
  *
- * Link with libgateway.a (`rt staticlib gateway`; x86-64, System V calling convention, pointers of 64 bits). Each function is proved to equal
+ * Link with libgateway.a (`bin/archive` makes it; x86-64, System V calling convention, pointers of 64 bits). Each function is proved to equal
  * the call of document 01 (docs/01.md) behind it: the definitions are in crates/numbers/specs/Numbers.antt (what each number means) and
  * crates/gateway/specs/Gateway.antt (what a call returns and leaves), the promises in crates/gateway/src/lib.rt. Behind wx_list_read stands the grammar of docs/LISTS.md,
  * in crates/lists/specs/Grammar.antt, behind wx_say what docs/SAYING.md shows, in crates/writer/specs/Writer.antt. No function has a condition on its numbers: any
@@ -133,21 +133,21 @@
  * All this is of one answer alone. ERROR and an Ok behind it in one piece are heard as an Ok (docs/WAITING.md has which answers nothing behind them changes).
  * bindings/c/say.c is a program that prints them.
  *
- * The stack: a digest recurses once for each CRLF at the front of what is left. It took 138 bytes of stack for each byte of the input, or of the bytes in the
- * buffer, where that is all CRLFs: 549 KiB for WX_LONGEST. No proof covers it: where the stack is too short, as for 2,048 CRLFs (4,096 bytes) on a thread with
+ * The stack: a digest recurses once for each CRLF at the front of what is left. It took 136 bytes of stack for each byte of the input, or of the bytes in the
+ * buffer, where that is all CRLFs: 545 KiB for WX_LONGEST. No proof covers it: where the stack is too short, as for 2,048 CRLFs (4,096 bytes) on a thread with
  * 512 KiB, the program ends by SIGSEGV. Give a thread 160 bytes for each byte of the buffer, 640 KiB for WX_LONGEST (the tests run that), or lend a shorter buffer.
- * Where nothing recurses a digest took 5 KB, 3 of them for a table of transitions, and a call with findings 6: give a thread 8 KB at least.
+ * Where nothing recurses a digest took 1.2 KB, and a call with findings 2.2: give a thread 8 KB at least.
  * wx_say digests the bytes that it writes, in 4 KB of its own: it took as much more than their digest, 549 KiB for a notice of 4,092 bytes that are all CRLFs. Give a
  * thread 12 KB at least, and 640 KiB where any payload may be handed in.
  * WX_NUMERIC doesn't recurse: its stack is the same for every input, and small. wx_list_read recurses once for each element, of which there are at most WX_ELEMENTS: it
- * took 176 bytes for each, and 45 KB at most, whatever the payload.
+ * took 160 bytes for each, and 41 KB at most, whatever the payload.
  *
- * Work: a digest's grows with its input, and no faster: twice the input takes at most 2.2 times the instructions (docs/BENCHMARKS.md; at most some 1.2 million for
- * 4,096 bytes). An advance or write digests again all that is in the buffer, so that a stream handed over in pieces that finish nothing costs the square of its
- * length: 1,024 bytes one by one took 29 million instructions, and 4,096 took 448 million. By wx_feed_write they took 1.2 and 4.9 million: about a thousand for
- * a byte that finishes nothing, however many lie before it, and a search by blocks of 16 bytes where no CRLF came yet, or with WX_CONNECT. It digests again all that is
- * in the buffer where the byte may finish something; with WX_NUMERIC; under a table that isn't empty, once a line has ended; and behind a line that is no error for its
- * code, such as +CME ERROR: 65536.
+ * Work, as docs/BENCHMARKS.md has it, which was counted with an older kit: a digest's grows with its input, and no faster: twice the input takes at most 2.2 times
+ * the instructions (at most some 1.2 million for 4,096 bytes). An advance or write digests again all that is in the buffer, so that a stream handed over in pieces
+ * that finish nothing costs the square of its length: 1,024 bytes one by one took 29 million instructions, and 4,096 took 448 million. By wx_feed_write they took
+ * 1.2 and 4.9 million: about a thousand for a byte that finishes nothing, however many lie before it, and a search by blocks of 16 bytes where no CRLF came yet,
+ * or with WX_CONNECT. It digests again all that is in the buffer where the byte may finish something; with WX_NUMERIC; under a table that isn't empty, once a line
+ * has ended; and behind a line that is no error for its code, such as +CME ERROR: 65536.
  * WX_NUMERIC walks over its input once; the same limit holds for it, and for wx_list_read, which walks over a payload that it accepts twice: it judges all of it
  * before it writes. An answer of 1,024 bytes with 31 operators took 55,000. wx_say costs a digest of the bytes that it writes, and clearing 4 KB.
  *

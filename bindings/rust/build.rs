@@ -16,7 +16,7 @@ fn folder() -> Result<PathBuf, String> {
              give cargo --target x86_64-unknown-linux-gnu"
         ));
     }
-    let how = "`rt staticlib gateway`, run at the top of the walumbeex repository, proves and makes it in target/staticlib; \
+    let how = "`bin/archive`, run at the top of the walumbeex repository, proves and makes it in target/staticlib; \
                then set WALUMBEEX_LIB to that folder's full path";
     let folder = match env::var_os("WALUMBEEX_LIB") {
         Some(folder) if !folder.is_empty() => PathBuf::from(folder),
