@@ -178,7 +178,7 @@ with_text p t c = made Ok 0 p nowhere t c
 
 -- the part of the input that goes along with the answer: a numeric error's digits (R-2), else the payload
 abbrev pub carried : Answer → Span
-carried a = if is_numeric a.kind then record { start = a.digits_place; len = a.digits_len } else record { start = a.place; len = a.len }
+carried a = if is_numeric a.kind then record { start = a.digits.start; len = a.digits.len } else record { start = a.payload.start; len = a.payload.len }
 
 -- the same answer seen from d bytes further to the front
 unfoldable pub shift : ℕ → Answer → Answer
@@ -186,12 +186,12 @@ shift d a =
     record {
       kind = a.kind;
       number = a.number;
-      place = placed a.len (a.place + d);
-      len = a.len;
-      digits_place = placed a.digits_len (a.digits_place + d);
-      digits_len = a.digits_len;
-      text_place = placed a.text_len (a.text_place + d);
-      text_len = a.text_len;
+      place = placed a.payload.len (a.payload.start + d);
+      len = a.payload.len;
+      digits_place = placed a.digits.len (a.digits.start + d);
+      digits_len = a.digits.len;
+      text_place = placed a.text.len (a.text.start + d);
+      text_len = a.text.len;
       consumed = a.consumed + d;
     }
 
@@ -202,11 +202,11 @@ longest = 4096
 -- `shift` where places, count and d are those of an input; else the answer as it is
 unfoldable pub shift_within : ℕ → Answer → Answer
 unfolding shift
-shift_within d a = if leb a.place longest && (leb a.digits_place longest && (leb a.text_place longest && (leb a.consumed longest && leb d longest))) then shift d a else a
+shift_within d a = if leb a.payload.start longest && (leb a.digits.start longest && (leb a.text.start longest && (leb a.consumed longest && leb d longest))) then shift d a else a
 
 -- Payload, digits and text lie within what is consumed, and that within the n bytes of the input.
 pub record Within (n : ℕ) (a : Answer) : Type 0 where
-  pub payload : a.place + a.len ≤ a.consumed
-  pub digits : a.digits_place + a.digits_len ≤ a.consumed
-  pub text : a.text_place + a.text_len ≤ a.consumed
+  pub payload : a.payload.start + a.payload.len ≤ a.consumed
+  pub digits : a.digits.start + a.digits.len ≤ a.consumed
+  pub text : a.text.start + a.text.len ≤ a.consumed
   pub all : a.consumed ≤ n

@@ -95,7 +95,7 @@ text_empty p t c e = ap (λ (n : ℕ). made kind.Ok 0 p (record { start = 0; len
 -- The ways out of `shifted`: the numbers are no input's; or they are, and their sums fit.
 module _ (a : Answer) (d : ℕ) where
   abbrev is_inside : Bool
-  is_inside = leb a.place longest && (leb a.digits_place longest && (leb a.text_place longest && (leb a.consumed longest && leb d longest)))
+  is_inside = leb a.payload.start longest && (leb a.digits.start longest && (leb a.text.start longest && (leb a.consumed longest && leb d longest)))
 
   pub shifted_not : is_inside ≡ false → a ≡ shift_within d a
   unfolding shift_within
@@ -103,23 +103,23 @@ module _ (a : Answer) (d : ℕ) where
 
   module _ (e : is_inside ≡ true) where
     -- the sums, of the place, the digits', the text's and the count
-    pub inside : (a.place + d ≤ 8192) × ((a.digits_place + d ≤ 8192) × ((a.text_place + d ≤ 8192) × (a.consumed + d ≤ 8192)))
+    pub inside : (a.payload.start + d ≤ 8192) × ((a.digits.start + d ≤ 8192) × ((a.text.start + d ≤ 8192) × (a.consumed + d ≤ 8192)))
     inside =
-        let u = and_both (leb a.place longest) _ e in
-        let v = and_both (leb a.digits_place longest) _ u.1 in
-        let x = and_both (leb a.text_place longest) _ v.1 in
+        let u = and_both (leb a.payload.start longest) _ e in
+        let v = and_both (leb a.digits.start longest) _ u.1 in
+        let x = and_both (leb a.text.start longest) _ v.1 in
         let w = and_both (leb a.consumed longest) (leb d longest) x.1 in
         let l = leb-true d longest w.1 in
-        (omega (arith, leb-true a.place longest u.0), (omega (arith, leb-true a.digits_place longest v.0), (omega (arith, leb-true a.text_place longest x.0), omega (arith, leb-true a.consumed longest w.0))))
+        (omega (arith, leb-true a.payload.start longest u.0), (omega (arith, leb-true a.digits.start longest v.0), (omega (arith, leb-true a.text.start longest x.0), omega (arith, leb-true a.consumed longest w.0))))
 
-    pub shifted_is : (q r t : ℕ) → q ≡ placed a.len (a.place + d) → r ≡ placed a.digits_len (a.digits_place + d) → t ≡ placed a.text_len (a.text_place + d) → ◌≡◌ {A = Answer} (record { kind = a.kind; number = a.number; place = q; len = a.len; digits_place = r; digits_len = a.digits_len; text_place = t; text_len = a.text_len; consumed = a.consumed + d }) (shift_within d a)
+    pub shifted_is : (q r t : ℕ) → q ≡ placed a.payload.len (a.payload.start + d) → r ≡ placed a.digits.len (a.digits.start + d) → t ≡ placed a.text.len (a.text.start + d) → ◌≡◌ {A = Answer} (record { kind = a.kind; number = a.number; place = q; len = a.payload.len; digits_place = r; digits_len = a.digits.len; text_place = t; text_len = a.text.len; consumed = a.consumed + d }) (shift_within d a)
     unfolding shift_within shift
-    shifted_is q r t f g h = rw e (λ i. record { kind = a.kind; number = a.number; place = f i; len = a.len; digits_place = g i; digits_len = a.digits_len; text_place = h i; text_len = a.text_len; consumed = a.consumed + d })
+    shifted_is q r t f g h = rw e (λ i. record { kind = a.kind; number = a.number; place = f i; len = a.payload.len; digits_place = g i; digits_len = a.digits.len; text_place = h i; text_len = a.text.len; consumed = a.consumed + d })
 
 -- An answer within an input is moved by `shift`.
 pub shift_is : (d n : ℕ) (a : Answer) → Within n a → n ≤ longest → d ≤ longest → shift_within d a ≡ shift d a
 unfolding shift_within
-shift_is d n a w h g = rw (le-leb a.place longest (omega (arith, w.payload, w.all)), le-leb a.digits_place longest (omega (arith, w.digits, w.all)), le-leb a.text_place longest (omega (arith, w.text, w.all)), le-leb a.consumed longest (omega (arith, w.all)), le-leb d longest g)
+shift_is d n a w h g = rw (le-leb a.payload.start longest (omega (arith, w.payload, w.all)), le-leb a.digits.start longest (omega (arith, w.digits, w.all)), le-leb a.text.start longest (omega (arith, w.text, w.all)), le-leb a.consumed longest (omega (arith, w.all)), le-leb d longest g)
 
 pub longer_within : (n m : ℕ) (a : Answer) → Within n a → n ≤ m → Within m a
 longer_within n m a w h = record { payload = w.payload; digits = w.digits; text = w.text; all = omega (arith, w.all) }
@@ -146,9 +146,9 @@ pub shift_within_lem : (d n : ℕ) (a : Answer) → Within n a → Within (n + d
 unfolding shift
 shift_within_lem d n a w =
     record {
-      payload = omega (arith, placed_le a.len (a.place + d), w.payload);
-      digits = omega (arith, placed_le a.digits_len (a.digits_place + d), w.digits);
-      text = omega (arith, placed_le a.text_len (a.text_place + d), w.text);
+      payload = omega (arith, placed_le a.payload.len (a.payload.start + d), w.payload);
+      digits = omega (arith, placed_le a.digits.len (a.digits.start + d), w.digits);
+      text = omega (arith, placed_le a.text.len (a.text.start + d), w.text);
       all = omega (arith, w.all);
     }
 
@@ -166,10 +166,10 @@ shift_shift a b r =
       number = r.number;
       place = placed_twice r.len r.place a b i;
       len = r.len;
-      digits_place = placed_twice r.digits_len r.digits_place a b i;
-      digits_len = r.digits_len;
-      text_place = placed_twice r.text_len r.text_place a b i;
-      text_len = r.text_len;
+      digits_place = placed_twice r.digits.len r.digits.start a b i;
+      digits_len = r.digits.len;
+      text_place = placed_twice r.text.len r.text.start a b i;
+      text_len = r.text.len;
       consumed = c i;
     }
 

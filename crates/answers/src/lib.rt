@@ -251,13 +251,13 @@ pub fn carried(a: Answer) -> Span
     let kind = a.kind;
     if is_numeric(kind) {
         return Span {
-            start: a.digits_place,
-            len: a.digits_len,
+            start: a.digits.start,
+            len: a.digits.len,
         };
     }
     Span {
-        start: a.place,
-        len: a.len,
+        start: a.payload.start,
+        len: a.payload.len,
     }
 }
 
@@ -268,9 +268,9 @@ pub const LONGEST: usize = 4096;
 pub fn shifted(a: Answer, d: usize) -> Answer
     ensures { result ≡ shift_within d a }
 {
-    let inside = (a.place <= LONGEST)
-        & ((a.digits_place <= LONGEST)
-            & ((a.text_place <= LONGEST) & ((a.consumed <= LONGEST) & (d <= LONGEST))));
+    let inside = (a.payload.start <= LONGEST)
+        & ((a.digits.start <= LONGEST)
+            & ((a.text.start <= LONGEST) & ((a.consumed <= LONGEST) & (d <= LONGEST))));
     if !inside {
         return a;
     }
@@ -279,12 +279,12 @@ pub fn shifted(a: Answer, d: usize) -> Answer
     Answer {
         kind: same,
         number: a.number,
-        place: placed_at(a.len, a.place + d),
-        len: a.len,
-        digits_place: placed_at(a.digits_len, a.digits_place + d),
-        digits_len: a.digits_len,
-        text_place: placed_at(a.text_len, a.text_place + d),
-        text_len: a.text_len,
+        place: placed_at(a.payload.len, a.payload.start + d),
+        len: a.payload.len,
+        digits_place: placed_at(a.digits.len, a.digits.start + d),
+        digits_len: a.digits.len,
+        text_place: placed_at(a.text.len, a.text.start + d),
+        text_len: a.text.len,
         consumed: consumed,
     }
 }

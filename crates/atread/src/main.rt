@@ -1,7 +1,6 @@
 // atread: digests standard input under the empty table and prints what was heard, as document 01 says. The work is `report::report`.
 #![tactic(auto)]
 
-use report::Reported;
 use std::io;
 
 fn main(rt: HostRuntime) -> io::Result<()> {
@@ -9,7 +8,7 @@ fn main(rt: HostRuntime) -> io::Result<()> {
     let mut input = [0u8; 4097];
     let n = intake::read_full(&mut rt.stdin(), &mut input)?;
     let mut out = [0u8; 229376];
-    if let Reported::Is(k) = report::report(text::part(&input, 0, n), &mut out) {
+    if let Ok(k) = report::report(text::part(&input, 0, n), &mut out) {
         rt.write_all(text::part(&out, 0, k))?;
     }
     Ok(())

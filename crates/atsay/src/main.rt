@@ -4,13 +4,12 @@
 #![tactic(auto)]
 
 use answers::Kind;
-use data::Filled;
-use fields::{Amount, Memory};
+use fields::Memory;
 use std::io;
-use table::Checked;
+use table::TableError;
 use text::Blanks;
-use words::{Misspelt, Named, Payload};
-use writer::{Given, Said};
+use words::Misspelt;
+use writer::SayError;
 
 // The longest script; and that with the longest line 0 (a fault of any table shows in its first 2,305 bytes) and one byte more, so that a longer input is seen to be.
 const LONGEST: usize = 65536;
@@ -25,7 +24,7 @@ const ROOM: usize = 196608;
 enum Fault {
     Word,
     Number,
-    Payload(Misspelt),
+    Result<usize, Misspelt>(Misspelt),
     Behind,
     Hex,
     LateTable,
@@ -69,7 +68,7 @@ enum Ended {
 // A number, where the kind has one, and where the payload begins.
 #[derive(Clone, Copy)]
 enum Numbered {
-    Is(Given, usize),
+    Is(Option<u32>, usize),
     Not,
 }
 
@@ -95,12 +94,12 @@ fn has_payload(kind: Kind) -> bool {
 // The number that stands in a line from `from` on, where the kind has one.
 fn number_at(line: &[u8], from: usize, kind: Kind) -> Numbered {
     if !answers::has_number(kind) {
-        return Numbered::Is(Given::None, from);
+        return Numbered::Is(None, from);
     }
     let end = fields::seek(line, from, b' ');
     match words::number(fields::between(line, from, end)) {
-        Amount::Bad => Numbered::Not,
-        Amount::Is(n) => Numbered::Is(Given::Is(n), text::skip(Blanks::Space, line, end)),
+        None => Numbered::Not,
+        Some(n) => Numbered::Is(Some(n), text::skip(Blanks::Space, line, end)),
     }
 }
 
@@ -116,10 +115,10 @@ fn take_table(far: Far, s: &[u8], table: &mut Memory) -> Taken {
 
 // The table's bytes, into its memory.
 fn check_table(far: Far, s: &[u8], table: &mut Memory) -> Taken {
-    let Filled::Is(n) = data::plain(s, table, 0) else {
+    let Some(n) = data::plain(s, table, 0) else {
         return Taken::Not(Fault::Hex);
     };
-    if let Checked::Faulty(k) = table::check(text::part(table, 0, n)) {
+    if let Err(TableError::Faulty(k)) = table::check(text::part(table, 0, n)) {
         return Taken::Not(Fault::BadTable(k));
     }
     Taken::On(Far {
@@ -130,16 +129,16 @@ fn check_table(far: Far, s: &[u8], table: &mut Memory) -> Taken {
 }
 
 // An answer, written behind those before it.
-fn put(far: Far, table: &[u8], kind: Kind, number: Given, payload: &[u8], out: &mut [u8]) -> Taken {
+fn put(far: Far, table: &[u8], kind: Kind, number: Option<u32>, payload: &[u8], out: &mut [u8]) -> Taken {
     let at = far.written;
     if out.len() < at {
         return Taken::Not(Fault::Short);
     }
     match writer::say(table, kind, number, payload, &mut out[at..]) {
-        Said::BadTable(k) => Taken::Not(Fault::BadTable(k)),
-        Said::Unread => Taken::Not(Fault::Unread),
-        Said::Short => Taken::Not(Fault::Short),
-        Said::Is(n) => Taken::On(Far {
+        Err(SayError::BadTable(k)) => Taken::Not(Fault::BadTable(k)),
+        Err(SayError::Unread) => Taken::Not(Fault::Unread),
+        Err(SayError::Short) => Taken::Not(Fault::Short),
+        Ok(n) => Taken::On(Far {
             stage: Stage::Answered,
             table: far.table,
             written: fields::plus(at, n),
@@ -167,8 +166,8 @@ fn take_answer(
         }
     }
     match words::payload_of(rest, mem) {
-        Payload::Not(m) => Taken::Not(Fault::Payload(m)),
-        Payload::Is(n) => put(
+        Err(m) => Taken::Not(Fault::Payload(m)),
+        Ok(n) => put(
             far,
             text::part(table, 0, far.table),
             kind,
@@ -193,7 +192,7 @@ fn take_words(
     if words::is_word(word, b"table") {
         return take_table(far, fields::between(line, from, line.len()), table);
     }
-    let Named::Is(kind) = words::kind_named(word) else {
+    let Some(kind) = words::kind_named(word) else {
         return Taken::Not(Fault::Word);
     };
     if !is_written(kind) {

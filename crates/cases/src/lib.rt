@@ -3,9 +3,7 @@
 #![tactic(auto)]
 
 use answers::Answer;
-use convert::Converted;
-use data::Filled;
-use digest::Digested;
+use convert::ConvertError;
 use fields::Memory;
 use lists::Listed;
 use notation::form::Conversion;
@@ -35,11 +33,11 @@ fn say_part(
 fn say_answer(rt: &impl Print, a: Answer, out: &mut Memory, at: usize) -> io::Result<usize> {
     let kind = a.kind;
     let named = say::kind_number(rt, out, at, kind, a.number)?;
-    let place = say::and_number(rt, out, named, a.place as u64)?;
-    let len = say::and_number(rt, out, place, a.len as u64)?;
+    let place = say::and_number(rt, out, named, a.payload.start as u64)?;
+    let len = say::and_number(rt, out, place, a.payload.len as u64)?;
     let consumed = say::and_number(rt, out, len, a.consumed as u64)?;
-    let digits = say_part(rt, b" digits", a.digits_place, a.digits_len, out, consumed)?;
-    let text = say_part(rt, b" text", a.text_place, a.text_len, out, digits)?;
+    let digits = say_part(rt, b" digits", a.digits.start, a.digits.len, out, consumed)?;
+    let text = say_part(rt, b" text", a.text.start, a.text.len, out, digits)?;
     say::words(rt, out, text, b"\n")
 }
 
@@ -53,9 +51,9 @@ fn do_digest(
     at: usize,
 ) -> io::Result<usize> {
     match selector::digest(selector, table, input) {
-        Digested::Is(a) => say_answer(rt, a, out, at),
-        Digested::TooLong => say::words(rt, out, at, b"refused 1\n"),
-        Digested::BadTable(k) => {
+        Ok(a) => say_answer(rt, a, out, at),
+        Err(DigestError::TooLong) => say::words(rt, out, at, b"refused 1\n"),
+        Err(DigestError::BadTable(k)) => {
             let used = say::refusal_of_record(rt, out, at, k)?;
             say::words(rt, out, used, b"\n")
         }
@@ -72,10 +70,10 @@ pub fn digest_case(
     out: &mut Memory,
     at: usize,
 ) -> io::Result<usize> {
-    let Filled::Is(t) = data::data(fields::part_of(line, 0, b' '), table) else {
+    let Some(t) = data::data(fields::part_of(line, 0, b' '), table) else {
         return say::bad_line(rt, out, at);
     };
-    let Filled::Is(n) = data::data(fields::part_of(line, 1, b' '), buf) else {
+    let Some(n) = data::data(fields::part_of(line, 1, b' '), buf) else {
         return say::bad_line(rt, out, at);
     };
     do_digest(
@@ -112,13 +110,13 @@ fn do_convert(
     at: usize,
 ) -> io::Result<usize> {
     match convert::convert(old, old_mem, mem) {
-        Converted::Is(q) => {
+        Ok(q) => {
             let head = say::words(rt, out, at, b"converted")?;
             let used = say_queue(rt, q, mem, out, head)?;
             say::words(rt, out, used, b"\n")
         }
-        Converted::Bad => say::words(rt, out, at, b"refused 3\n"),
-        Converted::TooFew => say::words(rt, out, at, b"refused 13\n"),
+        Err(ConvertError::Bad) => say::words(rt, out, at, b"refused 3\n"),
+        Err(ConvertError::TooFew) => say::words(rt, out, at, b"refused 13\n"),
     }
 }
 
@@ -150,10 +148,10 @@ pub fn convert_case(
     let Conversion::Of(start, count, lost) = notation::form::conversion_of(line) else {
         return say::bad_line(rt, out, at);
     };
-    let Filled::Is(m) = data::data(fields::part_of(line, 2, b' '), old_mem) else {
+    let Some(m) = data::data(fields::part_of(line, 2, b' '), old_mem) else {
         return say::bad_line(rt, out, at);
     };
-    let Filled::Is(n) = data::data(fields::part_of(line, 3, b' '), mem) else {
+    let Some(n) = data::data(fields::part_of(line, 3, b' '), mem) else {
         return say::bad_line(rt, out, at);
     };
     let old = Queue {
@@ -252,7 +250,7 @@ pub fn list_case(
     if !notation::form::is_list(line) {
         return say::bad_line(rt, out, at);
     }
-    let Filled::Is(n) = data::data(fields::part_of(line, 1, b' '), buf) else {
+    let Some(n) = data::data(fields::part_of(line, 1, b' '), buf) else {
         return say::bad_line(rt, out, at);
     };
     do_list(rt, text::part(buf, 0, n), out, at)

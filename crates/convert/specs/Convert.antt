@@ -1,10 +1,10 @@
 -- The conversion of R-9 over two geometries: a queue in the old form is read, and written in the new form into other memory.
-use Rattle.std.specs.Prelude.{◌⊎◌, Bool, true, ◌&&◌, not, List, [], ◌∷◌, ℕ, zero, suc, ◌+◌, ◌*◌, ◌≤◌, ◌<◌, length, ltb, if◌then◌else◌}
+use Rattle.std.specs.Prelude.{Result, Ok, Err, ◌⊎◌, Bool, true, ◌&&◌, not, List, [], ◌∷◌, ℕ, zero, suc, ◌+◌, ◌*◌, ◌≤◌, ◌<◌, length, ltb, if◌then◌else◌}
 use Rattle.outcome.specs.Outcome.{Outcome, answered, refused}
 use Rattle.queue.specs.Queue.{Geometry, capacity_of, in_bounds, ring_place, recorded, record_good, After, after, Arrival, waiting}
 use Rattle.queue.specs.declared.Queue.{Queue}
-use Rattle.convert.specs.declared.Converted.{Converted}
-use Rattle.convert.specs.declared.Converted.TheVariants as converts
+use Rattle.convert.specs.declared.ConvertError.{ConvertError}
+use Rattle.convert.specs.declared.ConvertError.TheVariants as converts
 
 -- Has each of the n records from the i-th held on the mark and a good length, in a ring of cap places whose oldest is at start?
 unfoldable pub held_good : Geometry → List ℕ → ℕ → ℕ → ℕ → ℕ → Bool
@@ -31,7 +31,7 @@ Outside g base [] i = Unit {0}
 Outside g base (a ∷ l) i = ((i < base) ⊎ (base + (g.head + length a.payload) ≤ i)) × Outside g (base + g.size) l i
 
 -- 02's number for each case
-abbrev pub outcome : Converted → Outcome Queue
-outcome (converts.Is x) = answered x
-outcome converts.Bad = refused 3 []
-outcome converts.TooFew = refused 13 []
+abbrev pub outcome : Result Queue ConvertError → Outcome Queue
+outcome (Ok x) = answered x
+outcome (Err converts.Bad) = refused 3 []
+outcome (Err converts.TooFew) = refused 13 []

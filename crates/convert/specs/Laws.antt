@@ -1,5 +1,5 @@
 -- The walk round the old ring, what it has seen and written, and the ways out of the conversion.
-use Rattle.std.specs.Prelude.{◌≡◌, refl, true, false, ◌&&◌, length, drop, leb, ltb, if◌then◌else◌}
+use Rattle.std.specs.Prelude.{Result, Ok, Err, ◌≡◌, refl, true, false, ◌&&◌, length, drop, leb, ltb, if◌then◌else◌}
 use Rattle.std.proofs.Math.Path.{sym, ap}
 use Rattle.std.proofs.Common.{◌∙◌, ⊎_elim, get_or-take, get_or-drop}
 use mathlib.Core.List.{List, [], ◌∷◌}
@@ -15,21 +15,21 @@ use Rattle.queue.specs.Queue.{ours, older, capacity_of, start_in, in_bounds, rin
 use Rattle.queue.specs.Laws.{older_sound, start_none, start_some, bounds_count, ring_near, ring_far, ring_below, record_in}
 use Rattle.queue.specs.Waiting.{arrival_is, good_length}
 use Rattle.queue.specs.declared.Queue.{Queue}
-use Rattle.convert.specs.declared.Converted.{Converted}
-use Rattle.convert.specs.declared.Converted.TheVariants as converts
+use Rattle.convert.specs.declared.ConvertError.{ConvertError}
+use Rattle.convert.specs.declared.ConvertError.TheVariants as converts
 use Rattle.convert.specs.Convert.{held_good, laid, converted, outcome}
 
 -- two answers with the same outcome are equal
-pub outcome_one : (r q : Converted) → outcome r ≡ outcome q → r ≡ q
-outcome_one (converts.Is x) (converts.Is y) e = cc
-outcome_one (converts.Is x) converts.Bad e = let z : ◌≡◌ {A = ℕ} 0 1 = cc in absurd (omega arith)
-outcome_one (converts.Is x) converts.TooFew e = let z : ◌≡◌ {A = ℕ} 0 1 = cc in absurd (omega arith)
-outcome_one converts.Bad (converts.Is y) e = let z : ◌≡◌ {A = ℕ} 0 1 = cc in absurd (omega arith)
-outcome_one converts.Bad converts.Bad e = refl
-outcome_one converts.Bad converts.TooFew e = let z : ◌≡◌ {A = ℕ} 3 13 = cc in absurd (omega arith)
-outcome_one converts.TooFew (converts.Is y) e = let z : ◌≡◌ {A = ℕ} 0 1 = cc in absurd (omega arith)
-outcome_one converts.TooFew converts.Bad e = let z : ◌≡◌ {A = ℕ} 3 13 = cc in absurd (omega arith)
-outcome_one converts.TooFew converts.TooFew e = refl
+pub outcome_one : (r q : Result Queue ConvertError) → outcome r ≡ outcome q → r ≡ q
+outcome_one (Ok x) (Ok y) e = cc
+outcome_one (Ok x) (Err converts.Bad) e = let z : ◌≡◌ {A = ℕ} 0 1 = cc in absurd (omega arith)
+outcome_one (Ok x) (Err converts.TooFew) e = let z : ◌≡◌ {A = ℕ} 0 1 = cc in absurd (omega arith)
+outcome_one (Err converts.Bad) (Ok y) e = let z : ◌≡◌ {A = ℕ} 0 1 = cc in absurd (omega arith)
+outcome_one (Err converts.Bad) (Err converts.Bad) e = refl
+outcome_one (Err converts.Bad) (Err converts.TooFew) e = let z : ◌≡◌ {A = ℕ} 3 13 = cc in absurd (omega arith)
+outcome_one (Err converts.TooFew) (Ok y) e = let z : ◌≡◌ {A = ℕ} 0 1 = cc in absurd (omega arith)
+outcome_one (Err converts.TooFew) (Err converts.Bad) e = let z : ◌≡◌ {A = ℕ} 3 13 = cc in absurd (omega arith)
+outcome_one (Err converts.TooFew) (Err converts.TooFew) e = refl
 
 -- an old record's length is one byte
 pub old_length : (m : List ℕ) (base : ℕ) → get_or m (base + 3) 0 ≡ length_at older m base

@@ -19,10 +19,9 @@ const OLD_LONGEST: usize = 128;
 
 const MOST: usize = 16;
 
-// The new queue, or refusal 3 (bounds, or a held record) or 13 (the new memory holds fewer records than are held).
+// Why a conversion is refused: 3 (bounds, or a held record) or 13 (the new memory holds fewer records than are held).
 #[derive(Clone, Copy)]
-pub enum Converted {
-    Is(Queue),
+pub enum ConvertError {
     Bad,
     TooFew,
 }
@@ -125,21 +124,21 @@ fn copy_all(start: usize, count: usize, cap: usize, old_mem: &[u8], mem: &mut [u
 // Converts: the new queue has start 0, the same count and lost count, and the same notices in the same order, as records from the new memory's front on; its other
 // bytes stay. Refusal 3 where the old start or count is outside its bounds or a held record has a wrong mark or length; then 13 where the new memory holds
 // fewer records than are held.
-pub fn convert(old: Queue, old_mem: &[u8], mem: &mut [u8]) -> Converted
+pub fn convert(old: Queue, old_mem: &[u8], mem: &mut [u8]) -> Result<Queue, ConvertError>
     ensures { after (outcome result) mem.new ≡ converted older ours old old_mem.now mem.old }
 {
     let cap = old_capacity(old_mem.len());
     if !old.is_bounded(cap) {
-        return Converted::Bad;
+        return Err(ConvertError::Bad);
     }
     if !are_good(old.start, old.count, cap, old_mem) {
-        return Converted::Bad;
+        return Err(ConvertError::Bad);
     }
     if queue::capacity(mem.len()) < old.count {
-        return Converted::TooFew;
+        return Err(ConvertError::TooFew);
     }
     copy_all(old.start, old.count, cap, old_mem, mem);
-    Converted::Is(Queue {
+    Ok(Queue {
         start: 0,
         count: old.count,
         lost: old.lost,

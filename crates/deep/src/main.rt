@@ -2,7 +2,6 @@
 // so the tests run this under a limit of 1 MiB.
 #![tactic(auto)]
 
-use digest::Digested;
 use lines::Digester;
 use std::io;
 
@@ -27,7 +26,7 @@ fn main(rt: HostRuntime) -> io::Result<()> {
     let mut buf = [0u8; 4096];
     fill(&mut buf);
     match digest::digest(Digester::Verbose, b"", &buf) {
-        Digested::Is(a) => {
+        Ok(a) => {
             if answers::is_found(a) {
                 rt.write_all(b"4096 bytes of CRLF: found something, ")?;
             } else {
@@ -36,7 +35,7 @@ fn main(rt: HostRuntime) -> io::Result<()> {
             rt.print(a.consumed)?;
             rt.write_all(b"\n")
         }
-        Digested::TooLong => rt.write_all(b"refused 1\n"),
-        Digested::BadTable(_) => rt.write_all(b"refused 2\n"),
+        Err(DigestError::TooLong) => rt.write_all(b"refused 1\n"),
+        Err(DigestError::BadTable(_)) => rt.write_all(b"refused 2\n"),
     }
 }

@@ -5,12 +5,10 @@ use mathlib.Core.Bool.{Bool, true, false}
 use mathlib.Core.List.{List, [], ◌∷◌}
 use Prim.Native.Nat.{ℕ, zero, suc, ◌+◌}
 use lib.ListN.{length, drop}
-use Rattle.std.specs.Prelude.{if◌then◌else◌}
+use Rattle.std.specs.Prelude.{Option, Some, None, if◌then◌else◌}
 use Rattle.outcome.specs.Laws.{ways}
 use Rattle.text.specs.Text.{stands, find_in}
 use Rattle.text.specs.Laws.{found_at}
-use Rattle.text.specs.declared.Found.{Found}
-use Rattle.text.specs.declared.Found.TheVariants.{At, Nothing}
 use Rattle.table.specs.Table.{Token, Entry, of_mark}
 use Rattle.table.specs.declared.Mark.TheVariants as mark
 use Rattle.lines.specs.Lines.{fixed_text, connect_place}
@@ -18,16 +16,10 @@ use Rattle.lines.specs.declared.Digester.TheVariants as digester
 use Rattle.lines.specs.declared.Fixed.{Fixed}
 use Rattle.lines.specs.declared.Fixed.TheVariants as fixed
 use Rattle.parser.specs.Parser.{numeric_error, prompt_from, custom_prompt, notice_at}
-use Rattle.parser.specs.declared.Numeric.{Numeric}
-use Rattle.parser.specs.declared.Numeric.TheVariants as numeric
 use Rattle.parser.specs.declared.Notice.{Notice}
 use Rattle.parser.specs.declared.Notice.TheVariants as notice
 use Rattle.answers.specs.Answer.{is_found, nothing, with_number, shift}
 use Rattle.answers.specs.declared.Answer.{Answer}
-use Rattle.items.specs.declared.Occurs.{Occurs}
-use Rattle.items.specs.declared.Occurs.TheVariants as occurs
-use Rattle.items.specs.declared.Tried.{Tried}
-use Rattle.items.specs.declared.Tried.TheVariants as tries
 use Rattle.items.specs.Rules.{or_else, first_of, skipped, heard, notices, first_custom, kind_of, success, custom_success, line_success, first_connect, connected, connect_success, successes, prompt_tried, custom_prompts, prompts, custom_error, heads, numeric_tried, numeric_errors, error_lines, line_tried, line_errors, not_allowed, errors, tried}
 use Rattle.items.specs.Laws.{or_next_lem}
 use Rattle.items.specs.Connect.{connect_bare}
@@ -35,21 +27,21 @@ use Rattle.digest.specs.Digest.{retries, again, after, digest_by, digest_in}
 
 -- an answer without its digits and its text
 abbrev plain : Answer → Answer
-plain a = record { kind = a.kind; number = a.number; place = a.place; len = a.len; digits_place = 0; digits_len = 0; text_place = 0; text_len = 0; consumed = a.consumed }
+plain a = record { kind = a.kind; number = a.number; place = a.payload.start; len = a.payload.len; digits_place = 0; digits_len = 0; text_place = 0; text_len = 0; consumed = a.consumed }
 
-abbrev plainly : Tried → Tried
-plainly (tries.Done a) = tries.Done (plain a)
-plainly tries.Next = tries.Next
+abbrev plainly : Option Answer → Option Answer
+plainly (Some a) = Some (plain a)
+plainly None = None
 
 -- The rules as they were: CONNECT was a line like OK, and a numeric error was answered with its number alone; the other rules were as they are.
-abbrev successes_before : List Entry → List ℕ → ℕ → Tried
+abbrev successes_before : List Entry → List ℕ → ℕ → Option Answer
 successes_before l s e = or_else (custom_success (first_custom l s e) s e) (first_of (λ x. line_success s e x (find_in (fixed_text x) s e)) (fixed.Ok ∷ fixed.Connect ∷ []))
 
-abbrev numeric_before : Fixed → Numeric → Tried
-numeric_before h (numeric.Is d) = tries.Done (with_number (kind_of h) d.code d.end)
-numeric_before h numeric.Nothing = tries.Next
+abbrev numeric_before : Fixed → Option Digits → Option Answer
+numeric_before h (Some d) = Some (with_number (kind_of h) d.code d.end)
+numeric_before h None = None
 
-abbrev tried_before : List Token → List ℕ → ℕ → Tried
+abbrev tried_before : List Token → List ℕ → ℕ → Option Answer
 tried_before ts s e =
     or_else (notices (of_mark mark.Notice 0 ts) s e)
     (or_else (successes_before (of_mark mark.Success 0 ts) s e)
@@ -62,12 +54,12 @@ before_by zero ts s = nothing 0
 before_by (suc n) ts s = after s (before_by n ts) (skipped s) (tried_before ts s (skipped s))
 
 -- the rules, one by one
-either_plain : (t r u v : Tried) → plainly t ≡ u → plainly r ≡ v → plainly (or_else t r) ≡ or_else u v
+either_plain : (t r u v : Option Answer) → plainly t ≡ u → plainly r ≡ v → plainly (or_else t r) ≡ or_else u v
 unfolding or_else
-either_plain (tries.Done a) r u v p q = rw (← p)
-either_plain tries.Next r u v p q = rw (← p) q
+either_plain (Some a) r u v p q = rw (← p)
+either_plain None r u v p q = rw (← p) q
 
-first_plain : (f g : Fixed → Tried) → ((l : Fixed) → plainly (f l) ≡ g l) → (ls : List Fixed) → plainly (first_of f ls) ≡ first_of g ls
+first_plain : (f g : Fixed → Option Answer) → ((l : Fixed) → plainly (f l) ≡ g l) → (ls : List Fixed) → plainly (first_of f ls) ≡ first_of g ls
 unfolding first_of
 first_plain f g p [] = refl
 first_plain f g p (l ∷ ls) = either_plain (f l) (first_of f ls) (g l) (first_of g ls) (p l) (first_plain f g p ls)
@@ -84,24 +76,24 @@ module _ (s : List ℕ) (e : ℕ) where
   notices_plain [] = refl
   notices_plain (x ∷ l) = either_plain (heard (notice_at x.text s e) x.number s e) (notices l s e) _ _ (heard_plain (notice_at x.text s e) x.number s e) (notices_plain l)
 
-  custom_success_plain : (r : Occurs) → plainly (custom_success r s e) ≡ custom_success r s e
+  custom_success_plain : (r : Option (ℕ × ℕ × ℕ)) → plainly (custom_success r s e) ≡ custom_success r s e
   unfolding custom_success success
-  custom_success_plain (occurs.At n len k) = refl
-  custom_success_plain occurs.Nothing = refl
+  custom_success_plain (Some (n, len, k)) = refl
+  custom_success_plain None = refl
 
-  line_success_plain : (l : Fixed) (r : Found) → plainly (line_success s e l r) ≡ line_success s e l r
+  line_success_plain : (l : Fixed) (r : Option ℕ) → plainly (line_success s e l r) ≡ line_success s e l r
   unfolding line_success success
-  line_success_plain l (At k) = refl
-  line_success_plain l Nothing = refl
+  line_success_plain l (Some k) = refl
+  line_success_plain l None = refl
 
   -- for document 01's digester CONNECT is the bare line
   connect_plain : plainly (connect_success digester.Verbose s e (first_connect digester.Verbose s e)) ≡ line_success s e fixed.Connect (find_in (fixed_text fixed.Connect) s e)
   unfolding first_connect connect_place
   connect_plain = go (find_in (fixed_text fixed.Connect) s e) refl
     where
-      go : (r : Found) → find_in (fixed_text fixed.Connect) s e ≡ r → plainly (connect_success digester.Verbose s e r) ≡ line_success s e fixed.Connect r
-      go (At k) q = unfold connect_success connected line_success success in rw (connect_bare digester.Verbose s k (found_at (fixed_text fixed.Connect) s e k q).here)
-      go Nothing q = unfold connect_success line_success in refl
+      go : (r : Option ℕ) → find_in (fixed_text fixed.Connect) s e ≡ r → plainly (connect_success digester.Verbose s e r) ≡ line_success s e fixed.Connect r
+      go (Some k) q = unfold connect_success connected line_success success in rw (connect_bare digester.Verbose s k (found_at (fixed_text fixed.Connect) s e k q).here)
+      go None q = unfold connect_success line_success in refl
 
   successes_plain : (l : List Entry) → plainly (successes digester.Verbose l s e) ≡ successes_before l s e
   unfolding successes first_of
@@ -125,20 +117,20 @@ module _ (s : List ℕ) (e : ℕ) where
       either_plain (custom_prompts l s e) _ _ _ (custom_prompts_plain l)
       (either_plain (prompt_tried (prompt_from 62 s e) 62 s) (prompt_tried (prompt_from 64 s e) 64 s) _ _ (prompt_plain (prompt_from 62 s e) 62) (prompt_plain (prompt_from 64 s e) 64))
 
-  custom_error_plain : (r : Occurs) → plainly (custom_error r) ≡ custom_error r
+  custom_error_plain : (r : Option (ℕ × ℕ × ℕ)) → plainly (custom_error r) ≡ custom_error r
   unfolding custom_error
-  custom_error_plain (occurs.At n len k) = refl
-  custom_error_plain occurs.Nothing = refl
+  custom_error_plain (Some (n, len, k)) = refl
+  custom_error_plain None = refl
 
-  numeric_plain : (h : Fixed) (r : Numeric) → plainly (numeric_tried h r) ≡ numeric_before h r
+  numeric_plain : (h : Fixed) (r : Option Digits) → plainly (numeric_tried h r) ≡ numeric_before h r
   unfolding numeric_tried
-  numeric_plain h (numeric.Is d) = refl
-  numeric_plain h numeric.Nothing = refl
+  numeric_plain h (Some d) = refl
+  numeric_plain h None = refl
 
-  line_plain : (l : Fixed) (r : Found) → plainly (line_tried l r) ≡ line_tried l r
+  line_plain : (l : Fixed) (r : Option ℕ) → plainly (line_tried l r) ≡ line_tried l r
   unfolding line_tried
-  line_plain l (At p) = refl
-  line_plain l Nothing = refl
+  line_plain l (Some p) = refl
+  line_plain l None = refl
 
   na_plain : plainly (not_allowed s e) ≡ not_allowed s e
   unfolding not_allowed
@@ -167,10 +159,10 @@ again_plain e r = go (is_found r)
     go true = unfold shift in refl
     go false = refl
 
-after_plain : (s : List ℕ) (f g : List ℕ → Answer) (e : ℕ) (t : Tried) → plain (f (drop (e + 2) s)) ≡ g (drop (e + 2) s) → plain (after s f e t) ≡ after s g e (plainly t)
+after_plain : (s : List ℕ) (f g : List ℕ → Answer) (e : ℕ) (t : Option Answer) → plain (f (drop (e + 2) s)) ≡ g (drop (e + 2) s) → plain (after s f e t) ≡ after s g e (plainly t)
 unfolding after
-after_plain s f g e (tries.Done a) p = refl
-after_plain s f g e tries.Next p = go (retries s e)
+after_plain s f g e (Some a) p = refl
+after_plain s f g e None p = go (retries s e)
   where
     go : (b : Bool) → plain (if b then again e (f (drop (e + 2) s)) else nothing e) ≡ (if b then again e (g (drop (e + 2) s)) else nothing e)
     go true = again_plain e (f (drop (e + 2) s)) ∙ ap (again e) p

@@ -8,22 +8,18 @@ use lib.ListN.{length, drop}
 use lib.Seq.{drop-drop}
 use lib.Dec.{leb, ltb}
 use borrow.Author.Tests.{leb-false}
-use Rattle.std.specs.Prelude.{if◌then◌else◌}
+use Rattle.std.specs.Prelude.{Option, Some, None, if◌then◌else◌}
 use Rattle.outcome.specs.Outcome.{Outcome, answered, refused}
 use Rattle.text.specs.Bytes.{bytes}
 use Rattle.text.specs.Logic.{false_true}
 use Rattle.text.specs.Text.{find_in}
 use Rattle.text.specs.Laws.{found_at, found_none, stands_front}
-use Rattle.text.specs.declared.Found.{Found}
-use Rattle.text.specs.declared.Found.TheVariants.{At, Nothing}
 use Rattle.table.specs.Table.{Token, Entry, of_mark, tokens, ruling}
 use Rattle.table.specs.declared.Mark.TheVariants as mark
 use Rattle.lines.specs.Lines.{crlf, fixed_text, earlier, connect_place}
 use Rattle.lines.specs.declared.Digester.{Digester}
 use Rattle.lines.specs.declared.Digester.TheVariants as digester
 use Rattle.lines.specs.declared.Fixed.TheVariants as fixed
-use Rattle.items.specs.declared.Tried.{Tried}
-use Rattle.items.specs.declared.Tried.TheVariants as tries
 use Rattle.items.specs.Rules.{or_else, skipped, notices, first_custom, custom_success, line_success, through_crlf, first_connect, connected, connect_success, successes, prompts, errors, tried}
 use Rattle.items.specs.Connect.{connect_bare, connect_text, behind_head}
 use Rattle.answers.specs.declared.Answer.{Answer}
@@ -38,27 +34,27 @@ NoText s = (k n : ℕ) → TextLine (drop k s) n → ⊥
 
 module _ (s : List ℕ) (none : NoText s) (e : ℕ) where
   -- a head has no CRLF behind it
-  unended : (k : ℕ) → find_in (fixed_text fixed.ConnectText) s e ≡ At k → find_in crlf s (k + 10) ≡ Nothing
+  unended : (k : ℕ) → find_in (fixed_text fixed.ConnectText) s e ≡ Some k → find_in crlf s (k + 10) ≡ None
   unended k p = go (find_in crlf s (k + 10)) refl
     where
-      go : (r : Found) → find_in crlf s (k + 10) ≡ r → r ≡ Nothing
-      go (At q) h = absurd (none k (q + 2 - k) (texted_told s k (found_at (fixed_text fixed.ConnectText) s e k p).here q h))
-      go Nothing h = refl
+      go : (r : Option ℕ) → find_in crlf s (k + 10) ≡ r → r ≡ None
+      go (Some q) h = absurd (none k (q + 2 - k) (texted_told s k (found_at (fixed_text fixed.ConnectText) s e k p).here q h))
+      go None h = refl
 
   -- the bare line is the same to both
-  bare_same : (j : ℕ) → find_in (fixed_text fixed.Connect) s e ≡ At j → connect_success digester.Connect s e (At j) ≡ connect_success digester.Verbose s e (At j)
+  bare_same : (j : ℕ) → find_in (fixed_text fixed.Connect) s e ≡ Some j → connect_success digester.Connect s e (Some j) ≡ connect_success digester.Verbose s e (Some j)
   unfolding connect_success
   bare_same j p =
       let h = (found_at (fixed_text fixed.Connect) s e j p).here in
       ap (connected s e j) (connect_bare digester.Connect s j h ∙ sym (connect_bare digester.Verbose s j h))
 
-  alone_same : (k : ℕ) → find_in (fixed_text fixed.ConnectText) s e ≡ At k → connect_success digester.Connect s e (At k) ≡ tries.Next
+  alone_same : (k : ℕ) → find_in (fixed_text fixed.ConnectText) s e ≡ Some k → connect_success digester.Connect s e (Some k) ≡ None
   unfolding connect_success through_crlf connected
   alone_same k p =
       let w = found_at (fixed_text fixed.ConnectText) s e k p in
       ap (connected s e k) (connect_text digester.Connect s k refl w.here ∙ ap through_crlf (unended k p))
 
-  earlier_same : (j k : ℕ) → find_in (fixed_text fixed.Connect) s e ≡ At j → find_in (fixed_text fixed.ConnectText) s e ≡ At k → (b : Bool) → leb j k ≡ b → connect_success digester.Connect s e (if b then At j else At k) ≡ connect_success digester.Verbose s e (At j)
+  earlier_same : (j k : ℕ) → find_in (fixed_text fixed.Connect) s e ≡ Some j → find_in (fixed_text fixed.ConnectText) s e ≡ Some k → (b : Bool) → leb j k ≡ b → connect_success digester.Connect s e (if b then Some j else Some k) ≡ connect_success digester.Verbose s e (Some j)
   earlier_same j k p q true l = bare_same j p
   earlier_same j k p q false l =
       let v = found_at (fixed_text fixed.Connect) s e j p in
@@ -70,21 +66,21 @@ module _ (s : List ℕ) (none : NoText s) (e : ℕ) where
   unfolding first_connect connect_place earlier
   connect_same = go (find_in (fixed_text fixed.Connect) s e) refl (find_in (fixed_text fixed.ConnectText) s e) refl
     where
-      go : (x : Found) → find_in (fixed_text fixed.Connect) s e ≡ x → (y : Found) → find_in (fixed_text fixed.ConnectText) s e ≡ y → connect_success digester.Connect s e (earlier x y) ≡ connect_success digester.Verbose s e x
-      go (At j) p (At k) q = earlier_same j k p q (leb j k) refl
-      go (At j) p Nothing q = bare_same j p
-      go Nothing p (At k) q = alone_same k q ∙ (unfold connect_success in refl)
-      go Nothing p Nothing q = unfold connect_success in refl
+      go : (x : Option ℕ) → find_in (fixed_text fixed.Connect) s e ≡ x → (y : Option ℕ) → find_in (fixed_text fixed.ConnectText) s e ≡ y → connect_success digester.Connect s e (earlier x y) ≡ connect_success digester.Verbose s e x
+      go (Some j) p (Some k) q = earlier_same j k p q (leb j k) refl
+      go (Some j) p None q = bare_same j p
+      go None p (Some k) q = alone_same k q ∙ (unfold connect_success in refl)
+      go None p None q = unfold connect_success in refl
 
   successes_same : (d : Digester) (l : List Entry) → successes d l s e ≡ successes digester.Verbose l s e
   unfolding successes
   successes_same digester.Verbose l = refl
-  successes_same digester.Connect l = ap (λ (t : Tried). or_else (custom_success (first_custom l s e) s e) (or_else (line_success s e fixed.Ok (find_in (fixed_text fixed.Ok) s e)) t)) connect_same
+  successes_same digester.Connect l = ap (λ (t : Option Answer). or_else (custom_success (first_custom l s e) s e) (or_else (line_success s e fixed.Ok (find_in (fixed_text fixed.Ok) s e)) t)) connect_same
 
   tried_same : (d : Digester) (ts : List Token) → tried d ts s e ≡ tried digester.Verbose ts s e
   unfolding tried
   tried_same d ts =
-      ap (λ (t : Tried). or_else (notices (of_mark mark.Notice 0 ts) s e) (or_else t (or_else (prompts (of_mark mark.Prompt 0 ts) s e) (errors (of_mark mark.Error 0 ts) s e)))) (successes_same d (of_mark mark.Success 0 ts))
+      ap (λ (t : Option Answer). or_else (notices (of_mark mark.Notice 0 ts) s e) (or_else t (or_else (prompts (of_mark mark.Prompt 0 ts) s e) (errors (of_mark mark.Error 0 ts) s e)))) (successes_same d (of_mark mark.Success 0 ts))
 
 -- what has no longer line has none in its suffixes
 suffix_without : (s : List ℕ) (m : ℕ) → NoText s → NoText (drop m s)

@@ -1,5 +1,5 @@
 -- The calls that a user makes: their refusals, and what they heard.
-use Rattle.std.specs.Prelude.{◌≡◌, List, [], ◌∷◌, ℕ, ◌≤◌, ◌<◌, length, ltb}
+use Rattle.std.specs.Prelude.{Result, Ok, Err, ◌≡◌, List, [], ◌∷◌, ℕ, ◌≤◌, ◌<◌, length, ltb}
 use Rattle.std.proofs.Math.Path.{refl, ap}
 use Rattle.std.proofs.Common.{sym, ◌∙◌, arith, le-ltb, lt-ltb}
 use Rattle.outcome.specs.Outcome.{Outcome, answered, refused}
@@ -9,8 +9,8 @@ use Rattle.table.specs.declared.Mark.TheVariants as mark
 use Rattle.table.specs.Laws.{good_tokens, numbers_below}
 use Rattle.lines.specs.declared.Digester.{Digester}
 use Rattle.answers.specs.declared.Answer.{Answer}
-use Rattle.digest.specs.declared.Digested.{Digested}
-use Rattle.digest.specs.declared.Digested.TheVariants as says
+use Rattle.answers.specs.declared.DigestError.{DigestError}
+use Rattle.answers.specs.declared.DigestError.TheVariants as says
 use Rattle.outcome.specs.Laws.{ways}
 use Rattle.answers.specs.Answer.{nothing, Within}
 use Rattle.answers.specs.Laws.{nothing_within}
@@ -21,16 +21,16 @@ use Rattle.digest.specs.Numbered.{Below, digest_below}
 use Rattle.digest.specs.Theorem.{heard_so}
 
 -- no two answers of `digest` have the same outcome
-pub outcome_one : (r q : Digested) → outcome r ≡ outcome q → r ≡ q
-outcome_one (says.Is a) (says.Is b) e = cc
-outcome_one (says.Is a) says.TooLong e = let z : ◌≡◌ {A = ℕ} 0 1 = cc in absurd (omega arith)
-outcome_one (says.Is a) (says.BadTable k) e = let z : ◌≡◌ {A = ℕ} 0 1 = cc in absurd (omega arith)
-outcome_one says.TooLong (says.Is a) e = let z : ◌≡◌ {A = ℕ} 0 1 = cc in absurd (omega arith)
-outcome_one says.TooLong says.TooLong e = refl
-outcome_one says.TooLong (says.BadTable k) e = let z : ◌≡◌ {A = ℕ} 0 1 = cc in absurd (omega arith)
-outcome_one (says.BadTable k) (says.Is a) e = let z : ◌≡◌ {A = ℕ} 0 1 = cc in absurd (omega arith)
-outcome_one (says.BadTable k) says.TooLong e = let z : ◌≡◌ {A = ℕ} 0 1 = cc in absurd (omega arith)
-outcome_one (says.BadTable k) (says.BadTable m) e = cc
+pub outcome_one : (r q : Result Answer DigestError) → outcome r ≡ outcome q → r ≡ q
+outcome_one (Ok a) (Ok b) e = cc
+outcome_one (Ok a) (Err says.TooLong) e = let z : ◌≡◌ {A = ℕ} 0 1 = cc in absurd (omega arith)
+outcome_one (Ok a) (Err (says.BadTable k)) e = let z : ◌≡◌ {A = ℕ} 0 1 = cc in absurd (omega arith)
+outcome_one (Err says.TooLong) (Ok a) e = let z : ◌≡◌ {A = ℕ} 0 1 = cc in absurd (omega arith)
+outcome_one (Err says.TooLong) (Err says.TooLong) e = refl
+outcome_one (Err says.TooLong) (Err (says.BadTable k)) e = let z : ◌≡◌ {A = ℕ} 0 1 = cc in absurd (omega arith)
+outcome_one (Err (says.BadTable k)) (Ok a) e = let z : ◌≡◌ {A = ℕ} 0 1 = cc in absurd (omega arith)
+outcome_one (Err (says.BadTable k)) (Err says.TooLong) e = let z : ◌≡◌ {A = ℕ} 0 1 = cc in absurd (omega arith)
+outcome_one (Err (says.BadTable k)) (Err (says.BadTable m)) e = cc
 
 -- what a digest under a good table hears
 pub digest_heard : (d : Digester) (t s : List ℕ) (n : ℕ) → ruling t ≡ answered n → (a : Answer) → a ≡ digest_in d (tokens t) s → Heard d (tokens t) s a

@@ -1,5 +1,5 @@
 -- Rules 6 and 7 of one digest, and its refusals. They compute. Rules 1 to 5 are items' `Rules`.
-use Rattle.std.specs.Prelude.{Bool, ◌&&◌, List, [], ◌∷◌, ℕ, zero, suc, ◌+◌, ◌-◌, length, drop, ltb, if◌then◌else◌}
+use Rattle.std.specs.Prelude.{Option, Some, None, Result, Ok, Err, Bool, ◌&&◌, List, [], ◌∷◌, ℕ, zero, suc, ◌+◌, ◌-◌, length, drop, ltb, if◌then◌else◌}
 use Rattle.outcome.specs.Outcome.{Outcome, answered, refused}
 use Rattle.text.specs.Text.{stands}
 use Rattle.table.specs.Table.{Token, tokens, ruling}
@@ -7,11 +7,9 @@ use Rattle.lines.specs.Lines.{crlf}
 use Rattle.lines.specs.declared.Digester.{Digester}
 use Rattle.answers.specs.declared.Answer.{Answer}
 use Rattle.answers.specs.Answer.{is_found, nothing, shift}
-use Rattle.items.specs.declared.Tried.{Tried}
-use Rattle.items.specs.declared.Tried.TheVariants.{Done, Next}
 use Rattle.items.specs.Rules.{skipped, tried}
-use Rattle.digest.specs.declared.Digested.{Digested}
-use Rattle.digest.specs.declared.Digested.TheVariants as says
+use Rattle.answers.specs.declared.DigestError.{DigestError}
+use Rattle.answers.specs.declared.DigestError.TheVariants as says
 
 -- Rule 6. If buf starts with CRLF and has more than 4 bytes, the digester calls itself on what follows those two bytes.
 unfoldable pub retries : List ℕ → ℕ → Bool
@@ -23,10 +21,10 @@ unfolding shift
 again e r = if is_found r then shift (e + 2) r else nothing e
 
 -- Rule 7. Else None, e. Here f is the digester itself.
-unfoldable pub after : List ℕ → (List ℕ → Answer) → ℕ → Tried → Answer
+unfoldable pub after : List ℕ → (List ℕ → Answer) → ℕ → Option Answer → Answer
 unfolding again retries
-after s f e (Done a) = a
-after s f e Next = let r = again e (f (drop (e + 2) s)) in if retries s e then r else nothing e
+after s f e (Some a) = a
+after s f e None = let r = again e (f (drop (e + 2) s)) in if retries s e then r else nothing e
 
 -- with fuel, of which one more than the input's length is enough
 unfoldable pub digest_by : ℕ → Digester → List Token → List ℕ → Answer
@@ -50,10 +48,10 @@ unfolding under_table
 digest d t s = if ltb 4096 (length s) then refused 1 [] else under_table (ruling t) d t s
 
 -- document 01's number and values for each case of the digest's answer
-abbrev pub outcome : Digested → Outcome Answer
-outcome (says.Is a) = answered a
-outcome says.TooLong = refused 1 []
-outcome (says.BadTable k) = refused 2 (k ∷ [])
+abbrev pub outcome : Result Answer DigestError → Outcome Answer
+outcome (Ok a) = answered a
+outcome (Err says.TooLong) = refused 1 []
+outcome (Err (says.BadTable k)) = refused 2 (k ∷ [])
 
 -- under a table that isn't asked about: its records as they lie; an input over 4,096 bytes is None, 0
 unfoldable pub digest_unchecked : Digester → List ℕ → List ℕ → Answer

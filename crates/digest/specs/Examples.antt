@@ -28,7 +28,7 @@ pub record Said : Type 0 where
   pub consumed : ℕ
 
 abbrev pub said : List ℕ → Answer → Said
-said s a = record { kind = a.kind; number = number_of a; payload = part_of s a.place a.len; consumed = a.consumed }
+said s a = record { kind = a.kind; number = number_of a; payload = part_of s a.payload.start a.payload.len; consumed = a.consumed }
 
 abbrev pub said_of : List ℕ → Outcome Answer → Outcome Said
 said_of s (answered a) = answered (said s a)

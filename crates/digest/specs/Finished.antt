@@ -14,9 +14,9 @@ use Rattle.lines.specs.declared.Fixed.TheVariants as fixed
 use Rattle.items.specs.Rules.{heads, error_lines}
 
 -- something in the list has the property
-abbrev pub Some : {A : Type 0} → (A → Type 0) → List A → Type 0
-Some P [] = ⊥
-Some P (x ∷ l) = P x ⊎ Some P l
+abbrev pub AnyOf : {A : Type 0} → (A → Type 0) → List A → Type 0
+AnyOf P [] = ⊥
+AnyOf P (x ∷ l) = P x ⊎ AnyOf P l
 
 -- each byte from the place i up to k passes f
 abbrev pub All : (ℕ → Bool) → List ℕ → ℕ → ℕ → Type 0
@@ -90,20 +90,20 @@ pub record TextLine (u : List ℕ) (n : ℕ) : Type 0 where
 
 -- An item that stands from a line start on, n bytes long; a prompt takes all there is.
 pub data Item (d : Digester) (ts : List Token) (u : List ℕ) (n : ℕ) : Type 0 where
-  notice : Some (λ x. NoticeEnded x.text u n) (of_mark mark.Notice 0 ts) → Item d ts u n
-  line : Some (λ l. Line (fixed_text l) u n) nine → Item d ts u n
+  notice : AnyOf (λ x. NoticeEnded x.text u n) (of_mark mark.Notice 0 ts) → Item d ts u n
+  line : AnyOf (λ l. Line (fixed_text l) u n) nine → Item d ts u n
   text : hears_text d ≡ true → TextLine u n → Item d ts u n
-  custom_success : Some (λ x. Line (wrapped x.text) u n) (of_mark mark.Success 0 ts) → Item d ts u n
-  custom_error : Some (λ x. Line (wrapped x.text) u n) (of_mark mark.Error 0 ts) → Item d ts u n
-  numeric : Some (λ h. NumericEnded (fixed_text h) u n) heads → Item d ts u n
+  custom_success : AnyOf (λ x. Line (wrapped x.text) u n) (of_mark mark.Success 0 ts) → Item d ts u n
+  custom_error : AnyOf (λ x. Line (wrapped x.text) u n) (of_mark mark.Error 0 ts) → Item d ts u n
+  numeric : AnyOf (λ h. NumericEnded (fixed_text h) u n) heads → Item d ts u n
   prompt : FirstAlone 62 u ⊎ FirstAlone 64 u → n ≡ length u → Item d ts u n
-  custom_prompt : Some (λ x. EndsIn x.text u) (of_mark mark.Prompt 0 ts) → n ≡ length u → Item d ts u n
+  custom_prompt : AnyOf (λ x. EndsIn x.text u) (of_mark mark.Prompt 0 ts) → n ≡ length u → Item d ts u n
 
 -- The line start p of s holds a finished item, n bytes long; where a notice is unfinished, the start holds none.
 pub record Holds (d : Digester) (ts : List Token) (s : List ℕ) (p n : ℕ) : Type 0 where
   pub start : LineStart s p
   pub item : Item d ts (drop p s) n
-  pub finished : Some (λ x. Unfinished x.text (drop p s)) (of_mark mark.Notice 0 ts) → ⊥
+  pub finished : AnyOf (λ x. Unfinished x.text (drop p s)) (of_mark mark.Notice 0 ts) → ⊥
 
 -- no line start of the input holds a finished item
 abbrev pub NothingFinished : Digester → List Token → List ℕ → Type 0

@@ -22,17 +22,17 @@ pub record DigitRun (s : List ℕ) (p n c : ℕ) : Type 0 where
 -- R-2: the kind is CME, CMS or unknown exactly when there are digits. They are then the longest run that ends in front of the item's line ending,
 -- and the number, where the kind has one, is their value.
 pub record DigitsOf (s : List ℕ) (a : Answer) : Type 0 where
-  pub some : is_numeric a.kind ≡ ltb 0 a.digits_len
-  pub run : is_numeric a.kind ≡ true → DigitRun s a.digits_place a.digits_len a.consumed
-  pub code : is_numeric a.kind ≡ true → has_number a.kind ≡ true → a.number ≡ value 0 (take a.digits_len (drop a.digits_place s))
+  pub some : is_numeric a.kind ≡ ltb 0 a.digits.len
+  pub run : is_numeric a.kind ≡ true → DigitRun s a.digits.start a.digits.len a.consumed
+  pub code : is_numeric a.kind ≡ true → has_number a.kind ≡ true → a.number ≡ value 0 (take a.digits.len (drop a.digits.start s))
 
 -- R-3: a text is an Ok's, by a digester that hears it. It stands behind CRLF, `CONNECT` and a space, holds no CRLF, and ends at one, two bytes before the consumed count.
 pub record TextOf (d : Digester) (s : List ℕ) (a : Answer) : Type 0 where
   pub hears : hears_text d ≡ true
   pub ok : a.kind ≡ kind.Ok
-  pub head : (10 ≤ a.text_place) × (stands (fixed_text fixed.ConnectText) s (a.text_place - 10) ≡ true)
-  pub inside : Nowhere crlf s a.text_place (a.text_place + a.text_len)
-  pub ended : (stands crlf s (a.text_place + a.text_len) ≡ true) × (a.text_place + a.text_len ≡ a.consumed - 2)
+  pub head : (10 ≤ a.text.start) × (stands (fixed_text fixed.ConnectText) s (a.text.start - 10) ≡ true)
+  pub inside : Nowhere crlf s a.text.start (a.text.start + a.text.len)
+  pub ended : (stands crlf s (a.text.start + a.text.len) ≡ true) × (a.text.start + a.text.len ≡ a.consumed - 2)
 
 -- The item that was found: it stands at the line start p and ends exactly at the consumed count; payload, digits and text lie before its end.
 pub record Where (d : Digester) (ts : List Token) (s : List ℕ) (a : Answer) : Type 0 where
@@ -40,11 +40,11 @@ pub record Where (d : Digester) (ts : List Token) (s : List ℕ) (a : Answer) : 
   pub n : ℕ
   pub holds : Holds d ts s p n
   pub ends : p + n ≡ a.consumed
-  pub payload : a.place + a.len ≤ a.consumed
-  pub within : a.digits_place + a.digits_len ≤ a.consumed
+  pub payload : a.payload.start + a.payload.len ≤ a.consumed
+  pub within : a.digits.start + a.digits.len ≤ a.consumed
   pub digits : DigitsOf s a
-  pub lies : a.text_place + a.text_len ≤ a.consumed
-  pub text : 0 < a.text_len → TextOf d s a
+  pub lies : a.text.start + a.text.len ≤ a.consumed
+  pub text : 0 < a.text.len → TextOf d s a
 
 -- None exactly when no line start of the input holds a finished item (none, only). Where it is None, it has neither payload, digits nor text, and consumed is e (rules 1 and 7).
 -- Else the item is there, and at least one byte and at most the input is consumed.

@@ -1,5 +1,5 @@
 -- What an item takes: lines begin with CRLF and end in LF, so that no notice is unfinished where one stands, and each item takes a byte.
-use Rattle.std.specs.Prelude.{◌≡◌, refl, ◌⊎◌, Bool, List, [], ◌∷◌, ◌++◌, ℕ, zero, suc, ◌+◌, ◌-◌, ◌≤◌, ◌<◌, if◌then◌else◌}
+use Rattle.std.specs.Prelude.{Option, Some, None, ◌≡◌, refl, ◌⊎◌, Bool, List, [], ◌∷◌, ◌++◌, ℕ, zero, suc, ◌+◌, ◌-◌, ◌≤◌, ◌<◌, if◌then◌else◌}
 use Rattle.std.proofs.Common.{sym, ◌∙◌, inl, inr, add-zero}
 use Rattle.std.proofs.Math.Path.{ap}
 use Rattle.std.proofs.Math.Logic.{⊎_elim}
@@ -10,7 +10,6 @@ use Rattle.std.proofs.Math.Seq.{get_or-append-add, get_or-drop}
 use Rattle.text.specs.Bytes.{bytes}
 use Rattle.text.specs.Logic.{false_true, order}
 use Rattle.text.specs.Text.{stands, find_in}
-use Rattle.text.specs.declared.Found.TheVariants.{At}
 use Rattle.text.specs.Laws.{found_at, find_is, stands_drop, stands_front, stands_fits, stands_byte, stands_get_d, stands_room}
 use Rattle.table.specs.Table.{is_text, Token, Entry, of_mark}
 use Rattle.table.specs.Laws.{Texts, EntryTexts, mark_texts, text_some, text_byte}
@@ -21,55 +20,53 @@ use Rattle.lines.specs.declared.Digester.{Digester}
 use Rattle.lines.specs.declared.Fixed.{Fixed}
 use Rattle.lines.specs.declared.Fixed.TheVariants as fixed
 use Rattle.answers.specs.declared.Answer.{Answer}
-use Rattle.items.specs.declared.Tried.{Tried}
-use Rattle.items.specs.declared.Tried.TheVariants as tries
 use Rattle.items.specs.Rules.{or_else, heads}
 use Rattle.items.specs.Laws.{wrapped_length}
-use Rattle.digest.specs.Finished.{Some, NoticeEnd, crlf_end, colon, NoticeEnded, Unfinished, NumericEnded, FirstAlone, EndsIn, nine, Line, TextLine, Item}
+use Rattle.digest.specs.Finished.{AnyOf, NoticeEnd, crlf_end, colon, NoticeEnded, Unfinished, NumericEnded, FirstAlone, EndsIn, nine, Line, TextLine, Item}
 use Rattle.digest.specs.Finished as items
 
--- `Some`
-pub some_map : {A : Type 0} (P Q : A → Type 0) → ((x : A) → P x → Q x) → (l : List A) → Some P l → Some Q l
+-- `AnyOf`
+pub some_map : {A : Type 0} (P Q : A → Type 0) → ((x : A) → P x → Q x) → (l : List A) → AnyOf P l → AnyOf Q l
 some_map P Q f [] h = h
 some_map P Q f (x ∷ l) (inl h) = inl (f x h)
 some_map P Q f (x ∷ l) (inr h) = inr (some_map P Q f l h)
 
-pub some_any : {A : Type 0} (P : A → Type 0) (R : Type 0) → ((x : A) → P x → R) → (l : List A) → Some P l → R
+pub some_any : {A : Type 0} (P : A → Type 0) (R : Type 0) → ((x : A) → P x → R) → (l : List A) → AnyOf P l → R
 some_any P R f [] h = absurd h
 some_any P R f (x ∷ l) (inl h) = f x h
 some_any P R f (x ∷ l) (inr h) = some_any P R f l h
 
-pub some_either : {A : Type 0} (P Q R : A → Type 0) → ((x : A) → P x → Q x ⊎ R x) → (l : List A) → Some P l → Some Q l ⊎ Some R l
+pub some_either : {A : Type 0} (P Q R : A → Type 0) → ((x : A) → P x → Q x ⊎ R x) → (l : List A) → AnyOf P l → AnyOf Q l ⊎ AnyOf R l
 some_either P Q R f [] h = absurd h
 some_either P Q R f (x ∷ l) (inl h) = ⊎_elim (λ (q : Q x). inl (inl q)) (λ (r : R x). inr (inl r)) (f x h)
-some_either P Q R f (x ∷ l) (inr h) = ⊎_elim (λ (q : Some Q l). inl (inr q)) (λ (r : Some R l). inr (inr r)) (some_either P Q R f l h)
+some_either P Q R f (x ∷ l) (inr h) = ⊎_elim (λ (q : AnyOf Q l). inl (inr q)) (λ (r : AnyOf R l). inr (inr r)) (some_either P Q R f l h)
 
 -- in a list of two parts
-pub some_left : {A : Type 0} (P : A → Type 0) (l m : List A) → Some P l → Some P (l ++ m)
+pub some_left : {A : Type 0} (P : A → Type 0) (l m : List A) → AnyOf P l → AnyOf P (l ++ m)
 some_left P [] m h = absurd h
 some_left P (x ∷ l) m (inl h) = inl h
 some_left P (x ∷ l) m (inr h) = inr (some_left P l m h)
 
-pub some_right : {A : Type 0} (P : A → Type 0) (l m : List A) → Some P m → Some P (l ++ m)
+pub some_right : {A : Type 0} (P : A → Type 0) (l m : List A) → AnyOf P m → AnyOf P (l ++ m)
 some_right P [] m h = h
 some_right P (x ∷ l) m h = inr (some_right P l m h)
 
-pub some_split : {A : Type 0} (P : A → Type 0) (l m : List A) → Some P (l ++ m) → Some P l ⊎ Some P m
+pub some_split : {A : Type 0} (P : A → Type 0) (l m : List A) → AnyOf P (l ++ m) → AnyOf P l ⊎ AnyOf P m
 some_split P [] m h = inr h
 some_split P (x ∷ l) m (inl h) = inl (inl h)
-some_split P (x ∷ l) m (inr h) = ⊎_elim (λ (q : Some P l). inl (inr q)) (λ (q : Some P m). inr q) (some_split P l m h)
+some_split P (x ∷ l) m (inr h) = ⊎_elim (λ (q : AnyOf P l). inl (inr q)) (λ (q : AnyOf P m). inr q) (some_split P l m h)
 
 -- with a good text for each record
-pub some_texts : (P : Entry → Type 0) (R : Type 0) → ((x : Entry) → is_text x.text ≡ true → P x → R) → (l : List Entry) → EntryTexts l → Some P l → R
+pub some_texts : (P : Entry → Type 0) (R : Type 0) → ((x : Entry) → is_text x.text ≡ true → P x → R) → (l : List Entry) → EntryTexts l → AnyOf P l → R
 some_texts P R f [] w h = absurd h
 some_texts P R f (x ∷ l) w (inl h) = f x w.0 h
 some_texts P R f (x ∷ l) w (inr h) = some_texts P R f l w.1 h
 
 -- a chain of rules taken apart
-pub done_one : (t r : Tried) (a : Answer) → or_else t r ≡ tries.Done a → (t ≡ tries.Done a) ⊎ ((t ≡ tries.Next) × (r ≡ tries.Done a))
+pub done_one : (t r : Option Answer) (a : Answer) → or_else t r ≡ Some a → (t ≡ Some a) ⊎ ((t ≡ None) × (r ≡ Some a))
 unfolding or_else
-done_one (tries.Done b) r a h = inl h
-done_one tries.Next r a h = inr (refl, h)
+done_one (Some b) r a h = inl h
+done_one None r a h = inr (refl, h)
 
 -- An LF behind the line ending: no notice is unfinished there, since neither its text nor the CR behind it has one.
 module _ (u : List ℕ) where
@@ -102,7 +99,7 @@ module _ (u : List ℕ) where
       omega (arith, n, ap (λ (p : ℕ). get_or y p 0) m))
       (order (j - k) (length x))
 
-  pub lf_finished : (j : ℕ) → 2 ≤ j → j < length u → get_or u j 0 ≡ 10 → (l : List Entry) → EntryTexts l → Some (λ x. Unfinished x.text u) l → ⊥
+  pub lf_finished : (j : ℕ) → 2 ≤ j → j < length u → get_or u j 0 ≡ 10 → (l : List Entry) → EntryTexts l → AnyOf (λ x. Unfinished x.text u) l → ⊥
   lf_finished j h g e l w = some_texts (λ x. Unfinished x.text u) ⊥ (λ x t v. lf_not_broken x.text t (line_ending u 0) j (omega (arith, ending_small)) g e v.broken) l w
 
 -- a line ending ends in LF
@@ -162,7 +159,7 @@ stands_here t s k = ap (stands t s) (sym (add-zero k)) ∙ sym (stands_drop t s 
 
 -- a CONNECT line with text (R-3), by its head and the first CRLF behind that
 module _ (s : List ℕ) (k : ℕ) where
-  pub texted_told : stands (fixed_text fixed.ConnectText) s k ≡ true → (q : ℕ) → find_in crlf s (k + 10) ≡ At q → TextLine (drop k s) (q + 2 - k)
+  pub texted_told : stands (fixed_text fixed.ConnectText) s k ≡ true → (q : ℕ) → find_in crlf s (k + 10) ≡ Some q → TextLine (drop k s) (q + 2 - k)
   texted_told h q f =
       let w = found_at crlf s (k + 10) q f in
       let i : k + (q - k) ≡ q = omega (arith, w.after) in
@@ -175,9 +172,9 @@ module _ (s : List ℕ) (k : ℕ) where
         ended = omega (arith, w.after);
       }
 
-  pub texted_is : (n : ℕ) (w : TextLine (drop k s) n) → find_in crlf s (k + 10) ≡ At (k + w.q)
+  pub texted_is : (n : ℕ) (w : TextLine (drop k s) n) → find_in crlf s (k + 10) ≡ Some (k + w.q)
   texted_is n w =
-      find_is crlf s (k + 10) (At (k + w.q)) (record {
+      find_is crlf s (k + 10) (Some (k + w.q)) (record {
         after = omega (arith, w.behind);
         here = sym (stands_drop crlf s k w.q) ∙ w.here;
         first =
@@ -211,19 +208,19 @@ module _ (d : Digester) (ts : List Token) (good : Texts ts) where
   text_long : (t u : List ℕ) → Opens t → stands t u 0 ≡ true → 3 ≤ length u
   text_long t u o h = let k = o.long in omega (arith, stands_fits t u 0 (omega arith) h)
 
-  line_long : (ls : List Fixed) (u : List ℕ) (n : ℕ) → Some (λ l. Line (fixed_text l) u n) ls → 3 ≤ length u
+  line_long : (ls : List Fixed) (u : List ℕ) (n : ℕ) → AnyOf (λ l. Line (fixed_text l) u n) ls → 3 ≤ length u
   line_long ls u n h = some_any (λ l. Line (fixed_text l) u n) (3 ≤ length u) (λ l v. text_long (fixed_text l) u (opens l) v.0) ls h
 
-  custom_long : (l : List Entry) (u : List ℕ) (n : ℕ) → Some (λ x. Line (wrapped x.text) u n) l → 3 ≤ length u
+  custom_long : (l : List Entry) (u : List ℕ) (n : ℕ) → AnyOf (λ x. Line (wrapped x.text) u n) l → 3 ≤ length u
   custom_long l u n h = some_any (λ x. Line (wrapped x.text) u n) (3 ≤ length u) (λ x v. text_long (wrapped x.text) u (wrapped_opens x.text) v.0) l h
 
-  numbers_long : (u : List ℕ) (n : ℕ) → Some (λ h. NumericEnded (fixed_text h) u n) heads → 3 ≤ length u
+  numbers_long : (u : List ℕ) (n : ℕ) → AnyOf (λ h. NumericEnded (fixed_text h) u n) heads → 3 ≤ length u
   numbers_long u n h = some_any (λ x. NumericEnded (fixed_text x) u n) (3 ≤ length u) (λ x v. text_long (fixed_text x) u (opens x) v.head) heads h
 
   texted_long : (u : List ℕ) (n : ℕ) → TextLine u n → 3 ≤ length u
   texted_long u n h = text_long (fixed_text fixed.ConnectText) u (opens fixed.ConnectText) h.head
 
-  notice_room : (l : List Entry) (u : List ℕ) (n : ℕ) → Some (λ x. NoticeEnded x.text u n) l → 3 ≤ length u
+  notice_room : (l : List Entry) (u : List ℕ) (n : ℕ) → AnyOf (λ x. NoticeEnded x.text u n) l → 3 ≤ length u
   notice_room l u n h = some_any (λ x. NoticeEnded x.text u n) (3 ≤ length u) (λ x v. let b = notice_lf x.text u n v in omega (arith, b.0, b.1.0)) l h
 
   pub item_some : (u : List ℕ) (n : ℕ) → Item d ts u n → 1 ≤ length u
@@ -284,10 +281,10 @@ module _ (d : Digester) (ts : List Token) (good : Texts ts) where
       go (crlf_end c d) = false_true c (h (line_ending u 0 + length x))
       go (colon c q g v z d) = false_true v (h q)
 
-  no_crlf_custom : (u : List ℕ) → ((j : ℕ) → stands crlf u j ≡ false) → (l : List Entry) (n : ℕ) → Some (λ x. Line (wrapped x.text) u n) l → ⊥
+  no_crlf_custom : (u : List ℕ) → ((j : ℕ) → stands crlf u j ≡ false) → (l : List Entry) (n : ℕ) → AnyOf (λ x. Line (wrapped x.text) u n) l → ⊥
   no_crlf_custom u h l n g = some_any (λ x. Line (wrapped x.text) u n) ⊥ (λ x v. no_crlf_line u h (wrapped x.text) (x.text ++ crlf) refl v.0) l g
 
-  pub no_crlf_item : (u : List ℕ) → ((j : ℕ) → stands crlf u j ≡ false) → (n : ℕ) → Item d ts u n → (FirstAlone 62 u ⊎ FirstAlone 64 u) ⊎ Some (λ x. EndsIn x.text u) (of_mark mark.Prompt 0 ts)
+  pub no_crlf_item : (u : List ℕ) → ((j : ℕ) → stands crlf u j ≡ false) → (n : ℕ) → Item d ts u n → (FirstAlone 62 u ⊎ FirstAlone 64 u) ⊎ AnyOf (λ x. EndsIn x.text u) (of_mark mark.Prompt 0 ts)
   no_crlf_item u h n (items.notice g) = absurd (some_any (λ x. NoticeEnded x.text u n) ⊥ (λ x v. no_crlf_notice u h x.text n v) (of_mark mark.Notice 0 ts) g)
   no_crlf_item u h n (items.line g) = absurd (some_any (λ l. Line (fixed_text l) u n) ⊥ (λ l v. no_crlf_line u h (fixed_text l) (opens l).rest (opens l).front v.0) nine g)
   no_crlf_item u h n (items.text y g) = absurd (false_true g.here (h g.q))

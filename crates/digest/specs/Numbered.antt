@@ -1,13 +1,11 @@
 -- A notice's number is its record's in the table, so below 64: it fits the byte that a queue's record has for it.
-use Rattle.std.specs.Prelude.{◌≡◌, Bool, true, ℕ, ◌+◌, ◌<◌, length, drop}
+use Rattle.std.specs.Prelude.{Option, Some, None, ◌≡◌, Bool, true, ℕ, ◌+◌, ◌<◌, length, drop}
 use Rattle.std.proofs.Math.Path.{refl}
 use Rattle.std.proofs.Math.Bool.{false}
 use mathlib.Core.List.{List, [], ◌∷◌}
 use Rattle.outcome.specs.Laws.{ways}
 use Rattle.text.specs.Logic.{false_true}
 use Rattle.text.specs.Text.{stands, find_in}
-use Rattle.text.specs.declared.Found.{Found}
-use Rattle.text.specs.declared.Found.TheVariants.{At, Nothing}
 use Rattle.table.specs.Table.{Token, Entry, of_mark}
 use Rattle.table.specs.Laws.{NumbersBelow}
 use Rattle.table.specs.declared.Mark.TheVariants as mark
@@ -16,16 +14,10 @@ use Rattle.lines.specs.declared.Digester.{Digester}
 use Rattle.lines.specs.declared.Fixed.{Fixed}
 use Rattle.lines.specs.declared.Fixed.TheVariants as fixed
 use Rattle.parser.specs.Parser.{numeric_error, prompt_from, custom_prompt, notice_at}
-use Rattle.parser.specs.declared.Numeric.{Numeric}
-use Rattle.parser.specs.declared.Numeric.TheVariants as numeric
 use Rattle.parser.specs.declared.Notice.{Notice}
 use Rattle.parser.specs.declared.Notice.TheVariants as notice
 use Rattle.answers.specs.declared.Answer.{Answer}
 use Rattle.answers.specs.Answer.{is_found, is_notice, shift}
-use Rattle.items.specs.declared.Occurs.{Occurs}
-use Rattle.items.specs.declared.Occurs.TheVariants as occurs
-use Rattle.items.specs.declared.Tried.{Tried}
-use Rattle.items.specs.declared.Tried.TheVariants as tries
 use Rattle.items.specs.Rules.{or_else, skipped, heard, notices, first_custom, kind_of, success, custom_success, line_success, connect_at, first_connect, connected, connect_success, successes, prompt_tried, custom_prompts, prompts, custom_error, heads, numeric_tried, numeric_errors, error_lines, line_tried, line_errors, not_allowed, errors, tried}
 use Rattle.digest.specs.Digest.{retries, again, after, digest_in}
 use Rattle.digest.specs.Step.{TriedHas, either_has, first_has, by_length, rest_shorter, digest_step}
@@ -64,25 +56,25 @@ module _ (k : ℕ) (s : List ℕ) (e : ℕ) where
   notices_below [] w = tt
   notices_below (x ∷ l) w = either_has (Below k) (heard (notice_at x.text s e) x.number s e) (notices l s e) (heard_below x.number w.0 (notice_at x.text s e)) (notices_below l w.1)
 
-  custom_success_below : (r : Occurs) → TriedHas (Below k) (custom_success r s e)
+  custom_success_below : (r : Option (ℕ × ℕ × ℕ)) → TriedHas (Below k) (custom_success r s e)
   unfolding custom_success success
-  custom_success_below (occurs.At n len p) = other false refl
-  custom_success_below occurs.Nothing = tt
+  custom_success_below (Some (n, len, p)) = other false refl
+  custom_success_below None = tt
 
-  line_success_below : (l : Fixed) (r : Found) → TriedHas (Below k) (line_success s e l r)
+  line_success_below : (l : Fixed) (r : Option ℕ) → TriedHas (Below k) (line_success s e l r)
   unfolding line_success success
-  line_success_below l (At p) = other false refl
-  line_success_below l Nothing = tt
+  line_success_below l (Some p) = other false refl
+  line_success_below l None = tt
 
-  connected_below : (p : ℕ) (r : Found) → TriedHas (Below k) (connected s e p r)
+  connected_below : (p : ℕ) (r : Option ℕ) → TriedHas (Below k) (connected s e p r)
   unfolding connected
-  connected_below p (At end) = other false refl
-  connected_below p Nothing = tt
+  connected_below p (Some end) = other false refl
+  connected_below p None = tt
 
-  connect_below : (d : Digester) (r : Found) → TriedHas (Below k) (connect_success d s e r)
+  connect_below : (d : Digester) (r : Option ℕ) → TriedHas (Below k) (connect_success d s e r)
   unfolding connect_success
-  connect_below d (At p) = connected_below p (connect_at d s p)
-  connect_below d Nothing = tt
+  connect_below d (Some p) = connected_below p (connect_at d s p)
+  connect_below d None = tt
 
   prompt_below : (b : Bool) (c : ℕ) → TriedHas (Below k) (prompt_tried b c s)
   unfolding prompt_tried
@@ -93,20 +85,20 @@ module _ (k : ℕ) (s : List ℕ) (e : ℕ) where
   custom_prompts_below [] = tt
   custom_prompts_below (x ∷ l) = either_has (Below k) (prompt_tried (custom_prompt x.text s e) x.prompt s) (custom_prompts l s e) (prompt_below (custom_prompt x.text s e) x.prompt) (custom_prompts_below l)
 
-  custom_error_below : (r : Occurs) → TriedHas (Below k) (custom_error r)
+  custom_error_below : (r : Option (ℕ × ℕ × ℕ)) → TriedHas (Below k) (custom_error r)
   unfolding custom_error
-  custom_error_below (occurs.At n len p) = other false refl
-  custom_error_below occurs.Nothing = tt
+  custom_error_below (Some (n, len, p)) = other false refl
+  custom_error_below None = tt
 
-  numeric_below : (h : Fixed) (r : Numeric) → TriedHas (Below k) (numeric_tried h r)
+  numeric_below : (h : Fixed) (r : Option Digits) → TriedHas (Below k) (numeric_tried h r)
   unfolding numeric_tried
-  numeric_below h (numeric.Is d) = other (is_notice (kind_of h)) (kind_other h)
-  numeric_below h numeric.Nothing = tt
+  numeric_below h (Some d) = other (is_notice (kind_of h)) (kind_other h)
+  numeric_below h None = tt
 
-  line_below : (l : Fixed) (r : Found) → TriedHas (Below k) (line_tried l r)
+  line_below : (l : Fixed) (r : Option ℕ) → TriedHas (Below k) (line_tried l r)
   unfolding line_tried
-  line_below l (At p) = other (is_notice (kind_of l)) (kind_other l)
-  line_below l Nothing = tt
+  line_below l (Some p) = other (is_notice (kind_of l)) (kind_other l)
+  line_below l None = tt
 
   na_below : TriedHas (Below k) (not_allowed s e)
   unfolding not_allowed
@@ -135,10 +127,10 @@ again_below : (k e : ℕ) (r : Answer) → Below k r → Below k (again e r)
 unfolding again shift
 again_below k e r h = ways (Below k) (is_found r) (λ q. h) (λ q. other false refl)
 
-after_below : (k : ℕ) (s : List ℕ) (f : List ℕ → Answer) (e : ℕ) (t : Tried) → TriedHas (Below k) t → (retries s e ≡ true → Below k (f (drop (e + 2) s))) → Below k (after s f e t)
+after_below : (k : ℕ) (s : List ℕ) (f : List ℕ → Answer) (e : ℕ) (t : Option Answer) → TriedHas (Below k) t → (retries s e ≡ true → Below k (f (drop (e + 2) s))) → Below k (after s f e t)
 unfolding after
-after_below k s f e (tries.Done a) w g = w
-after_below k s f e tries.Next w g = ways (Below k) (retries s e) (λ q. again_below k e (f (drop (e + 2) s)) (g q)) (λ q. other false refl)
+after_below k s f e (Some a) w g = w
+after_below k s f e None w g = ways (Below k) (retries s e) (λ q. again_below k e (f (drop (e + 2) s)) (g q)) (λ q. other false refl)
 
 pub digest_below : (k : ℕ) (d : Digester) (ts : List Token) → NumbersBelow k (of_mark mark.Notice 0 ts) → (s : List ℕ) → Below k (digest_in d ts s)
 digest_below k d ts w = by_length (λ s. Below k (digest_in d ts s)) one

@@ -1,6 +1,6 @@
 -- What stands at a place, by position: each form of `Finished` is what the parser's definition computes, both ways.
 -- It is enough to look at place 0, since the parser's definitions don't see what stands before the place (parser's `Moved`).
-use Rattle.std.specs.Prelude.{◌≡◌, Bool, ◌&&◌, ℕ, zero, suc, ◌+◌, ◌*◌, ◌-◌, ◌≤◌, ◌<◌, get_or, take, drop, leb, if◌then◌else◌}
+use Rattle.std.specs.Prelude.{Option, Some, None, ◌≡◌, Bool, ◌&&◌, ℕ, zero, suc, ◌+◌, ◌*◌, ◌-◌, ◌≤◌, ◌<◌, get_or, take, drop, leb, if◌then◌else◌}
 use Rattle.std.proofs.Math.Path.{refl, sym, ap}
 use Rattle.std.proofs.Common.{◌∙◌, length-append, length-drop}
 use Rattle.std.proofs.Math.Bool.{true, false}
@@ -14,17 +14,12 @@ use Rattle.text.specs.Logic.{false_true, not_true_false, and_both}
 use Rattle.text.specs.Text.{among, blanks, is_blank, lead, past, keep, stands, find_in}
 use Rattle.text.specs.Laws.{found_at, find_is, stands_append, stands_fits, stands_byte, stands_get_d, begins_fits, past_passes, past_is, past_bounds, keep_passes, keep_is}
 use Rattle.text.specs.declared.Blanks.TheVariants as blanks
-use Rattle.text.specs.declared.Found.{Found}
-use Rattle.text.specs.declared.Found.TheVariants.{At, Nothing}
 use Rattle.table.specs.Table.{is_text}
 use Rattle.table.specs.Laws.{text_some, text_end}
 use Rattle.lines.specs.Lines.{crlf}
 use Rattle.parser.specs.Parser.{only_blanks, prompt_from, custom_prompt, is_digit, value, run_at, ended_run, tail_at, numeric_at, line_ending, breaks_off, through, notice_text, notice_at}
 use Rattle.parser.specs.Laws.{text_broken, text_bare, text_through, notice_none, notice_is, digit_bounds, ending_fits}
 use Rattle.parser.specs.declared.Digits.{Digits}
-use Rattle.parser.specs.declared.Run.TheVariants.{Value, TooLarge}
-use Rattle.parser.specs.declared.Numeric.{Numeric}
-use Rattle.parser.specs.declared.Numeric.TheVariants as numeric
 use Rattle.parser.specs.declared.Notice.{Notice}
 use Rattle.parser.specs.declared.Notice.TheVariants as notice
 use Rattle.digest.specs.Finished.{NoticeEnd, crlf_end, colon, NoticeEnded, Unfinished, NumericEnded, FirstAlone, EndsIn}
@@ -47,9 +42,9 @@ module _ (x u : List ℕ) where
       sym (text_bare x u k (not_broken k (omega arith)) h c) ∙ ap notice.Ended (sym e)
   end_is k n h (colon c q g w z e) =
       let f = stands_fits crlf u q (omega arith) w in
-      let r = find_is crlf u (k + length x + 1) (At q) (record { after = g; here = w; first = z }) in
+      let r = find_is crlf u (k + length x + 1) (Some q) (record { after = g; here = w; first = z }) in
       let v : stands crlf u (k + length x) ≡ false = not_true_false (stands crlf u (k + length x)) (λ m. omega (arith, (stands_byte 13 (10 ∷ []) u (k + length x) m).1.0, (stands_byte 58 [] u (k + length x) c).1.0)) in
-      sym (text_through x u k (not_broken k (omega arith)) h v c (At q) (sym r) q refl) ∙ ap notice.Ended (sym e)
+      sym (text_through x u k (not_broken k (omega arith)) h v c (Some q) (sym r) q refl) ∙ ap notice.Ended (sym e)
 
   pub ended_is : (n : ℕ) → NoticeEnded x u n → notice_at x u 0 ≡ notice.Ended n
   ended_is n w = sym (at_front w.opened) ∙ end_is (line_ending u 0) n w.text w.ended
@@ -64,12 +59,12 @@ module _ (x u : List ℕ) where
   Told notice.Nothing = Unit {0}
 
   module _ (h : 0 < line_ending u 0) where
-    told_colon : stands x u (line_ending u 0) ≡ true → stands (bytes ":") u (line_ending u 0 + length x) ≡ true → (r : Found) → find_in crlf u (line_ending u 0 + length x + 1) ≡ r → Told (through r)
+    told_colon : stands x u (line_ending u 0) ≡ true → stands (bytes ":") u (line_ending u 0 + length x) ≡ true → (r : Option ℕ) → find_in crlf u (line_ending u 0 + length x + 1) ≡ r → Told (through r)
     unfolding through
-    told_colon a c (At q) e =
+    told_colon a c (Some q) e =
         let w = found_at crlf u (line_ending u 0 + length x + 1) q e in
         record { opened = h; text = a; ended = colon c q w.after w.here w.first refl }
-    told_colon a c Nothing e = tt
+    told_colon a c None e = tt
 
     told_behind : (a b c : Bool) → stands x u (line_ending u 0) ≡ a → stands crlf u (line_ending u 0 + length x) ≡ b → stands (bytes ":") u (line_ending u 0 + length x) ≡ c → Told (if a && b then notice.Ended (line_ending u 0 + length x + 2) else if a && c then through (find_in crlf u (line_ending u 0 + length x + 1)) else notice.Nothing)
     told_behind true true c e f g = record { opened = h; text = e; ended = crlf_end f refl }
@@ -103,7 +98,7 @@ module _ (c : ℕ) (u : List ℕ) where
   pub alone_is : FirstAlone c u → prompt_from c u 0 ≡ true
   unfolding prompt_from only_blanks
   alone_is w =
-      let f : find_in (c ∷ []) u 0 ≡ At w.q = find_is (c ∷ []) u 0 (At w.q) (record { after = omega arith; here = w.here; first = w.first }) in
+      let f : find_in (c ∷ []) u 0 ≡ Some w.q = find_is (c ∷ []) u 0 (Some w.q) (record { after = omega arith; here = w.here; first = w.first }) in
       let g = stands_fits (c ∷ []) u w.q (omega arith) w.here in
       let e : past (is_blank blanks.Run) u (w.q + 1) ≡ length u = past_is (is_blank blanks.Run) u (w.q + 1) (length u) g (omega arith) w.after (λ h. absurd (omega arith)) in
       rw (f, e) (le-leb (length u) (length u) (omega arith))
@@ -112,13 +107,13 @@ module _ (c : ℕ) (u : List ℕ) where
   unfolding prompt_from
   alone_told h = go (find_in (c ∷ []) u 0) refl h
     where
-      go : (r : Found) → find_in (c ∷ []) u 0 ≡ r → only_blanks u r ≡ true → FirstAlone c u
-      go (At q) e k =
+      go : (r : Option ℕ) → find_in (c ∷ []) u 0 ≡ r → only_blanks u r ≡ true → FirstAlone c u
+      go (Some q) e k =
           let w = found_at (c ∷ []) u 0 q e in
           let g = stands_fits (c ∷ []) u q (omega arith) w.here in
           let l : length u ≤ past (is_blank blanks.Run) u (q + 1) = leb-true (length u) (past (is_blank blanks.Run) u (q + 1)) (unfold only_blanks in k) in
           record { q = q; here = w.here; first = w.first; after = λ j a b. past_passes (is_blank blanks.Run) u (q + 1) j a (omega arith) }
-      go Nothing e k = absurd (false_true k (unfold only_blanks in refl))
+      go None e k = absurd (false_true k (unfold only_blanks in refl))
 
 -- custom prompts; a good text doesn't end in a blank
 module _ (x u : List ℕ) where
@@ -179,7 +174,7 @@ digit_blank b e =
     rw (ne_eqb b 32 (λ q. omega arith), ne_eqb b 9 (λ q. omega arith), ne_eqb b 13 (λ q. omega arith), ne_eqb b 10 (λ q. omega arith))
 
 module _ (h u : List ℕ) where
-  pub numeric_is : (n : ℕ) (w : NumericEnded h u n) → numeric_at h u 0 ≡ numeric.Is (record { code = value 0 (drop w.a u); start = w.a; stop = w.b; end = n })
+  pub numeric_is : (n : ℕ) (w : NumericEnded h u n) → numeric_at h u 0 ≡ Some (record { code = value 0 (drop w.a u); start = w.a; stop = w.b; end = n })
   unfolding numeric_at tail_at ended_run run_at
   numeric_is n w =
       let f = ending_fits u w.b w.ended.0 in
@@ -188,7 +183,7 @@ module _ (h u : List ℕ) where
       let q : past is_digit u w.a ≡ w.b = past_is is_digit u w.a w.b (omega (arith, w.digits.0)) (omega arith) w.digits.1 (λ r. ending_byte u w.b w.ended.0) in
       let v : value 0 (drop w.a u) ≤ 65535 = rw (value_part u w.a w.b q) w.small in
       rw (w.head, g, p, q, le-leb (value 0 (drop w.a u)) 65535 v, lt-ltb w.a w.b w.digits.0, lt-ltb 0 (line_ending u w.b) w.ended.0)
-      (ap numeric.Is (λ i. record { code = value 0 (drop w.a u); start = w.a; stop = w.b; end = sym w.ended.1 i }))
+      (ap Some (λ i. record { code = value 0 (drop w.a u); start = w.a; stop = w.b; end = sym w.ended.1 i }))
 
   -- a numeric error that was read, and its digits
   pub record NumericRead (d : Digits) : Type 0 where
@@ -197,15 +192,15 @@ module _ (h u : List ℕ) where
     pub stop : (numeric).b ≡ d.stop
     pub code : d.code ≡ value 0 (take (d.stop - d.start) (drop d.start u))
 
-  abbrev ToldNumeric : Numeric → Type 0
-  ToldNumeric (numeric.Is d) = NumericRead d
-  ToldNumeric numeric.Nothing = Unit {0}
+  abbrev ToldNumeric : Option Digits → Type 0
+  ToldNumeric (Some d) = NumericRead d
+  ToldNumeric None = Unit {0}
 
-  told_run : (a : ℕ) → stands h u 0 ≡ true → a ≡ past (is_blank blanks.Run) u (0 + length h) → (c : Bool) → leb (value 0 (drop a u)) 65535 ≡ c → ToldNumeric (ended_run u a (if c then Value (value 0 (drop a u)) (past is_digit u a) else TooLarge))
+  told_run : (a : ℕ) → stands h u 0 ≡ true → a ≡ past (is_blank blanks.Run) u (0 + length h) → (c : Bool) → leb (value 0 (drop a u)) 65535 ≡ c → ToldNumeric (ended_run u a (if c then Some ((value 0 (drop a u)), (past is_digit u a)) else None))
   unfolding ended_run
   told_run a e f true g = go (ltb a (past is_digit u a)) refl (ltb 0 (line_ending u (past is_digit u a))) refl
     where
-      go : (x : Bool) → ltb a (past is_digit u a) ≡ x → (y : Bool) → ltb 0 (line_ending u (past is_digit u a)) ≡ y → ToldNumeric (if x && y then numeric.Is (record { code = value 0 (drop a u); start = a; stop = past is_digit u a; end = past is_digit u a + line_ending u (past is_digit u a) }) else numeric.Nothing)
+      go : (x : Bool) → ltb a (past is_digit u a) ≡ x → (y : Bool) → ltb 0 (line_ending u (past is_digit u a)) ≡ y → ToldNumeric (if x && y then Some (record { code = value 0 (drop a u); start = a; stop = past is_digit u a; end = past is_digit u a + line_ending u (past is_digit u a) }) else None)
       go true k true l =
           record {
             numeric = record {
@@ -225,11 +220,11 @@ module _ (h u : List ℕ) where
       go false k y l = tt
   told_run a e f false g = tt
 
-  told_head : (b : Bool) → stands h u 0 ≡ b → ToldNumeric (if b then tail_at u (0 + length h) else numeric.Nothing)
+  told_head : (b : Bool) → stands h u 0 ≡ b → ToldNumeric (if b then tail_at u (0 + length h) else None)
   unfolding tail_at run_at
   told_head true e = let a = past (is_blank blanks.Run) u (0 + length h) in told_run a e refl (leb (value 0 (drop a u)) 65535) refl
   told_head false e = tt
 
-  pub numeric_told : (d : Digits) → numeric_at h u 0 ≡ numeric.Is d → NumericRead d
+  pub numeric_told : (d : Digits) → numeric_at h u 0 ≡ Some d → NumericRead d
   unfolding numeric_at
   numeric_told d e = rw e at (told_head (stands h u 0) refl)

@@ -1,13 +1,11 @@
 -- After None the rest gives None with 0 (`none_rest`): rule 1 on what it left skips nothing more, and no line start there holds a finished item.
-use Rattle.std.specs.Prelude.{◌≡◌, refl, true, false, List, ℕ, ◌+◌, ◌-◌, ◌≤◌, ◌<◌, length, get_or, drop}
+use Rattle.std.specs.Prelude.{Option, Some, None, ◌≡◌, refl, true, false, List, ℕ, ◌+◌, ◌-◌, ◌≤◌, ◌<◌, length, get_or, drop}
 use Rattle.std.proofs.Common.{sym, ap, ◌∙◌, ⊎_elim, arith, length-drop, drop-drop, get_or-drop}
 use Rattle.text.specs.Logic.{false_true, not_true_false, order}
 use Rattle.text.specs.Text.{is_blank, stands, find_in}
 use Rattle.text.specs.Steps.{past_end, past_stop}
 use Rattle.text.specs.Laws.{found_at, found_none, stands_drop, past_passes, past_stops}
 use Rattle.text.specs.declared.Blanks.TheVariants as sets
-use Rattle.text.specs.declared.Found.{Found}
-use Rattle.text.specs.declared.Found.TheVariants.{At, Nothing}
 use Rattle.table.specs.Table.{Token}
 use Rattle.table.specs.Laws.{Texts}
 use Rattle.lines.specs.Lines.{crlf}
@@ -61,12 +59,12 @@ module _ (s : List ℕ) where
   skipped_again : skipped (drop (skipped s) s) ≡ 0
   skipped_again = go (find_in crlf (drop (skipped s) s) 0) refl
     where
-      go : (r : Found) → find_in crlf (drop (skipped s) s) 0 ≡ r → skipped (drop (skipped s) s) ≡ 0
-      go (At k) q =
+      go : (r : Option ℕ) → find_in crlf (drop (skipped s) s) 0 ≡ r → skipped (drop (skipped s) s) ≡ 0
+      go (Some k) q =
           let w = found_at crlf (drop (skipped s) s) 0 k q in
           let g : stands crlf s (skipped s + k) ≡ true = sym (stands_drop crlf s (skipped s) k) ∙ w.here in
           skipped_crlf (sym (stands_here crlf s (skipped s)) ∙ (first_crlf s (skipped s + k) g).1)
-      go Nothing q = skipped_bare (λ j. found_none crlf (drop (skipped s) s) 0 q j (omega arith))
+      go None q = skipped_bare (λ j. found_none crlf (drop (skipped s) s) 0 q j (omega arith))
 
 -- After None with e, the rest gives None with 0.
 pub none_rest : (d : Digester) (ts : List Token) → Texts ts → (s : List ℕ) → is_found (digest_in d ts s) ≡ false → digest_in d ts (drop (skipped s) s) ≡ nothing 0

@@ -1,6 +1,6 @@
 -- Each rule answers an item: it stands where buf begins or at a CRLF, and ends at the consumed count; a numeric error's digits and a CONNECT line's text are told (`tried_sound`).
 use Rattle.std.proofs.Math.Path.{◌≡◌, refl, sym, ap}
-use Rattle.std.proofs.Common.{◌∙◌, drop-drop, get_or-drop, lt-ltb, ltb-true}
+use Rattle.std.proofs.Common.{Option, Some, None, ◌∙◌, drop-drop, get_or-drop, lt-ltb, ltb-true}
 use Rattle.std.specs.Prelude.{◌⊎◌, Bool, ℕ, ◌+◌, ◌-◌, ◌≤◌, ◌<◌, take, if◌then◌else◌}
 use Rattle.std.proofs.Math.Logic.{inl, inr, ⊎_elim}
 use Rattle.std.proofs.Math.Bool.{true, false}
@@ -11,8 +11,6 @@ use Rattle.text.specs.Logic.{false_true, not_true_false, order}
 use Rattle.text.specs.Text.{trimmed_part, stands, find_in}
 use Rattle.text.specs.Bytes.{bytes}
 use Rattle.text.specs.Laws.{FoundAt, found_at, stands_drop, stands_front, stands_fits, stands_get_d}
-use Rattle.text.specs.declared.Found.{Found}
-use Rattle.text.specs.declared.Found.TheVariants.{At, Nothing}
 use Rattle.table.specs.Table.{Token, Entry, of_mark}
 use Rattle.table.specs.Laws.{Texts, mark_texts}
 use Rattle.table.specs.declared.Mark.TheVariants as mark
@@ -23,23 +21,17 @@ use Rattle.lines.specs.declared.Digester.{Digester}
 use Rattle.lines.specs.declared.Fixed.{Fixed}
 use Rattle.lines.specs.declared.Fixed.TheVariants as fixed
 use Rattle.parser.specs.declared.Digits.{Digits}
-use Rattle.parser.specs.declared.Numeric.{Numeric}
-use Rattle.parser.specs.declared.Numeric.TheVariants as numeric
 use Rattle.parser.specs.declared.Notice.{Notice}
 use Rattle.parser.specs.declared.Notice.TheVariants as notice
 use Rattle.answers.specs.declared.Kind.TheVariants as kind
 use Rattle.answers.specs.declared.Answer.{Answer}
-use Rattle.items.specs.declared.Occurs.{Occurs}
-use Rattle.items.specs.declared.Occurs.TheVariants as occurs
-use Rattle.items.specs.declared.Tried.{Tried}
-use Rattle.items.specs.declared.Tried.TheVariants as tries
 use Rattle.answers.specs.Answer.{has_number, stored, kind_found, is_found, is_numeric, placed, bare, nothing, with_number, with_digits, with_payload, with_text}
 use Rattle.answers.specs.Laws.{numbered_some, placed_some}
 use Rattle.items.specs.Rules.{or_else, first_of, heard, notices, occurs_or, first_custom, kind_of, success, custom_success, line_success, connect_at, first_connect, connected, connect_success, successes, prompt_tried, custom_prompts, prompts, custom_error, heads, numeric_tried, numeric_errors, error_lines, line_tried, line_errors, not_allowed, errors, tried}
 use Rattle.items.specs.Connect.{TextAt, connect_told}
 use Rattle.items.specs.Laws.{next_both, done_next, wrapped_length}
 use Rattle.parser.specs.Moved.{ending_moved, shift_notice, notice_moved, prompt_moved, custom_moved, shift_numeric, numeric_moved}
-use Rattle.digest.specs.Finished.{Some, NoticeEnded, Unfinished, NumericEnded, FirstAlone, EndsIn, nine, Line, Item}
+use Rattle.digest.specs.Finished.{AnyOf, NoticeEnded, Unfinished, NumericEnded, FirstAlone, EndsIn, nine, Line, Item}
 use Rattle.digest.specs.Finished as items
 use Rattle.digest.specs.Position.{ended_is, unfinished_is, ended_told, unfinished_told, alone_told, ends_told, digit_blank, NumericRead, numeric_told}
 use Rattle.digest.specs.Heard.{DigitRun, DigitsOf, TextOf}
@@ -61,44 +53,44 @@ module _ (s : List ℕ) (d : ℕ) where
         ended = (omega (arith, l, w.ended.0), omega (arith, l, w.ended.1));
       }
 
-  pub digits_on : (r a : Answer) → DigitsOf (drop d s) r → a.kind ≡ r.kind → a.number ≡ r.number → a.digits_len ≡ r.digits_len → (0 < r.digits_len → a.digits_place ≡ d + r.digits_place) → a.consumed ≡ d + r.consumed → DigitsOf s a
+  pub digits_on : (r a : Answer) → DigitsOf (drop d s) r → a.kind ≡ r.kind → a.number ≡ r.number → a.digits.len ≡ r.digits.len → (0 < r.digits.len → a.digits.start ≡ d + r.digits.start) → a.consumed ≡ d + r.consumed → DigitsOf s a
   digits_on r a w k n l p c =
       record {
         some = rw (k, l) w.some;
-        run = λ h. let q = p (digits_some r w (ap is_numeric (sym k) ∙ h)) in rw (q, l, c) (run_on r.digits_place r.digits_len r.consumed (w.run (ap is_numeric (sym k) ∙ h)));
+        run = λ h. let q = p (digits_some r w (ap is_numeric (sym k) ∙ h)) in rw (q, l, c) (run_on r.digits.start r.digits.len r.consumed (w.run (ap is_numeric (sym k) ∙ h)));
         code =
             λ h g.
             let q = p (digits_some r w (ap is_numeric (sym k) ∙ h)) in
-            rw (n, q, l) (w.code (ap is_numeric (sym k) ∙ h) (ap has_number (sym k) ∙ g) ∙ ap (λ (x : List ℕ). value 0 (take r.digits_len x)) (drop-drop r.digits_place d s));
+            rw (n, q, l) (w.code (ap is_numeric (sym k) ∙ h) (ap has_number (sym k) ∙ g) ∙ ap (λ (x : List ℕ). value 0 (take r.digits.len x)) (drop-drop r.digits.start d s));
       }
     where
-      digits_some : (x : Answer) → DigitsOf (drop d s) x → is_numeric x.kind ≡ true → 0 < x.digits_len
-      digits_some x v h = ltb-true 0 x.digits_len (sym v.some ∙ h)
+      digits_some : (x : Answer) → DigitsOf (drop d s) x → is_numeric x.kind ≡ true → 0 < x.digits.len
+      digits_some x v h = ltb-true 0 x.digits.len (sym v.some ∙ h)
 
 -- The text, seen from m bytes further to the front (R-3).
-pub text_on : (d : Digester) (s : List ℕ) (m : ℕ) (r a : Answer) → TextOf d (drop m s) r → a.kind ≡ r.kind → a.text_len ≡ r.text_len → a.text_place ≡ m + r.text_place → a.consumed ≡ m + r.consumed → TextOf d s a
+pub text_on : (d : Digester) (s : List ℕ) (m : ℕ) (r a : Answer) → TextOf d (drop m s) r → a.kind ≡ r.kind → a.text.len ≡ r.text.len → a.text.start ≡ m + r.text.start → a.consumed ≡ m + r.consumed → TextOf d s a
 text_on d s m r a w k l p c =
-    let h : m + (r.text_place - 10) ≡ a.text_place - 10 = omega (arith, p, w.head.0) in
-    let o : m + (r.text_place + r.text_len) ≡ a.text_place + a.text_len = omega (arith, p, l) in
+    let h : m + (r.text.start - 10) ≡ a.text.start - 10 = omega (arith, p, w.head.0) in
+    let o : m + (r.text.start + r.text.len) ≡ a.text.start + a.text.len = omega (arith, p, l) in
     record {
       hears = w.hears;
       ok = k ∙ w.ok;
-      head = (omega (arith, p, w.head.0), ap (stands (fixed_text fixed.ConnectText) s) (sym h) ∙ sym (stands_drop (fixed_text fixed.ConnectText) s m (r.text_place - 10)) ∙ w.head.1);
+      head = (omega (arith, p, w.head.0), ap (stands (fixed_text fixed.ConnectText) s) (sym h) ∙ sym (stands_drop (fixed_text fixed.ConnectText) s m (r.text.start - 10)) ∙ w.head.1);
       inside =
           λ j g f.
           let i : m + (j - m) ≡ j = omega (arith, p) in
           ap (stands crlf s) (sym i) ∙ sym (stands_drop crlf s m (j - m)) ∙ w.inside (j - m) (omega (arith, p)) (omega (arith, p, l));
-      ended = (ap (stands crlf s) (sym o) ∙ sym (stands_drop crlf s m (r.text_place + r.text_len)) ∙ w.ended.0, omega (arith, o, c, w.ended.1, w.head.0));
+      ended = (ap (stands crlf s) (sym o) ∙ sym (stands_drop crlf s m (r.text.start + r.text.len)) ∙ w.ended.0, omega (arith, o, c, w.ended.1, w.head.0));
     }
 
 -- a kind that is found and has no digits, and an answer with neither digits nor text
 abbrev Plain : Answer → Type 0
-Plain a = (is_found a ≡ true) × ((is_numeric a.kind ≡ false) × ((a.digits_len ≡ 0) × (a.text_len ≡ 0)))
+Plain a = (is_found a ≡ true) × ((is_numeric a.kind ≡ false) × ((a.digits.len ≡ 0) × (a.text.len ≡ 0)))
 
-no_digits : (s : List ℕ) (a : Answer) → is_numeric a.kind ≡ false → a.digits_len ≡ 0 → DigitsOf s a
+no_digits : (s : List ℕ) (a : Answer) → is_numeric a.kind ≡ false → a.digits.len ≡ 0 → DigitsOf s a
 no_digits s a h l = record { some = rw (h, l); run = λ g. absurd (false_true g h); code = λ g n. absurd (false_true g h) }
 
-no_text_lem : (d : Digester) (s : List ℕ) (a : Answer) → a.text_len ≡ 0 → 0 < a.text_len → TextOf d s a
+no_text_lem : (d : Digester) (s : List ℕ) (a : Answer) → a.text.len ≡ 0 → 0 < a.text.len → TextOf d s a
 no_text_lem d s a l h = absurd (omega (arith, l, h))
 
 -- What a rule's answer tells: an item was found at p, either where buf begins or at a CRLF; or a notice is unfinished where buf begins.
@@ -110,11 +102,11 @@ pub record Hit (d : Digester) (ts : List Token) (s : List ℕ) (e : ℕ) (a : An
   pub ends : p + n ≡ a.consumed
   pub found : is_found a ≡ true
   pub digits : DigitsOf s a
-  pub text : 0 < a.text_len → TextOf d s a
-  pub finished : Some (λ x. Unfinished x.text (drop p s)) (of_mark mark.Notice 0 ts) → ⊥
+  pub text : 0 < a.text.len → TextOf d s a
+  pub finished : AnyOf (λ x. Unfinished x.text (drop p s)) (of_mark mark.Notice 0 ts) → ⊥
 
 abbrev pub Broken : List Token → List ℕ → ℕ → Type 0
-Broken ts s e = Some (λ x. Unfinished x.text (drop e s)) (of_mark mark.Notice 0 ts)
+Broken ts s e = AnyOf (λ x. Unfinished x.text (drop e s)) (of_mark mark.Notice 0 ts)
 
 abbrev pub Sound : Digester → List Token → List ℕ → ℕ → Answer → Type 0
 Sound d ts s e a = Hit d ts s e a ⊎ ((a ≡ nothing e) × Broken ts s e)
@@ -136,10 +128,10 @@ kind_found_lem fixed.Modem = refl
 kind_found_lem fixed.ConnectText = refl
 
 -- whichever text of a list answered, it did so by itself
-first_some : (f : Fixed → Tried) (ls : List Fixed) (a : Answer) → first_of f ls ≡ tries.Done a → Some (λ l. f l ≡ tries.Done a) ls
+first_some : (f : Fixed → Option Answer) (ls : List Fixed) (a : Answer) → first_of f ls ≡ Some a → AnyOf (λ l. f l ≡ Some a) ls
 unfolding first_of
 first_some f [] a h = absurd (done_next a h refl)
-first_some f (l ∷ ls) a h = ⊎_elim (λ (q : f l ≡ tries.Done a). inl q) (λ (q : (f l ≡ tries.Next) × (first_of f ls ≡ tries.Done a)). inr (first_some f ls a q.1)) (done_one (f l) (first_of f ls) a h)
+first_some f (l ∷ ls) a h = ⊎_elim (λ (q : f l ≡ Some a). inl q) (λ (q : (f l ≡ None) × (first_of f ls ≡ Some a)). inr (first_some f ls a q.1)) (done_one (f l) (first_of f ls) a h)
 
 -- a fixed line stands where it was found, and the answer ends there
 record LineAt (s : List ℕ) (a : Answer) (l : Fixed) : Type 0 where
@@ -174,32 +166,32 @@ module _ (d : Digester) (ts : List Token) (good : Texts ts) (s : List ℕ) (e : 
   Lasts [] = Unit {0}
   Lasts (l ∷ ls) = (Last (fixed_text l) × (is_numeric (kind_of l) ≡ false)) × Lasts ls
 
-  lines_hit : (ls : List Fixed) → Lasts ls → ((u : List ℕ) (n : ℕ) → Some (λ l. Line (fixed_text l) u n) ls → Some (λ l. Line (fixed_text l) u n) nine) → (a : Answer) → Some (LineAt s a) ls → Hit d ts s e a
+  lines_hit : (ls : List Fixed) → Lasts ls → ((u : List ℕ) (n : ℕ) → AnyOf (λ l. Line (fixed_text l) u n) ls → AnyOf (λ l. Line (fixed_text l) u n) nine) → (a : Answer) → AnyOf (LineAt s a) ls → Hit d ts s e a
   lines_hit [] z i a h = absurd h
   lines_hit (l ∷ ls) z i a (inl h) =
       let t = fixed_text l in
       line_hit t (opens l) z.0.0 h.k h.here (length t) refl (items.line (i (drop h.k s) (length t) (inl (sym (stands_here t s h.k) ∙ h.here, refl)))) a h.ends (h.plain z.0.1)
   lines_hit (l ∷ ls) z i a (inr h) = lines_hit ls z.1 (λ u n v. i u n (inr v)) a h
 
-  success_at : (a : Answer) (l : Fixed) (r : Found) → find_in (fixed_text l) s e ≡ r → line_success s e l r ≡ tries.Done a → LineAt s a l
+  success_at : (a : Answer) (l : Fixed) (r : Option ℕ) → find_in (fixed_text l) s e ≡ r → line_success s e l r ≡ Some a → LineAt s a l
   unfolding line_success success
-  success_at a l (At k) q h =
+  success_at a l (Some k) q h =
       let z : with_payload kind.Ok 0 (trimmed_part s e k) (k + length (fixed_text l)) ≡ a = cc in
       record { k = k; here = (found_at (fixed_text l) s e k q).here; ends = ap (λ (x : Answer). x.consumed) (sym z); plain = λ n. rw (sym z) (refl, (refl, (refl, refl))) }
-  success_at a l Nothing q h = absurd (done_next a h refl)
+  success_at a l None q h = absurd (done_next a h refl)
 
-  line_at : (a : Answer) (l : Fixed) (r : Found) → find_in (fixed_text l) s e ≡ r → line_tried l r ≡ tries.Done a → LineAt s a l
+  line_at : (a : Answer) (l : Fixed) (r : Option ℕ) → find_in (fixed_text l) s e ≡ r → line_tried l r ≡ Some a → LineAt s a l
   unfolding line_tried
-  line_at a l (At k) q h =
+  line_at a l (Some k) q h =
       let z : bare (kind_of l) (k + length (fixed_text l)) ≡ a = cc in
       record { k = k; here = (found_at (fixed_text l) s e k q).here; ends = ap (λ (x : Answer). x.consumed) (sym z); plain = λ n. rw (sym z) (kind_found_lem l, (n, (refl, refl))) }
-  line_at a l Nothing q h = absurd (done_next a h refl)
+  line_at a l None q h = absurd (done_next a h refl)
 
-  na_at : (a : Answer) → not_allowed s e ≡ tries.Done a → LineAt s a fixed.Na
+  na_at : (a : Answer) → not_allowed s e ≡ Some a → LineAt s a fixed.Na
   unfolding not_allowed
   na_at a h = go (stands (fixed_text fixed.Na) s e) refl h
     where
-      go : (b : Bool) → stands (fixed_text fixed.Na) s e ≡ b → (if b then tries.Done (bare kind.NotAllowed (e + 6)) else tries.Next) ≡ tries.Done a → LineAt s a fixed.Na
+      go : (b : Bool) → stands (fixed_text fixed.Na) s e ≡ b → (if b then Some (bare kind.NotAllowed (e + 6)) else None) ≡ Some a → LineAt s a fixed.Na
       go true q g = let z : bare kind.NotAllowed (e + 6) ≡ a = cc in record { k = e; here = q; ends = ap (λ (x : Answer). x.consumed) (sym z); plain = λ n. rw (sym z) (refl, (refl, (refl, refl))) }
       go false q g = absurd (done_next a g refl)
 
@@ -207,37 +199,37 @@ module _ (d : Digester) (ts : List Token) (good : Texts ts) (s : List ℕ) (e : 
   abbrev CustomAt : ℕ → ℕ → Entry → Type 0
   CustomAt len k x = (stands (wrapped x.text) s k ≡ true) × (len ≡ length x.text)
 
-  custom_at : (x : Entry) (l : List Entry) (f : Found) → find_in (wrapped x.text) s e ≡ f → (r : Occurs) → ((n len k : ℕ) → r ≡ occurs.At n len k → Some (CustomAt len k) l) → (n len k : ℕ) → occurs_or f x r ≡ occurs.At n len k → Some (CustomAt len k) (x ∷ l)
+  custom_at : (x : Entry) (l : List Entry) (f : Option ℕ) → find_in (wrapped x.text) s e ≡ f → (r : Option (ℕ × ℕ × ℕ)) → ((n len k : ℕ) → r ≡ Some (n, len, k) → AnyOf (CustomAt len k) l) → (n len k : ℕ) → occurs_or f x r ≡ Some (n, len, k) → AnyOf (CustomAt len k) (x ∷ l)
   unfolding occurs_or
-  custom_at x l (At j) q r ih n len k h =
+  custom_at x l (Some j) q r ih n len k h =
       let a : j ≡ k = cc in
       let b : length x.text ≡ len = cc in
       inl (ap (stands (wrapped x.text) s) (sym a) ∙ (found_at (wrapped x.text) s e j q).here, sym b)
-  custom_at x l Nothing q r ih n len k h = inr (ih n len k h)
+  custom_at x l None q r ih n len k h = inr (ih n len k h)
 
-  custom_some : (l : List Entry) (n len k : ℕ) → first_custom l s e ≡ occurs.At n len k → Some (CustomAt len k) l
+  custom_some : (l : List Entry) (n len k : ℕ) → first_custom l s e ≡ Some (n, len, k) → AnyOf (CustomAt len k) l
   unfolding first_custom
   custom_some [] n len k h = let z : ◌≡◌ {A = ℕ} 0 1 = cc in absurd (omega arith)
   custom_some (x ∷ l) n len k h = custom_at x l (find_in (wrapped x.text) s e) refl (first_custom l s e) (λ m b j g. custom_some l m b j g) n len k h
 
-  custom_hit : (l : List Entry) (len k : ℕ) → Some (CustomAt len k) l → (Some (λ x. Line (wrapped x.text) (drop k s) (len + 4)) l → Item d ts (drop k s) (len + 4)) → (a : Answer) → a.consumed ≡ k + (len + 4) → Plain a → Hit d ts s e a
+  custom_hit : (l : List Entry) (len k : ℕ) → AnyOf (CustomAt len k) l → (AnyOf (λ x. Line (wrapped x.text) (drop k s) (len + 4)) l → Item d ts (drop k s) (len + 4)) → (a : Answer) → a.consumed ≡ k + (len + 4) → Plain a → Hit d ts s e a
   custom_hit l len k h mk a c g =
       let i = mk (some_map (CustomAt len k) (λ x. Line (wrapped x.text) (drop k s) (len + 4)) (λ x v. (sym (stands_here (wrapped x.text) s k) ∙ v.0, omega (arith, v.1, wrapped_length x.text))) l h) in
       some_any (CustomAt len k) (Hit d ts s e a) (λ x v. line_hit (wrapped x.text) (wrapped_opens x.text) (wrapped_last x.text) k v.0 (len + 4) (omega (arith, v.1, wrapped_length x.text)) i a c g) l h
 
-  custom_success_sound : (r : Occurs) → first_custom (of_mark mark.Success 0 ts) s e ≡ r → (a : Answer) → custom_success r s e ≡ tries.Done a → Hit d ts s e a
+  custom_success_sound : (r : Option (ℕ × ℕ × ℕ)) → first_custom (of_mark mark.Success 0 ts) s e ≡ r → (a : Answer) → custom_success r s e ≡ Some a → Hit d ts s e a
   unfolding custom_success success
-  custom_success_sound (occurs.At n len k) q a h =
+  custom_success_sound (Some (n, len, k)) q a h =
       let z : with_payload kind.Ok 0 (trimmed_part s e k) (k + (len + 4)) ≡ a = cc in
       custom_hit (of_mark mark.Success 0 ts) len k (custom_some (of_mark mark.Success 0 ts) n len k q) items.custom_success a (ap (λ (x : Answer). x.consumed) (sym z)) (rw (sym z) (refl, (refl, (refl, refl))))
-  custom_success_sound occurs.Nothing q a h = absurd (done_next a h refl)
+  custom_success_sound None q a h = absurd (done_next a h refl)
 
-  custom_error_sound : (r : Occurs) → first_custom (of_mark mark.Error 0 ts) s e ≡ r → (a : Answer) → custom_error r ≡ tries.Done a → Hit d ts s e a
+  custom_error_sound : (r : Option (ℕ × ℕ × ℕ)) → first_custom (of_mark mark.Error 0 ts) s e ≡ r → (a : Answer) → custom_error r ≡ Some a → Hit d ts s e a
   unfolding custom_error
-  custom_error_sound (occurs.At n len k) q a h =
+  custom_error_sound (Some (n, len, k)) q a h =
       let z : with_payload kind.Custom n (record { start = k + 2; len = len }) (k + (len + 4)) ≡ a = cc in
       custom_hit (of_mark mark.Error 0 ts) len k (custom_some (of_mark mark.Error 0 ts) n len k q) items.custom_error a (ap (λ (x : Answer). x.consumed) (sym z)) (rw (sym z) (refl, (refl, (refl, refl))))
-  custom_error_sound occurs.Nothing q a h = absurd (done_next a h refl)
+  custom_error_sound None q a h = absurd (done_next a h refl)
 
   -- numeric errors, with their digits
   numeric_digits : (h : Fixed) → is_numeric (kind_of h) ≡ true → get_or (fixed_text h) (length (fixed_text h) - 1) 0 ≡ 58 → (u : List ℕ) (ds : Digits) → NumericRead (fixed_text h) u ds → DigitsOf u (with_digits (kind_of h) ds.code (record { start = ds.start; len = ds.stop - ds.start }) ds.end)
@@ -277,7 +269,7 @@ module _ (d : Digester) (ts : List Token) (good : Texts ts) (s : List ℕ) (e : 
   Heads [] = Unit {0}
   Heads (h ∷ hs) = ((is_numeric (kind_of h) ≡ true) × (get_or (fixed_text h) (length (fixed_text h) - 1) 0 ≡ 58)) × Heads hs
 
-  numeric_hit : (h : Fixed) → is_numeric (kind_of h) ≡ true → get_or (fixed_text h) (length (fixed_text h) - 1) 0 ≡ 58 → (k : ℕ) (ds : Digits) → NumericRead (fixed_text h) (drop k s) ds → Some (λ x. NumericEnded (fixed_text x) (drop k s) ds.end) heads → (a : Answer) → a ≡ with_digits (kind_of h) ds.code (record { start = k + ds.start; len = k + ds.stop - (k + ds.start) }) (k + ds.end) → Hit d ts s e a
+  numeric_hit : (h : Fixed) → is_numeric (kind_of h) ≡ true → get_or (fixed_text h) (length (fixed_text h) - 1) 0 ≡ 58 → (k : ℕ) (ds : Digits) → NumericRead (fixed_text h) (drop k s) ds → AnyOf (λ x. NumericEnded (fixed_text x) (drop k s) ds.end) heads → (a : Answer) → a ≡ with_digits (kind_of h) ds.code (record { start = k + ds.start; len = k + ds.stop - (k + ds.start) }) (k + ds.end) → Hit d ts s e a
   numeric_hit h v z k ds t i a g =
       let u = drop k s in
       let w = t.numeric in
@@ -294,36 +286,36 @@ module _ (d : Digester) (ts : List Token) (good : Texts ts) (s : List ℕ) (e : 
         ends = ap (λ (x : Answer). x.consumed) (sym g);
         found = ap is_found g ∙ kind_found_lem h;
         digits =
-            digits_on s k r a (numeric_digits h v z u ds t) (ap (λ (x : Answer). x.kind) g) (ap (λ (x : Answer). x.number) g) (ap (λ (x : Answer). x.digits_len) g ∙ f)
+            digits_on s k r a (numeric_digits h v z u ds t) (ap (λ (x : Answer). x.kind) g) (ap (λ (x : Answer). x.number) g) (ap (λ (x : Answer). x.digits.len) g ∙ f)
             (λ q.
             let y : k + ds.start ≡ placed (k + ds.stop - (k + ds.start)) (k + ds.start) = placed_some (k + ds.stop - (k + ds.start)) (k + ds.start) (λ n. omega arith) in
             let x : ds.start ≡ placed (ds.stop - ds.start) ds.start = placed_some (ds.stop - ds.start) ds.start (λ n. omega arith) in
-            ap (λ (c : Answer). c.digits_place) g ∙ sym y ∙ ap (λ (j : ℕ). k + j) x)
+            ap (λ (c : Answer). c.digits.start) g ∙ sym y ∙ ap (λ (j : ℕ). k + j) x)
             (ap (λ (x : Answer). x.consumed) g);
-        text = no_text_lem d s a (ap (λ (x : Answer). x.text_len) g);
+        text = no_text_lem d s a (ap (λ (x : Answer). x.text.len) g);
         finished =
             lf_finished u (w.b + line_ending u w.b - 1) (omega (arith, w.spaces.0, w.digits.0, w.ended.0)) (omega (arith, w.ended.0)) (ending_lf u w.b w.ended.0) (of_mark mark.Notice 0 ts)
             (mark_texts mark.Notice 0 ts good);
       }
 
-  numeric_sound : (h : Fixed) → is_numeric (kind_of h) ≡ true → get_or (fixed_text h) (length (fixed_text h) - 1) 0 ≡ 58 → ((u : List ℕ) (n : ℕ) → NumericEnded (fixed_text h) u n → Some (λ x. NumericEnded (fixed_text x) u n) heads) → (a : Answer) → numeric_tried h (numeric_error (fixed_text h) s e) ≡ tries.Done a → Hit d ts s e a
+  numeric_sound : (h : Fixed) → is_numeric (kind_of h) ≡ true → get_or (fixed_text h) (length (fixed_text h) - 1) 0 ≡ 58 → ((u : List ℕ) (n : ℕ) → NumericEnded (fixed_text h) u n → AnyOf (λ x. NumericEnded (fixed_text x) u n) heads) → (a : Answer) → numeric_tried h (numeric_error (fixed_text h) s e) ≡ Some a → Hit d ts s e a
   unfolding numeric_error
   numeric_sound h v z i a g = at_place (find_in (fixed_text h) s e) g
     where
-      at_end : (k : ℕ) (q : Numeric) → numeric_at (fixed_text h) (drop k s) 0 ≡ q → numeric_tried h (shift_numeric k q) ≡ tries.Done a → Hit d ts s e a
-      at_end k (numeric.Is ds) p j =
+      at_end : (k : ℕ) (q : Option Digits) → numeric_at (fixed_text h) (drop k s) 0 ≡ q → numeric_tried h (shift_numeric k q) ≡ Some a → Hit d ts s e a
+      at_end k (Some ds) p j =
           unfold shift_numeric numeric_tried in
           let t = numeric_told (fixed_text h) (drop k s) ds p in
           numeric_hit h v z k ds t (i (drop k s) ds.end t.numeric) a cc
-      at_end k numeric.Nothing p j = absurd (done_next a j (unfold shift_numeric numeric_tried in refl))
+      at_end k None p j = absurd (done_next a j (unfold shift_numeric numeric_tried in refl))
 
-      at_place : (q : Found) → numeric_tried h (at_found (fixed_text h) s q) ≡ tries.Done a → Hit d ts s e a
-      at_place (At k) j =
-          let y : numeric_tried h (numeric_at (fixed_text h) s k) ≡ tries.Done a = unfold at_found in j in
+      at_place : (q : Option ℕ) → numeric_tried h (at_found (fixed_text h) s q) ≡ Some a → Hit d ts s e a
+      at_place (Some k) j =
+          let y : numeric_tried h (numeric_at (fixed_text h) s k) ≡ Some a = unfold at_found in j in
           at_end k (numeric_at (fixed_text h) (drop k s) 0) refl (rw (numeric_moved (fixed_text h) s k) at y)
-      at_place Nothing j = absurd (done_next a j (unfold at_found numeric_tried in refl))
+      at_place None j = absurd (done_next a j (unfold at_found numeric_tried in refl))
 
-  numerics_of : (ls : List Fixed) → Heads ls → ((u : List ℕ) (n : ℕ) → Some (λ x. NumericEnded (fixed_text x) u n) ls → Some (λ x. NumericEnded (fixed_text x) u n) heads) → (a : Answer) → Some (λ h. numeric_tried h (numeric_error (fixed_text h) s e) ≡ tries.Done a) ls → Hit d ts s e a
+  numerics_of : (ls : List Fixed) → Heads ls → ((u : List ℕ) (n : ℕ) → AnyOf (λ x. NumericEnded (fixed_text x) u n) ls → AnyOf (λ x. NumericEnded (fixed_text x) u n) heads) → (a : Answer) → AnyOf (λ h. numeric_tried h (numeric_error (fixed_text h) s e) ≡ Some a) ls → Hit d ts s e a
   numerics_of [] z i a h = absurd h
   numerics_of (x ∷ ls) z i a (inl h) = numeric_sound x z.0.0 z.0.1 (λ u n v. i u n (inl v)) a h
   numerics_of (x ∷ ls) z i a (inr h) = numerics_of ls z.1 (λ u n v. i u n (inr v)) a h
@@ -343,7 +335,7 @@ module _ (d : Digester) (ts : List Token) (good : Texts ts) (s : List ℕ) (e : 
   abbrev pub BrokenBy : Answer → Entry → Type 0
   BrokenBy a x = Unfinished x.text (drop e s) × (a ≡ nothing e)
 
-  one_heard : (x : Entry) (a : Answer) (r : Notice) → notice_at x.text (drop e s) 0 ≡ r → heard (shift_notice e r) x.number s e ≡ tries.Done a → EndedBy a x ⊎ BrokenBy a x
+  one_heard : (x : Entry) (a : Answer) (r : Notice) → notice_at x.text (drop e s) 0 ≡ r → heard (shift_notice e r) x.number s e ≡ Some a → EndedBy a x ⊎ BrokenBy a x
   unfolding shift_notice heard
   one_heard x a (notice.Ended n) p h =
       let z : with_payload kind.Notice x.number (trimmed_part s e (e + n)) (e + n) ≡ a = cc in
@@ -355,27 +347,27 @@ module _ (d : Digester) (ts : List Token) (good : Texts ts) (s : List ℕ) (e : 
       inr (unfinished_told x.text (drop e s) p, sym z)
   one_heard x a notice.Nothing p h = absurd (done_next a h refl)
 
-  notices_some : (l : List Entry) (a : Answer) → notices l s e ≡ tries.Done a → Some (λ x. heard (notice_at x.text s e) x.number s e ≡ tries.Done a) l
+  notices_some : (l : List Entry) (a : Answer) → notices l s e ≡ Some a → AnyOf (λ x. heard (notice_at x.text s e) x.number s e ≡ Some a) l
   unfolding notices
   notices_some [] a h = absurd (done_next a h refl)
   notices_some (x ∷ l) a h =
       ⊎_elim
-      (λ (q : heard (notice_at x.text s e) x.number s e ≡ tries.Done a). inl q)
-      (λ (q : (heard (notice_at x.text s e) x.number s e ≡ tries.Next) × (notices l s e ≡ tries.Done a)). inr (notices_some l a q.1))
+      (λ (q : heard (notice_at x.text s e) x.number s e ≡ Some a). inl q)
+      (λ (q : (heard (notice_at x.text s e) x.number s e ≡ None) × (notices l s e ≡ Some a)). inr (notices_some l a q.1))
       (done_one (heard (notice_at x.text s e) x.number s e) (notices l s e) a h)
 
-  pub notices_told : (l : List Entry) (a : Answer) → notices l s e ≡ tries.Done a → Some (EndedBy a) l ⊎ Some (BrokenBy a) l
+  pub notices_told : (l : List Entry) (a : Answer) → notices l s e ≡ Some a → AnyOf (EndedBy a) l ⊎ AnyOf (BrokenBy a) l
   notices_told l a h =
-      some_either (λ x. heard (notice_at x.text s e) x.number s e ≡ tries.Done a) (EndedBy a) (BrokenBy a)
+      some_either (λ x. heard (notice_at x.text s e) x.number s e ≡ Some a) (EndedBy a) (BrokenBy a)
       (λ x v. one_heard x a (notice_at x.text (drop e s) 0) refl (rw (notice_moved x.text s e) at v)) l (notices_some l a h)
 
-  notices_sound : (a : Answer) → notices (of_mark mark.Notice 0 ts) s e ≡ tries.Done a → Sound d ts s e a
+  notices_sound : (a : Answer) → notices (of_mark mark.Notice 0 ts) s e ≡ Some a → Sound d ts s e a
   notices_sound a h =
       let l = of_mark mark.Notice 0 ts in
       let good-l = mark_texts mark.Notice 0 ts good in
       ⊎_elim
-      (λ (q : Some (EndedBy a) l).
-      let i : Some (λ x. NoticeEnded x.text (drop e s) (a.consumed - e)) l = some_map (EndedBy a) (λ x. NoticeEnded x.text (drop e s) (a.consumed - e)) (λ x v. v.0) l q in
+      (λ (q : AnyOf (EndedBy a) l).
+      let i : AnyOf (λ x. NoticeEnded x.text (drop e s) (a.consumed - e)) l = some_map (EndedBy a) (λ x. NoticeEnded x.text (drop e s) (a.consumed - e)) (λ x v. v.0) l q in
       inl (some_any (EndedBy a) (Hit d ts s e a) (λ x v.
       let b = notice_lf x.text (drop e s) (a.consumed - e) v.0 in
       record {
@@ -389,19 +381,19 @@ module _ (d : Digester) (ts : List Token) (good : Texts ts) (s : List ℕ) (e : 
         text = no_text_lem d s a v.1.1.1.1.1;
         finished = lf_finished (drop e s) (a.consumed - e - 1) (omega (arith, b.1.0)) (omega (arith, b.0, b.1.0)) b.1.1 l good-l;
       }) l q))
-      (λ (q : Some (BrokenBy a) l).
+      (λ (q : AnyOf (BrokenBy a) l).
       inr (some_any (BrokenBy a) (a ≡ nothing e) (λ x v. v.1) l q, some_map (BrokenBy a) (λ x. Unfinished x.text (drop e s)) (λ x v. v.0) l q))
       (notices_told l a h)
 
   -- with no notice heard, none is unfinished either
-  notices_quiet : (l : List Entry) → notices l s e ≡ tries.Next → Some (λ x. Unfinished x.text (drop e s)) l → ⊥
+  notices_quiet : (l : List Entry) → notices l s e ≡ None → AnyOf (λ x. Unfinished x.text (drop e s)) l → ⊥
   unfolding notices
   notices_quiet [] h g = g
   notices_quiet (x ∷ l) h (inl w) = let b = (next_both (heard (notice_at x.text s e) x.number s e) (notices l s e) h).0 in done_next (nothing e) (ap (λ (r : Notice). heard r x.number s e) (broken_front x.text w) ∙ (unfold heard in refl)) b
   notices_quiet (x ∷ l) h (inr w) = notices_quiet l (next_both (heard (notice_at x.text s e) x.number s e) (notices l s e) h).1 w
 
   -- prompts, which take all there is
-  module _ (inside : e ≤ length s) (quiet : notices (of_mark mark.Notice 0 ts) s e ≡ tries.Next) where
+  module _ (inside : e ≤ length s) (quiet : notices (of_mark mark.Notice 0 ts) s e ≡ None) where
     all_hit : Item d ts (drop e s) (length (drop e s)) → (a : Answer) → a.consumed ≡ length s → Plain a → Hit d ts s e a
     all_hit i a c g =
         record {
@@ -416,55 +408,55 @@ module _ (d : Digester) (ts : List Token) (good : Texts ts) (s : List ℕ) (e : 
           finished = notices_quiet (of_mark mark.Notice 0 ts) quiet;
         }
 
-    prompt_done : (b : Bool) (c : ℕ) (a : Answer) → prompt_tried b c s ≡ tries.Done a → (b ≡ true) × ((a.consumed ≡ length s) × Plain a)
+    prompt_done : (b : Bool) (c : ℕ) (a : Answer) → prompt_tried b c s ≡ Some a → (b ≡ true) × ((a.consumed ≡ length s) × Plain a)
     unfolding prompt_tried
     prompt_done true c a h = let z : with_number kind.Prompt c (length s) ≡ a = cc in (refl, (ap (λ (x : Answer). x.consumed) (sym z), rw (sym z) (refl, (refl, (refl, refl)))))
     prompt_done false c a h = absurd (done_next a h refl)
 
-    prompt_sound : (c : ℕ) → (FirstAlone c (drop e s) → FirstAlone 62 (drop e s) ⊎ FirstAlone 64 (drop e s)) → (a : Answer) → prompt_tried (prompt_from c s e) c s ≡ tries.Done a → Hit d ts s e a
+    prompt_sound : (c : ℕ) → (FirstAlone c (drop e s) → FirstAlone 62 (drop e s) ⊎ FirstAlone 64 (drop e s)) → (a : Answer) → prompt_tried (prompt_from c s e) c s ≡ Some a → Hit d ts s e a
     prompt_sound c mk a h =
         let w = prompt_done (prompt_from c s e) c a h in
         all_hit (items.prompt (mk (alone_told c (drop e s) (sym (prompt_moved c s e inside) ∙ w.0))) refl) a w.1.0 w.1.1
 
-    customs_some : (l : List Entry) (a : Answer) → custom_prompts l s e ≡ tries.Done a → Some (λ x. EndsIn x.text (drop e s)) l × ((a.consumed ≡ length s) × Plain a)
+    customs_some : (l : List Entry) (a : Answer) → custom_prompts l s e ≡ Some a → AnyOf (λ x. EndsIn x.text (drop e s)) l × ((a.consumed ≡ length s) × Plain a)
     unfolding custom_prompts
     customs_some [] a h = absurd (done_next a h refl)
     customs_some (x ∷ l) a h =
         ⊎_elim
-        (λ (q : prompt_tried (custom_prompt x.text s e) x.prompt s ≡ tries.Done a).
+        (λ (q : prompt_tried (custom_prompt x.text s e) x.prompt s ≡ Some a).
         let w = prompt_done (custom_prompt x.text s e) x.prompt a q in
         (inl (ends_told x.text (drop e s) (sym (custom_moved x.text s e) ∙ w.0)), w.1))
-        (λ (q : (prompt_tried (custom_prompt x.text s e) x.prompt s ≡ tries.Next) × (custom_prompts l s e ≡ tries.Done a)).
+        (λ (q : (prompt_tried (custom_prompt x.text s e) x.prompt s ≡ None) × (custom_prompts l s e ≡ Some a)).
         let w = customs_some l a q.1 in
         (inr w.0, w.1))
         (done_one (prompt_tried (custom_prompt x.text s e) x.prompt s) (custom_prompts l s e) a h)
 
-    prompts_sound : (a : Answer) → prompts (of_mark mark.Prompt 0 ts) s e ≡ tries.Done a → Hit d ts s e a
+    prompts_sound : (a : Answer) → prompts (of_mark mark.Prompt 0 ts) s e ≡ Some a → Hit d ts s e a
     unfolding prompts
     prompts_sound a h =
         let l = of_mark mark.Prompt 0 ts in
         ⊎_elim
-        (λ (q : custom_prompts l s e ≡ tries.Done a). let w = customs_some l a q in all_hit (items.custom_prompt w.0 refl) a w.1.0 w.1.1)
-        (λ (q : (custom_prompts l s e ≡ tries.Next) × (or_else (prompt_tried (prompt_from 62 s e) 62 s) (prompt_tried (prompt_from 64 s e) 64 s) ≡ tries.Done a)).
+        (λ (q : custom_prompts l s e ≡ Some a). let w = customs_some l a q in all_hit (items.custom_prompt w.0 refl) a w.1.0 w.1.1)
+        (λ (q : (custom_prompts l s e ≡ None) × (or_else (prompt_tried (prompt_from 62 s e) 62 s) (prompt_tried (prompt_from 64 s e) 64 s) ≡ Some a)).
         ⊎_elim
-        (λ (r : prompt_tried (prompt_from 62 s e) 62 s ≡ tries.Done a). prompt_sound 62 (λ v. inl v) a r)
-        (λ (r : (prompt_tried (prompt_from 62 s e) 62 s ≡ tries.Next) × (prompt_tried (prompt_from 64 s e) 64 s ≡ tries.Done a)). prompt_sound 64 (λ v. inr v) a r.1)
+        (λ (r : prompt_tried (prompt_from 62 s e) 62 s ≡ Some a). prompt_sound 62 (λ v. inl v) a r)
+        (λ (r : (prompt_tried (prompt_from 62 s e) 62 s ≡ None) × (prompt_tried (prompt_from 64 s e) 64 s ≡ Some a)). prompt_sound 64 (λ v. inr v) a r.1)
         (done_one (prompt_tried (prompt_from 62 s e) 62 s) (prompt_tried (prompt_from 64 s e) 64 s) a q.1))
         (done_one (custom_prompts l s e) (or_else (prompt_tried (prompt_from 62 s e) 62 s) (prompt_tried (prompt_from 64 s e) 64 s)) a h)
 
   -- the chains of rules 3 and 5: whichever answered, an item was found
-  either : (t r : Tried) (a : Answer) → (t ≡ tries.Done a → Hit d ts s e a) → (r ≡ tries.Done a → Hit d ts s e a) → or_else t r ≡ tries.Done a → Hit d ts s e a
-  either t r a f g h = ⊎_elim f (λ (q : (t ≡ tries.Next) × (r ≡ tries.Done a)). g q.1) (done_one t r a h)
+  either : (t r : Option Answer) (a : Answer) → (t ≡ Some a → Hit d ts s e a) → (r ≡ Some a → Hit d ts s e a) → or_else t r ≡ Some a → Hit d ts s e a
+  either t r a f g h = ⊎_elim f (λ (q : (t ≡ None) × (r ≡ Some a)). g q.1) (done_one t r a h)
 
   -- CONNECT: the bare line, or one with text
-  bare_at_lem : (a : Answer) (k : ℕ) → stands (fixed_text fixed.Connect) s k ≡ true → connected s e k (At (k + 11)) ≡ tries.Done a → LineAt s a fixed.Connect
+  bare_at_lem : (a : Answer) (k : ℕ) → stands (fixed_text fixed.Connect) s k ≡ true → connected s e k (Some (k + 11)) ≡ Some a → LineAt s a fixed.Connect
   unfolding connected
   bare_at_lem a k h g =
       let z : with_text (trimmed_part s e k) (record { start = k + 10; len = k + 11 - (k + 12) }) (k + 11) ≡ a = cc in
       let l : k + 11 - (k + 12) ≡ 0 = omega arith in
       record { k = k; here = h; ends = ap (λ (x : Answer). x.consumed) (sym z); plain = λ n. rw (sym z) (refl, (refl, (refl, l))) }
 
-  text_hit : (a : Answer) (k end : ℕ) → TextAt d s k end → connected s e k (At end) ≡ tries.Done a → Hit d ts s e a
+  text_hit : (a : Answer) (k end : ℕ) → TextAt d s k end → connected s e k (Some end) ≡ Some a → Hit d ts s e a
   unfolding connected
   text_hit a k end t g =
       let u = drop k s in
@@ -501,21 +493,21 @@ module _ (d : Digester) (ts : List Token) (good : Texts ts) (s : List ℕ) (e : 
             ended = (ap (stands crlf s) o ∙ w.here, omega (arith, o, t.ends));
           })
 
-  connect_sound : (r : Found) → (a : Answer) → connect_success d s e r ≡ tries.Done a → Hit d ts s e a
+  connect_sound : (r : Option ℕ) → (a : Answer) → connect_success d s e r ≡ Some a → Hit d ts s e a
   unfolding connect_success
-  connect_sound (At k) a h = go (connect_at d s k) refl h
+  connect_sound (Some k) a h = go (connect_at d s k) refl h
     where
-      go : (r : Found) → connect_at d s k ≡ r → connected s e k r ≡ tries.Done a → Hit d ts s e a
-      go (At end) q g =
+      go : (r : Option ℕ) → connect_at d s k ≡ r → connected s e k r ≡ Some a → Hit d ts s e a
+      go (Some end) q g =
           ⊎_elim
           (λ (w : (stands (fixed_text fixed.Connect) s k ≡ true) × (end ≡ k + 11)).
           lines_hit (fixed.Connect ∷ []) ((refl, refl), tt) (λ u n. ⊎_elim (λ (v : Line (fixed_text fixed.Connect) u n). inr (inl v)) (λ (v : ⊥). absurd v)) a (inl (bare_at_lem a k w.0 (rw w.1 at g))))
           (λ (w : TextAt d s k end). text_hit a k end w g)
           (connect_told d s k end q)
-      go Nothing q g = absurd (done_next a g (unfold connected in refl))
-  connect_sound Nothing a h = absurd (done_next a h refl)
+      go None q g = absurd (done_next a g (unfold connected in refl))
+  connect_sound None a h = absurd (done_next a h refl)
 
-  successes_sound : (a : Answer) → successes d (of_mark mark.Success 0 ts) s e ≡ tries.Done a → Hit d ts s e a
+  successes_sound : (a : Answer) → successes d (of_mark mark.Success 0 ts) s e ≡ Some a → Hit d ts s e a
   unfolding successes
   successes_sound a =
       either (custom_success (first_custom (of_mark mark.Success 0 ts) s e) s e) _ a (custom_success_sound (first_custom (of_mark mark.Success 0 ts) s e) refl a)
@@ -523,17 +515,17 @@ module _ (d : Digester) (ts : List Token) (good : Texts ts) (s : List ℕ) (e : 
       (λ h. lines_hit (fixed.Ok ∷ []) ((refl, refl), tt) (λ u n. ⊎_elim (λ (v : Line (fixed_text fixed.Ok) u n). inl v) (λ (v : ⊥). absurd v)) a (inl (success_at a fixed.Ok (find_in (fixed_text fixed.Ok) s e) refl h)))
       (connect_sound (first_connect d s e) a))
 
-  lines_sound : (a : Answer) → line_errors s e ≡ tries.Done a → Hit d ts s e a
+  lines_sound : (a : Answer) → line_errors s e ≡ Some a → Hit d ts s e a
   unfolding line_errors
   lines_sound a h =
       lines_hit error_lines ((refl, refl), ((refl, refl), ((refl, refl), ((refl, refl), ((refl, refl), ((refl, refl), tt))))))
       (λ u n v. inr (inr (some_left (λ l. Line (fixed_text l) u n) error_lines (fixed.Na ∷ []) v))) a
-      (some_map (λ l. line l ≡ tries.Done a) (LineAt s a) (λ l v. line_at a l (find_in (fixed_text l) s e) refl v) error_lines (first_some line error_lines a h))
+      (some_map (λ l. line l ≡ Some a) (LineAt s a) (λ l v. line_at a l (find_in (fixed_text l) s e) refl v) error_lines (first_some line error_lines a h))
     where
-      line : Fixed → Tried
+      line : Fixed → Option Answer
       line l = line_tried l (find_in (fixed_text l) s e)
 
-  errors_sound : (a : Answer) → errors (of_mark mark.Error 0 ts) s e ≡ tries.Done a → Hit d ts s e a
+  errors_sound : (a : Answer) → errors (of_mark mark.Error 0 ts) s e ≡ Some a → Hit d ts s e a
   unfolding errors numeric_errors
   errors_sound a =
       either (custom_error (first_custom (of_mark mark.Error 0 ts) s e)) _ a (custom_error_sound (first_custom (of_mark mark.Error 0 ts) s e) refl a)
@@ -541,13 +533,13 @@ module _ (d : Digester) (ts : List Token) (good : Texts ts) (s : List ℕ) (e : 
       (either (line_errors s e) _ a (lines_sound a)
       (λ h. lines_hit (fixed.Na ∷ []) ((refl, refl), tt) (λ u n v. inr (inr (some_right (λ l. Line (fixed_text l) u n) error_lines (fixed.Na ∷ []) v))) a (inl (na_at a h)))))
 
-  pub tried_sound : e ≤ length s → (a : Answer) → tried d ts s e ≡ tries.Done a → Sound d ts s e a
+  pub tried_sound : e ≤ length s → (a : Answer) → tried d ts s e ≡ Some a → Sound d ts s e a
   unfolding tried
   tried_sound i a h =
       let n = notices (of_mark mark.Notice 0 ts) s e in
       ⊎_elim
-      (λ (q : n ≡ tries.Done a). notices_sound a q)
-      (λ (q : (n ≡ tries.Next) × (or_else (successes d (of_mark mark.Success 0 ts) s e) (or_else (prompts (of_mark mark.Prompt 0 ts) s e) (errors (of_mark mark.Error 0 ts) s e)) ≡ tries.Done a)).
+      (λ (q : n ≡ Some a). notices_sound a q)
+      (λ (q : (n ≡ None) × (or_else (successes d (of_mark mark.Success 0 ts) s e) (or_else (prompts (of_mark mark.Prompt 0 ts) s e) (errors (of_mark mark.Error 0 ts) s e)) ≡ Some a)).
       inl
       (either (successes d (of_mark mark.Success 0 ts) s e) (or_else (prompts (of_mark mark.Prompt 0 ts) s e) (errors (of_mark mark.Error 0 ts) s e)) a (successes_sound a)
       (either (prompts (of_mark mark.Prompt 0 ts) s e) (errors (of_mark mark.Error 0 ts) s e) a (prompts_sound i q.0 a) (errors_sound a)) q.1))

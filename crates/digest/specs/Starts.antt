@@ -1,5 +1,5 @@
 -- Line starts and rule 1: buf begins at the first line start.
-use Rattle.std.specs.Prelude.{◌≡◌, ◌⊎◌, false, List, [], ◌∷◌, ℕ, ◌+◌, ◌≤◌, ◌<◌, length}
+use Rattle.std.specs.Prelude.{Option, Some, None, ◌≡◌, ◌⊎◌, false, List, [], ◌∷◌, ℕ, ◌+◌, ◌≤◌, ◌<◌, length}
 use Rattle.std.proofs.Math.Path.{refl, ap}
 use Rattle.std.proofs.Common.{sym, ◌∙◌, inl, inr, eq-or-lt_of_le, arith}
 use Rattle.std.proofs.Math.Logic.{⊎_elim}
@@ -8,8 +8,6 @@ use Rattle.text.specs.Logic.{false_true, not_true_false, order}
 use Rattle.text.specs.Text.{among, blanks, is_blank, past, stands, find_in}
 use Rattle.text.specs.Laws.{found_at, found_none, stands_byte, past_passes, past_stops, past_is}
 use Rattle.text.specs.declared.Blanks.TheVariants as sets
-use Rattle.text.specs.declared.Found.{Found}
-use Rattle.text.specs.declared.Found.TheVariants.{At, Nothing}
 use Rattle.lines.specs.Lines.{crlf}
 use Rattle.items.specs.Rules.{found_or, skipped}
 use Rattle.digest.specs.Finished.{LineStart, at_crlf, only_one}
@@ -22,12 +20,12 @@ module _ (s : List ℕ) where
       let b : is_blank sets.Space 13 ≡ true = ap (is_blank sets.Space) (sym (stands_byte 13 (10 ∷ []) s p g).1.0) ∙ past_passes (is_blank sets.Space) s 0 p (omega arith) h in
       false_true b refl
 
-  crlf_from : (a : ℕ) (r : Found) → find_in crlf s a ≡ r → (p : ℕ) → a ≤ p → stands crlf s p ≡ true → (found_or r a ≤ p) × (stands crlf s (found_or r a) ≡ true)
+  crlf_from : (a : ℕ) (r : Option ℕ) → find_in crlf s a ≡ r → (p : ℕ) → a ≤ p → stands crlf s p ≡ true → (found_or r a ≤ p) × (stands crlf s (found_or r a) ≡ true)
   unfolding found_or
-  crlf_from a (At k) q p h g =
+  crlf_from a (Some k) q p h g =
       let w = found_at crlf s a k q in
       (⊎_elim (λ (l : p < k). absurd (false_true g (w.first p h l))) (λ (l : k ≤ p). l) (order p k), w.here)
-  crlf_from a Nothing q p h g = absurd (false_true g (found_none crlf s a q p h))
+  crlf_from a None q p h g = absurd (false_true g (found_none crlf s a q p h))
 
   pub first_crlf : (p : ℕ) → stands crlf s p ≡ true → (skipped s ≤ p) × (stands crlf s (skipped s) ≡ true)
   unfolding skipped
@@ -35,10 +33,10 @@ module _ (s : List ℕ) where
       let a = past (is_blank sets.Space) s 0 in
       crlf_from a (find_in crlf s a) refl p (⊎_elim (λ (q : p < a). absurd (spaces_crlf p q g)) (λ (q : a ≤ p). q) (order p a)) g
 
-  start_from : (r : Found) → find_in crlf s (past (is_blank sets.Space) s 0) ≡ r → found_or r (past (is_blank sets.Space) s 0) < length s → LineStart s (found_or r (past (is_blank sets.Space) s 0))
+  start_from : (r : Option ℕ) → find_in crlf s (past (is_blank sets.Space) s 0) ≡ r → found_or r (past (is_blank sets.Space) s 0) < length s → LineStart s (found_or r (past (is_blank sets.Space) s 0))
   unfolding found_or
-  start_from (At k) q h = at_crlf (found_at crlf s (past (is_blank sets.Space) s 0) k q).here
-  start_from Nothing q h =
+  start_from (Some k) q h = at_crlf (found_at crlf s (past (is_blank sets.Space) s 0) k q).here
+  start_from None q h =
       let a = past (is_blank sets.Space) s 0 in
       only_one
       (λ j. not_true_false (stands crlf s j) (λ g. ⊎_elim (λ (l : j < a). spaces_crlf j l g) (λ (l : a ≤ j). false_true g (found_none crlf s a q j l)) (order j a)))
@@ -57,9 +55,9 @@ module _ (s : List ℕ) where
   unfolding skipped
   only_skip h = go (find_in crlf s (past (is_blank sets.Space) s 0)) refl
     where
-      go : (r : Found) → find_in crlf s (past (is_blank sets.Space) s 0) ≡ r → found_or r (past (is_blank sets.Space) s 0) ≡ past (is_blank sets.Space) s 0
-      go (At k) q = absurd (false_true (found_at crlf s (past (is_blank sets.Space) s 0) k q).here (h k))
-      go Nothing q = unfold found_or in refl
+      go : (r : Option ℕ) → find_in crlf s (past (is_blank sets.Space) s 0) ≡ r → found_or r (past (is_blank sets.Space) s 0) ≡ past (is_blank sets.Space) s 0
+      go (Some k) q = absurd (false_true (found_at crlf s (past (is_blank sets.Space) s 0) k q).here (h k))
+      go None q = unfold found_or in refl
 
   -- a line start is where buf begins, or a CRLF behind it
   pub start_is : (p : ℕ) → LineStart s p → (p ≡ skipped s) ⊎ ((skipped s + 2 ≤ p) × ((stands crlf s p ≡ true) × (stands crlf s (skipped s) ≡ true)))

@@ -1,18 +1,18 @@
 -- The digester's own equation, with no fuel in it, and that an answer stays within its input.
 -- Rests on the retry's suffix being shorter; everything above goes by `digest_step` and by induction on the length.
-use Rattle.std.specs.Prelude.{◌≡◌, Bool, ℕ, zero, suc, ◌+◌, ◌-◌, ◌≤◌, ◌<◌, take, drop, ltb, if◌then◌else◌}
+use Rattle.std.specs.Prelude.{Option, Some, None, ◌≡◌, Bool, ℕ, zero, suc, ◌+◌, ◌-◌, ◌≤◌, ◌<◌, take, drop, ltb, if◌then◌else◌}
 use Rattle.std.proofs.Math.Path.{refl, sym, ap}
 use Rattle.std.proofs.Common.{◌∙◌, not-suc-le-zero, arith, length-drop}
 use Rattle.std.proofs.Math.Bool.{true, false}
 use mathlib.Core.List.{List, [], ◌∷◌}
 use Rattle.std.proofs.Math.ListN.{length}
 use borrow.Author.Tests.{ltb-true}
+use Rattle.std.specs.declared.ops.ControlFlow.{ControlFlow}
+use Rattle.std.specs.declared.ops.ControlFlow.TheVariants.{Break, Continue}
 use Rattle.outcome.specs.Laws.{ways, same_way}
 use Rattle.text.specs.Logic.{and_both}
 use Rattle.text.specs.Text.{trimmed_part, stands, find_in}
 use Rattle.text.specs.Laws.{rest, trimmed_room}
-use Rattle.text.specs.declared.Found.{Found}
-use Rattle.text.specs.declared.Found.TheVariants.{At, Nothing}
 use Rattle.table.specs.Table.{Token, Entry, of_mark, tokens}
 use Rattle.table.specs.declared.Mark.TheVariants as mark
 use Rattle.lines.specs.Lines.{crlf, fixed_text}
@@ -21,8 +21,6 @@ use Rattle.lines.specs.declared.Fixed.{Fixed}
 use Rattle.lines.specs.declared.Fixed.TheVariants as fixed
 use Rattle.parser.specs.Parser.{numeric_error, prompt_from, custom_prompt, notice_at}
 use Rattle.parser.specs.Laws.{notice_bounds, error_bounds}
-use Rattle.parser.specs.declared.Numeric.{Numeric}
-use Rattle.parser.specs.declared.Numeric.TheVariants as numeric
 use Rattle.parser.specs.declared.Notice.{Notice}
 use Rattle.parser.specs.declared.Notice.TheVariants as notice
 use Rattle.answers.specs.declared.Kind.{Kind}
@@ -30,13 +28,7 @@ use Rattle.answers.specs.declared.Kind.TheVariants as kind
 use Rattle.answers.specs.declared.Answer.{Answer}
 use Rattle.answers.specs.Answer.{is_found, nothing, with_payload, shift, longest, shift_within, Within}
 use Rattle.answers.specs.Laws.{longer_within, bare_within, nothing_within, number_within, digits_within, payload_within, text_within, shift_within_lem, shift_is, shift_shift}
-use Rattle.items.specs.declared.Occurs.{Occurs}
-use Rattle.items.specs.declared.Occurs.TheVariants as occurs
-use Rattle.items.specs.declared.Tried.{Tried}
-use Rattle.items.specs.declared.Tried.TheVariants as tries
 use Rattle.items.specs.declared.Hints.{Hints}
-use Rattle.items.specs.declared.Level.{Level}
-use Rattle.items.specs.declared.Level.TheVariants as level
 use Rattle.items.specs.Rules.{or_else, first_of, skipped, heard, notices, first_custom, kind_of, success, custom_success, line_success, connect_at, first_connect, connected, connect_success, successes, prompt_tried, custom_prompts, prompts, custom_error, heads, numeric_tried, numeric_errors, error_lines, line_tried, line_errors, not_allowed, errors, tried}
 use Rattle.items.specs.Hints.{Known, Says}
 use Rattle.items.specs.Laws.{occurs_room}
@@ -61,40 +53,40 @@ module _ (s : List ℕ) (e : ℕ) where
   retries_room h = omega (arith, ltb-true 4 (length s - e) (and_both (stands crlf s e) (ltb 4 (length s - e)) h).1)
 
 -- An answer of the retry seen from the front, before which m bytes stand: moved; None, whose consumed count is dropped, is no answer.
-unfoldable pub seen_from : ℕ → Answer → Tried
-seen_from m a = if is_found a then tries.Done (shift m a) else tries.Next
+unfoldable pub seen_from : ℕ → Answer → Option Answer
+seen_from m a = if is_found a then Some (shift m a) else None
 
 module _ (a : Answer) (m : ℕ) (b : Bool) (p : b ≡ is_found a) where
-  pub seen_lost : b ≡ false → tries.Next ≡ seen_from m a
+  pub seen_lost : b ≡ false → None ≡ seen_from m a
   unfolding seen_from
   seen_lost q = rw (sym p ∙ q)
 
-  pub seen_found : b ≡ true → m ≤ longest → Within longest a → (r : Answer) → r ≡ shift_within m a → tries.Done r ≡ seen_from m a
+  pub seen_found : b ≡ true → m ≤ longest → Within longest a → (r : Answer) → r ≡ shift_within m a → Some r ≡ seen_from m a
   unfolding seen_from
-  seen_found q l v r w = rw (sym p ∙ q) (ap tries.Done (w ∙ shift_is m longest a v (omega arith) l))
+  seen_found q l v r w = rw (sym p ∙ q) (ap Some (w ∙ shift_is m longest a v (omega arith) l))
 
 -- a level of the retry more, seen from the front
 seen_again : (m e : ℕ) (r : Answer) → seen_from (m + (e + 2)) r ≡ seen_from m (again e r)
 unfolding seen_from again
 seen_again m e r = go (is_found r) refl
   where
-    go : (b : Bool) → is_found r ≡ b → (if b then tries.Done (shift (m + (e + 2)) r) else tries.Next) ≡ (if is_found (if b then shift (e + 2) r else nothing e) then tries.Done (shift m (if b then shift (e + 2) r else nothing e)) else tries.Next)
-    go true q = unfold shift in rw q (ap tries.Done (sym (shift_shift (e + 2) m r)))
+    go : (b : Bool) → is_found r ≡ b → (if b then Some (shift (m + (e + 2)) r) else None) ≡ (if is_found (if b then shift (e + 2) r else nothing e) then Some (shift m (if b then shift (e + 2) r else nothing e)) else None)
+    go true q = unfold shift in rw q (ap Some (sym (shift_shift (e + 2) m r)))
     go false q = refl
 
 -- what the retry from e on gives, where nothing is moved: its answer, or rule 7's None
-abbrev or_none : Tried → ℕ → Answer
-or_none (tries.Done a) e = a
-or_none tries.Next e = nothing e
+abbrev or_none : Option Answer → ℕ → Answer
+or_none (Some a) e = a
+or_none None e = nothing e
 
-seen_front : (s : List ℕ) (f : List ℕ → Answer) (e : ℕ) → or_none (seen_from 0 (after s f e tries.Next)) e ≡ after s f e tries.Next
+seen_front : (s : List ℕ) (f : List ℕ → Answer) (e : ℕ) → or_none (seen_from 0 (after s f e None)) e ≡ after s f e None
 unfolding after seen_from again
 seen_front s f e = go (retries s e) (is_found (f (drop (e + 2) s))) refl
   where
     r : Answer
     r = f (drop (e + 2) s)
 
-    go : (b c : Bool) → is_found r ≡ c → or_none (if is_found (if b then (if c then shift (e + 2) r else nothing e) else nothing e) then tries.Done (shift 0 (if b then (if c then shift (e + 2) r else nothing e) else nothing e)) else tries.Next) e ≡ (if b then (if c then shift (e + 2) r else nothing e) else nothing e)
+    go : (b c : Bool) → is_found r ≡ c → or_none (if is_found (if b then (if c then shift (e + 2) r else nothing e) else nothing e) then Some (shift 0 (if b then (if c then shift (e + 2) r else nothing e) else nothing e)) else None) e ≡ (if b then (if c then shift (e + 2) r else nothing e) else nothing e)
     go true true q = let i : 0 + (e + 2) ≡ e + 2 = omega arith in (unfold shift in rw q (shift_shift (e + 2) 0 r)) ∙ ap (λ (k : ℕ). shift k r) i
     go true false q = refl
     go false c q = refl
@@ -108,10 +100,10 @@ pub by_length : (P : List ℕ → Type 0) → ((s : List ℕ) → ((l : List ℕ
 by_length P step s = by_bound P step (suc (length s)) s (omega arith)
 
 -- fuel does not matter
-pub after_same : (s : List ℕ) (f g : List ℕ → Answer) (e : ℕ) (t : Tried) → (retries s e ≡ true → f (drop (e + 2) s) ≡ g (drop (e + 2) s)) → after s f e t ≡ after s g e t
+pub after_same : (s : List ℕ) (f g : List ℕ → Answer) (e : ℕ) (t : Option Answer) → (retries s e ≡ true → f (drop (e + 2) s) ≡ g (drop (e + 2) s)) → after s f e t ≡ after s g e t
 unfolding after
-after_same s f g e (tries.Done a) h = refl
-after_same s f g e tries.Next h = same_way (nothing e) (retries s e) (λ q. ap (again e) (h q))
+after_same s f g e (Some a) h = refl
+after_same s f g e None h = same_way (nothing e) (retries s e) (λ q. ap (again e) (h q))
 
 pub rest_shorter : (s : List ℕ) (e : ℕ) → retries s e ≡ true → length (drop (e + 2) s) < length s
 rest_shorter s e h = omega (arith, retries_room s e h, length-drop (e + 2) s)
@@ -133,21 +125,21 @@ digest_step d ts s =
     (λ q. same_fuel (length s) (suc (length (drop (e + 2) s))) d ts (drop (e + 2) s) (rest_shorter s e q) (omega arith))
 
 -- what rules 2 to 5 answer where buf begins is the digest's answer
-pub done_is : (d : Digester) (ts : List Token) (s : List ℕ) (a : Answer) → tried d ts s (skipped s) ≡ tries.Done a → digest_in d ts s ≡ a
+pub done_is : (d : Digester) (ts : List Token) (s : List ℕ) (a : Answer) → tried d ts s (skipped s) ≡ Some a → digest_in d ts s ≡ a
 unfolding after
 done_is d ts s a h = rw h at (digest_step d ts s)
 
 -- the answer that a rule gives, if it gives one, has a property
-abbrev pub TriedHas : (Answer → Type 0) → Tried → Type 0
-TriedHas P (tries.Done a) = P a
-TriedHas P tries.Next = Unit {0}
+abbrev pub TriedHas : (Answer → Type 0) → Option Answer → Type 0
+TriedHas P (Some a) = P a
+TriedHas P None = Unit {0}
 
-pub either_has : (P : Answer → Type 0) (t r : Tried) → TriedHas P t → TriedHas P r → TriedHas P (or_else t r)
+pub either_has : (P : Answer → Type 0) (t r : Option Answer) → TriedHas P t → TriedHas P r → TriedHas P (or_else t r)
 unfolding or_else
-either_has P (tries.Done a) r h g = h
-either_has P tries.Next r h g = g
+either_has P (Some a) r h g = h
+either_has P None r h g = g
 
-pub first_has : (P : Answer → Type 0) (f : Fixed → Tried) → ((l : Fixed) → TriedHas P (f l)) → (ls : List Fixed) → TriedHas P (first_of f ls)
+pub first_has : (P : Answer → Type 0) (f : Fixed → Option Answer) → ((l : Fixed) → TriedHas P (f l)) → (ls : List Fixed) → TriedHas P (first_of f ls)
 unfolding first_of
 first_has P f w [] = tt
 first_has P f w (l ∷ ls) = either_has P (f l) (first_of f ls) (w l) (first_has P f w ls)
@@ -169,44 +161,44 @@ module _ (s : List ℕ) (e : ℕ) where
   notices_within h [] = tt
   notices_within h (x ∷ l) = either_has (Within (length s)) (heard (notice_at x.text s e) x.number s e) (notices l s e) (heard_within h x.text x.number (notice_at x.text s e) refl) (notices_within h l)
 
-  custom_success_within : (l : List Entry) (r : Occurs) → first_custom l s e ≡ r → TriedHas (Within (length s)) (custom_success r s e)
+  custom_success_within : (l : List Entry) (r : Option (ℕ × ℕ × ℕ)) → first_custom l s e ≡ r → TriedHas (Within (length s)) (custom_success r s e)
   unfolding custom_success success
-  custom_success_within l (occurs.At n len k) p = let w = occurs_room l s e (occurs.At n len k) (sym p) n len k refl in part_within kind.Ok 0 k (k + (len + 4)) w.0 (omega arith) w.1
-  custom_success_within l occurs.Nothing p = tt
+  custom_success_within l (Some (n, len, k)) p = let w = occurs_room l s e (Some (n, len, k)) (sym p) n len k refl in part_within kind.Ok 0 k (k + (len + 4)) w.0 (omega arith) w.1
+  custom_success_within l None p = tt
 
-  custom_error_within : (l : List Entry) (r : Occurs) → first_custom l s e ≡ r → TriedHas (Within (length s)) (custom_error r)
+  custom_error_within : (l : List Entry) (r : Option (ℕ × ℕ × ℕ)) → first_custom l s e ≡ r → TriedHas (Within (length s)) (custom_error r)
   unfolding custom_error
-  custom_error_within l (occurs.At n len k) p = let w = occurs_room l s e (occurs.At n len k) (sym p) n len k refl in payload_within kind.Custom n (record { start = k + 2; len = len }) (k + (len + 4)) (length s) (omega arith) w.1
-  custom_error_within l occurs.Nothing p = tt
+  custom_error_within l (Some (n, len, k)) p = let w = occurs_room l s e (Some (n, len, k)) (sym p) n len k refl in payload_within kind.Custom n (record { start = k + 2; len = len }) (k + (len + 4)) (length s) (omega arith) w.1
+  custom_error_within l None p = tt
 
-  line_success_within : (l : Fixed) (r : Found) → find_in (fixed_text l) s e ≡ r → TriedHas (Within (length s)) (line_success s e l r)
+  line_success_within : (l : Fixed) (r : Option ℕ) → find_in (fixed_text l) s e ≡ r → TriedHas (Within (length s)) (line_success s e l r)
   unfolding line_success success
-  line_success_within l (At k) p = let w = line_room s e l (At k) (sym p) k refl in part_within kind.Ok 0 k (k + length (fixed_text l)) w.0 (omega arith) w.1
-  line_success_within l Nothing p = tt
+  line_success_within l (Some k) p = let w = line_room s e l (Some k) (sym p) k refl in part_within kind.Ok 0 k (k + length (fixed_text l)) w.0 (omega arith) w.1
+  line_success_within l None p = tt
 
-  connected_within : (d : Digester) (k : ℕ) → e ≤ k → (r : Found) → connect_at d s k ≡ r → TriedHas (Within (length s)) (connected s e k r)
+  connected_within : (d : Digester) (k : ℕ) → e ≤ k → (r : Option ℕ) → connect_at d s k ≡ r → TriedHas (Within (length s)) (connected s e k r)
   unfolding connected
-  connected_within d k h (At end) p =
+  connected_within d k h (Some end) p =
       let w = connect_room d s k end p in
       text_within (trimmed_part s e k) (record { start = k + 10; len = end - (k + 12) }) end (length s) (omega (arith, w.0, trimmed_room s e k h (omega (arith, w.0, w.1)))) (omega (arith, w.0)) w.1
-  connected_within d k h Nothing p = tt
+  connected_within d k h None p = tt
 
-  connect_within : (d : Digester) (r : Found) → LeastSays d s e r → TriedHas (Within (length s)) (connect_success d s e r)
+  connect_within : (d : Digester) (r : Option ℕ) → LeastSays d s e r → TriedHas (Within (length s)) (connect_success d s e r)
   unfolding connect_success
-  connect_within d (At k) w = connected_within d k w.after (connect_at d s k) refl
-  connect_within d Nothing w = tt
+  connect_within d (Some k) w = connected_within d k w.after (connect_at d s k) refl
+  connect_within d None w = tt
 
-  line_within : (l : Fixed) (r : Found) → find_in (fixed_text l) s e ≡ r → TriedHas (Within (length s)) (line_tried l r)
+  line_within : (l : Fixed) (r : Option ℕ) → find_in (fixed_text l) s e ≡ r → TriedHas (Within (length s)) (line_tried l r)
   unfolding line_tried
-  line_within l (At k) p = bare_within (kind_of l) (k + length (fixed_text l)) (length s) (line_room s e l (At k) (sym p) k refl).1
-  line_within l Nothing p = tt
+  line_within l (Some k) p = bare_within (kind_of l) (k + length (fixed_text l)) (length s) (line_room s e l (Some k) (sym p) k refl).1
+  line_within l None p = tt
 
-  numeric_within : (h : Fixed) (r : Numeric) → numeric_error (fixed_text h) s e ≡ r → TriedHas (Within (length s)) (numeric_tried h r)
+  numeric_within : (h : Fixed) (r : Option Digits) → numeric_error (fixed_text h) s e ≡ r → TriedHas (Within (length s)) (numeric_tried h r)
   unfolding numeric_tried
-  numeric_within h (numeric.Is d) p =
+  numeric_within h (Some d) p =
       let w = error_bounds (fixed_text h) s e d p in
       digits_within (kind_of h) d.code (record { start = d.start; len = d.stop - d.start }) d.end (length s) (omega (arith, w.0, w.1.0)) w.1.1
-  numeric_within h numeric.Nothing p = tt
+  numeric_within h None p = tt
 
   prompt_within : (b : Bool) (c : ℕ) → TriedHas (Within (length s)) (prompt_tried b c s)
   unfolding prompt_tried
@@ -254,10 +246,10 @@ again_within s e r h g w =
     (λ q. longer_within (length s - (e + 2) + (e + 2)) (length s) (shift (e + 2) r) (shift_within_lem (e + 2) (length s - (e + 2)) r w) (omega (arith, g)))
     (λ q. nothing_within e (length s) h)
 
-after_within : (s : List ℕ) (f : List ℕ → Answer) (e : ℕ) (t : Tried) → e ≤ length s → TriedHas (Within (length s)) t → (retries s e ≡ true → Within (length (drop (e + 2) s)) (f (drop (e + 2) s))) → Within (length s) (after s f e t)
+after_within : (s : List ℕ) (f : List ℕ → Answer) (e : ℕ) (t : Option Answer) → e ≤ length s → TriedHas (Within (length s)) t → (retries s e ≡ true → Within (length (drop (e + 2) s)) (f (drop (e + 2) s))) → Within (length s) (after s f e t)
 unfolding after
-after_within s f e (tries.Done a) h w g = w
-after_within s f e tries.Next h w g =
+after_within s f e (Some a) h w g = w
+after_within s f e None h w g =
     ways (Within (length s)) (retries s e)
     (λ q. again_within s e (f (drop (e + 2) s)) h (omega (arith, retries_room s e q)) (rw (length-drop (e + 2) s) at (g q)))
     (λ q. nothing_within e (length s) h)
@@ -276,27 +268,27 @@ abbrev pub Handed : Digester → List Token → List ℕ → ℕ → Hints → T
 Handed d ts s e h = retries s e ≡ true → GoneAll d ts (drop (e + 2) s) × Known (drop (e + 2) s) 0 h
 
 -- a level below the outermost one needs to be told what is gone and known
-pub said : (d : Digester) (t s : List ℕ) (h : Hints) (b : Bool) → length s ≤ 4096 → (b ≡ false → GoneAll d (tokens t) s × Known s 0 h) → (r : Level) → r ≡ level_from b d t s h → Says s (skipped s) (tried d (tokens t) s (skipped s)) r
+pub said : (d : Digester) (t s : List ℕ) (h : Hints) (b : Bool) → length s ≤ 4096 → (b ≡ false → GoneAll d (tokens t) s × Known s 0 h) → (r : ControlFlow Answer (ℕ × Hints)) → r ≡ level_from b d t s h → Says s (skipped s) (tried d (tokens t) s (skipped s)) r
 said d t s h b l w r q = rw q (level_says d t s h b l w)
 
-pub said_below : (d : Digester) (t s : List ℕ) (h : Hints) → length s ≤ 4096 → GoneAll d (tokens t) s × Known s 0 h → (r : Level) → r ≡ below t s (skipped s) h → Says s (skipped s) (tried d (tokens t) s (skipped s)) r
+pub said_below : (d : Digester) (t s : List ℕ) (h : Hints) → length s ≤ 4096 → GoneAll d (tokens t) s × Known s 0 h → (r : ControlFlow Answer (ℕ × Hints)) → r ≡ below t s (skipped s) h → Says s (skipped s) (tried d (tokens t) s (skipped s)) r
 said_below d t s h l w r q = said d t s h false l (λ z. w) r (level_below d t s h (skipped s) refl false r refl q)
 
 -- The ways out of a level: r is what it gave, and it says what rules 1 to 5 say.
-module _ (d : Digester) (ts : List Token) (s : List ℕ) (r : Level) (w : Says s (skipped s) (tried d ts s (skipped s)) r) where
-  pub digest_done : (a : Answer) → r ≡ level.Done a → a ≡ digest_in d ts s
+module _ (d : Digester) (ts : List Token) (s : List ℕ) (r : ControlFlow Answer (ℕ × Hints)) (w : Says s (skipped s) (tried d ts s (skipped s)) r) where
+  pub digest_done : (a : Answer) → r ≡ Break a → a ≡ digest_in d ts s
   unfolding after
-  digest_done a q = let z : tried d ts s (skipped s) ≡ tries.Done a = rw q at w in sym (rw z at (digest_step d ts s))
+  digest_done a q = let z : tried d ts s (skipped s) ≡ Some a = rw q at w in sym (rw z at (digest_step d ts s))
 
-  pub done_within : (a : Answer) → r ≡ level.Done a → length s ≤ 4096 → Within 4096 a
+  pub done_within : (a : Answer) → r ≡ Break a → length s ≤ 4096 → Within 4096 a
   done_within a q l = longer_within (length s) 4096 a (rw (digest_done a q) (digest_within d ts s)) l
 
-  module _ (e : ℕ) (h : Hints) (q : r ≡ level.Next e h) where
-    next : (tried d ts s (skipped s) ≡ tries.Next) × ((e ≡ skipped s) × Known s (skipped s) h)
+  module _ (e : ℕ) (h : Hints) (q : r ≡ Continue (e, h)) where
+    next : (tried d ts s (skipped s) ≡ None) × ((e ≡ skipped s) × Known s (skipped s) h)
     next = rw q at w
 
-    pub next_is : after s (digest_in d ts) e tries.Next ≡ digest_in d ts s
-    next_is = ap (λ (k : ℕ). after s (digest_in d ts) k tries.Next) next.1.0 ∙ ap (after s (digest_in d ts) (skipped s)) (sym next.0) ∙ sym (digest_step d ts s)
+    pub next_is : after s (digest_in d ts) e None ≡ digest_in d ts s
+    next_is = ap (λ (k : ℕ). after s (digest_in d ts) k None) next.1.0 ∙ ap (after s (digest_in d ts) (skipped s)) (sym next.0) ∙ sym (digest_step d ts s)
 
     pub next_hands : Handed d ts s e h
     next_hands z =
@@ -304,19 +296,19 @@ module _ (d : Digester) (ts : List Token) (s : List ℕ) (r : Level) (w : Says s
         rw (rest s (e + 2)) at (handed d ts s (skipped s) (e + 2) h (omega (arith, next.1.0)) (omega (arith, o)) next.0 next.1.1)
 
     -- x is what the retry from e on gave
-    module _ (x : Tried) (v : x ≡ seen_from 0 (after s (digest_in d ts) e tries.Next)) where
+    module _ (x : Option Answer) (v : x ≡ seen_from 0 (after s (digest_in d ts) e None)) where
       at_next : or_none x e ≡ digest_in d ts s
-      at_next = ap (λ (y : Tried). or_none y e) v ∙ seen_front s (digest_in d ts) e ∙ next_is
+      at_next = ap (λ (y : Option Answer). or_none y e) v ∙ seen_front s (digest_in d ts) e ∙ next_is
 
-      pub digest_again : (a : Answer) → x ≡ tries.Done a → a ≡ digest_in d ts s
+      pub digest_again : (a : Answer) → x ≡ Some a → a ≡ digest_in d ts s
       digest_again a z = rw z at at_next
 
-      pub digest_none : x ≡ tries.Next → (a : Answer) → a ≡ nothing e → a ≡ digest_in d ts s
+      pub digest_none : x ≡ None → (a : Answer) → a ≡ nothing e → a ≡ digest_in d ts s
       digest_none z a y = y ∙ (rw z at at_next)
 
 -- The ways out of the retry from e on: it ends there; or its level below gave a.
 module _ (d : Digester) (ts : List Token) (s : List ℕ) (e m : ℕ) (b : Bool) (u : b ≡ retries s e) where
-  pub retry_stop : b ≡ false → tries.Next ≡ seen_from m (after s (digest_in d ts) e tries.Next)
+  pub retry_stop : b ≡ false → None ≡ seen_from m (after s (digest_in d ts) e None)
   unfolding seen_from after
   retry_stop z = rw (sym u ∙ z)
 
@@ -327,7 +319,7 @@ module _ (d : Digester) (ts : List Token) (s : List ℕ) (e m : ℕ) (b : Bool) 
     pub retry_handed : (h : Hints) → Handed d ts s e h → GoneAll d ts (take (length s - (e + 2)) (drop (e + 2) s)) × Known (take (length s - (e + 2)) (drop (e + 2) s)) 0 h
     retry_handed h w = rw (rest s (e + 2)) (w (sym u ∙ z))
 
-    pub retry_is : (n : ℕ) → n ≡ m + (e + 2) → (a : Answer) → a ≡ digest_in d ts (take (length s - (e + 2)) (drop (e + 2) s)) → (x : Tried) → x ≡ seen_from n a → x ≡ seen_from m (after s (digest_in d ts) e tries.Next)
+    pub retry_is : (n : ℕ) → n ≡ m + (e + 2) → (a : Answer) → a ≡ digest_in d ts (take (length s - (e + 2)) (drop (e + 2) s)) → (x : Option Answer) → x ≡ seen_from n a → x ≡ seen_from m (after s (digest_in d ts) e None)
     unfolding after
     retry_is n i a w x v =
         v ∙ ap (λ (k : ℕ). seen_from k a) i ∙ ap (seen_from (m + (e + 2))) (w ∙ ap (digest_in d ts) (rest s (e + 2))) ∙ seen_again m e (digest_in d ts (drop (e + 2) s)) ∙ rw (sym u ∙ z)

@@ -1,5 +1,5 @@
 -- Demand 3, first half: the digest is None exactly when no line start holds a finished item (`complete`, `sound`), and what it gave then (`heard_so`).
-use Rattle.std.specs.Prelude.{◌≡◌, ◌⊎◌, Bool, ◌||◌, List, [], ◌∷◌, ℕ, zero, suc, ◌+◌, ◌-◌, ◌≤◌, ◌<◌, length, ltb, if◌then◌else◌}
+use Rattle.std.specs.Prelude.{Option, Some, None, ◌≡◌, ◌⊎◌, Bool, ◌||◌, List, [], ◌∷◌, ℕ, zero, suc, ◌+◌, ◌-◌, ◌≤◌, ◌<◌, length, ltb, if◌then◌else◌}
 use Rattle.std.proofs.Math.Path.{refl, sym, ap}
 use Rattle.std.proofs.Common.{◌∙◌, inl, inr}
 use Rattle.std.proofs.Math.Logic.{⊎_elim}
@@ -19,14 +19,12 @@ use Rattle.table.specs.declared.Mark.TheVariants as mark
 use Rattle.lines.specs.Lines.{crlf}
 use Rattle.lines.specs.declared.Digester.{Digester}
 use Rattle.answers.specs.declared.Answer.{Answer}
-use Rattle.items.specs.declared.Tried.{Tried}
-use Rattle.items.specs.declared.Tried.TheVariants as tries
 use Rattle.answers.specs.Answer.{is_found, nothing, shift, Within}
 use Rattle.answers.specs.Laws.{placed_some, shift_within_lem}
 use Rattle.items.specs.Rules.{skipped, tried}
 use Rattle.level.specs.Laws.{skipped_le}
 use Rattle.digest.specs.Digest.{retries, again, after, digest_in}
-use Rattle.digest.specs.Finished.{Some, All, LineStart, at_crlf, only_one, FirstAlone, EndsIn, Item, Holds}
+use Rattle.digest.specs.Finished.{AnyOf, All, LineStart, at_crlf, only_one, FirstAlone, EndsIn, Item, Holds}
 use Rattle.digest.specs.Heard.{Where, Heard}
 use Rattle.digest.specs.Step.{by_length, rest_shorter, digest_step, tried_within, digest_within, retries_on}
 use Rattle.digest.specs.Items.{some_map, lf_finished, crlf_lf, stands_here, item_some, item_size, item_long, no_crlf_item}
@@ -58,9 +56,9 @@ module _ (d : Digester) (ts : List Token) (good : Texts ts) where
         } in
         found_again s e (digest_in d ts (drop (e + 2) s)) r (ih (drop (e + 2) s) (rest_shorter s e r) far n x)
 
-    at_level : (t : Tried) → tried d ts s (skipped s) ≡ t → is_found (after s (digest_in d ts) (skipped s) t) ≡ true
+    at_level : (t : Option Answer) → tried d ts s (skipped s) ≡ t → is_found (after s (digest_in d ts) (skipped s) t) ≡ true
     unfolding after
-    at_level (tries.Done a) q =
+    at_level (Some a) q =
         ⊎_elim
         (λ (h : Hit d ts s (skipped s) a). h.found)
         (λ (h : (a ≡ nothing (skipped s)) × Broken ts s (skipped s)).
@@ -74,7 +72,7 @@ module _ (d : Digester) (ts : List Token) (good : Texts ts) where
         lf_finished (drop e s) (p + 1 - e) (omega (arith, k.0)) (rw length-drop (omega (arith, k.0))) b (of_mark mark.Notice 0 ts) (mark_texts mark.Notice 0 ts good) h.1)
         (start_is s p w.start)))
         (tried_sound d ts good s (skipped s) (skipped_le s) a q)
-    at_level tries.Next q =
+    at_level None q =
         ⊎_elim
         (λ (k : p ≡ skipped s). absurd (nothing_here d ts good s (skipped s) (silent d ts good s (skipped s) q) (skipped_le s) n (rw k at w.item)))
         (λ (k : (skipped s + 2 ≤ p) × ((stands crlf s p ≡ true) × (stands crlf s (skipped s) ≡ true))). behind k)
@@ -151,7 +149,7 @@ module _ (d : Digester) (ts : List Token) (good : Texts ts) where
         (λ (g : FirstAlone 62 (drop p (drop (e + 2) s))). no_alone d ts good s e w inside 62 w.greater (alone_back 62 (drop e s) (2 + p) (before_prompt 62 (omega arith)) (rw rest_is at g)))
         (λ (g : FirstAlone 64 (drop p (drop (e + 2) s))). no_alone d ts good s e w inside 64 w.at_sign (alone_back 64 (drop e s) (2 + p) (before_prompt 64 (omega arith)) (rw rest_is at g)))
         q)
-        (λ (q : Some (λ x. EndsIn x.text (drop p (drop (e + 2) s))) (of_mark mark.Prompt 0 ts)).
+        (λ (q : AnyOf (λ x. EndsIn x.text (drop p (drop (e + 2) s))) (of_mark mark.Prompt 0 ts)).
         no_customs d ts good s e (of_mark mark.Prompt 0 ts) (mark_texts mark.Prompt 0 ts good) w.customs
         (some_map (λ x. EndsIn x.text (drop p (drop (e + 2) s))) (λ x. EndsIn x.text (drop e s)) (λ x v. ends_back x.text (drop e s) (2 + p) (rw rest_is at v)) (of_mark mark.Prompt 0 ts) q))
         (no_crlf_item d ts good (drop p (drop (e + 2) s)) none_there n i)
@@ -188,7 +186,7 @@ module _ (d : Digester) (ts : List Token) (good : Texts ts) where
   retries_crlf s e h = (and_both (stands crlf s e) (ltb 4 (length s - e)) h).0
 
   module _ (s : List ℕ) (ih : (l : List ℕ) → length l < length s → is_found (digest_in d ts l) ≡ true → Where d ts l (digest_in d ts l)) where
-    again_where : tried d ts s (skipped s) ≡ tries.Next → (r : Answer) → r ≡ digest_in d ts (drop (skipped s + 2) s) → retries s (skipped s) ≡ true → is_found r ≡ true → Where d ts s (shift (skipped s + 2) r)
+    again_where : tried d ts s (skipped s) ≡ None → (r : Answer) → r ≡ digest_in d ts (drop (skipped s + 2) s) → retries s (skipped s) ≡ true → is_found r ≡ true → Where d ts s (shift (skipped s + 2) r)
     unfolding shift
     again_where q r v h g =
         let e = skipped s in
@@ -208,16 +206,16 @@ module _ (d : Digester) (ts : List Token) (good : Texts ts) where
           within = w.digits;
           digits =
               digits_on s (e + 2) r (shift (e + 2) r) x.digits refl refl refl
-              (λ y. sym (placed_some r.digits_len (r.digits_place + (e + 2)) (λ z. omega arith)) ∙ omega arith) (omega arith);
+              (λ y. sym (placed_some r.digits.len (r.digits.start + (e + 2)) (λ z. omega arith)) ∙ omega arith) (omega arith);
           lies = w.text;
-          text = λ y. text_on d s (e + 2) r (shift (e + 2) r) (x.text y) refl refl (sym (placed_some r.text_len (r.text_place + (e + 2)) (λ z. omega arith)) ∙ omega arith) (omega arith);
+          text = λ y. text_on d s (e + 2) r (shift (e + 2) r) (x.text y) refl refl (sym (placed_some r.text.len (r.text.start + (e + 2)) (λ z. omega arith)) ∙ omega arith) (omega arith);
         }
       where
         on : (x : Where d ts (drop (skipped s + 2) s) r) → LineStart (drop (skipped s + 2) s) x.p → LineStart s (skipped s + 2 + x.p)
         on x (at_crlf c) = at_crlf (sym (stands_drop crlf s (skipped s + 2) x.p) ∙ c)
         on x (only_one a b l z) = absurd (lone s (skipped s) (silent d ts good s (skipped s) q) (skipped_le s) (retries_crlf s (skipped s) h) x.p b a x.n x.holds.item)
 
-    found_where : tried d ts s (skipped s) ≡ tries.Next → (r : Answer) → r ≡ digest_in d ts (drop (skipped s + 2) s) → (b : Bool) → retries s (skipped s) ≡ b → is_found (if b then again (skipped s) r else nothing (skipped s)) ≡ true → Where d ts s (if b then again (skipped s) r else nothing (skipped s))
+    found_where : tried d ts s (skipped s) ≡ None → (r : Answer) → r ≡ digest_in d ts (drop (skipped s + 2) s) → (b : Bool) → retries s (skipped s) ≡ b → is_found (if b then again (skipped s) r else nothing (skipped s)) ≡ true → Where d ts s (if b then again (skipped s) r else nothing (skipped s))
     unfolding again
     found_where q r v true h g = go (is_found r) refl g
       where
@@ -226,14 +224,14 @@ module _ (d : Digester) (ts : List Token) (good : Texts ts) where
         go false k m = absurd (false_true m refl)
     found_where q r v false h g = absurd (false_true g refl)
 
-    level_where : (t : Tried) → tried d ts s (skipped s) ≡ t → is_found (after s (digest_in d ts) (skipped s) t) ≡ true → Where d ts s (after s (digest_in d ts) (skipped s) t)
+    level_where : (t : Option Answer) → tried d ts s (skipped s) ≡ t → is_found (after s (digest_in d ts) (skipped s) t) ≡ true → Where d ts s (after s (digest_in d ts) (skipped s) t)
     unfolding after
-    level_where (tries.Done a) q g =
+    level_where (Some a) q g =
         ⊎_elim
         (λ (h : Hit d ts s (skipped s) a). hit_where s a (rw q at (tried_within s (skipped s) (skipped_le s) d ts)) h)
         (λ (h : (a ≡ nothing (skipped s)) × Broken ts s (skipped s)). absurd (false_true g (ap is_found h.0)))
         (tried_sound d ts good s (skipped s) (skipped_le s) a q)
-    level_where tries.Next q g = found_where q (digest_in d ts (drop (skipped s + 2) s)) refl (retries s (skipped s)) refl g
+    level_where None q g = found_where q (digest_in d ts (drop (skipped s + 2) s)) refl (retries s (skipped s)) refl g
 
   pub sound : (s : List ℕ) → is_found (digest_in d ts s) ≡ true → Where d ts s (digest_in d ts s)
   sound =
@@ -241,14 +239,14 @@ module _ (d : Digester) (ts : List Token) (good : Texts ts) where
       (λ s ih g. rw (digest_step d ts s) (level_where s ih (tried d ts s (skipped s)) refl (rw (digest_step d ts s) at g)))
 
   -- None is rule 7's or rule 2's answer, and nothing else
-  level_none : (s : List ℕ) (t : Tried) → tried d ts s (skipped s) ≡ t → is_found (after s (digest_in d ts) (skipped s) t) ≡ false → after s (digest_in d ts) (skipped s) t ≡ nothing (skipped s)
+  level_none : (s : List ℕ) (t : Option Answer) → tried d ts s (skipped s) ≡ t → is_found (after s (digest_in d ts) (skipped s) t) ≡ false → after s (digest_in d ts) (skipped s) t ≡ nothing (skipped s)
   unfolding after
-  level_none s (tries.Done a) q g =
+  level_none s (Some a) q g =
       ⊎_elim
       (λ (h : Hit d ts s (skipped s) a). absurd (false_true h.found g))
       (λ (h : (a ≡ nothing (skipped s)) × Broken ts s (skipped s)). h.0)
       (tried_sound d ts good s (skipped s) (skipped_le s) a q)
-  level_none s tries.Next q g = go (retries s (skipped s)) (digest_in d ts (drop (skipped s + 2) s)) g
+  level_none s None q g = go (retries s (skipped s)) (digest_in d ts (drop (skipped s + 2) s)) g
     where
       go : (b : Bool) (r : Answer) → is_found (if b then again (skipped s) r else nothing (skipped s)) ≡ false → (if b then again (skipped s) r else nothing (skipped s)) ≡ nothing (skipped s)
       go true r h = unfold again in on (is_found r) refl (unfold again in h)

@@ -5,14 +5,14 @@ use Rattle.findings.specs.declared.Findings.{Findings}
 use Rattle.findings.specs.Findings.{findings_in, numbers_of, findings_of, extended}
 use Rattle.selector.specs.Selector.{Choice}
 use Rattle.turn.specs.Turn.{World, held}
-use Rattle.ingress.specs.Ingress.{Result, done, refused_at, run, judged, committed, copied, after_copy, answering, written}
+use Rattle.ingress.specs.Ingress.{After, done, refused_at, run, judged, committed, copied, after_copy, answering, written}
 
 -- what a call says and leaves, and the findings' numbers that it leaves
 pub record Fed (A : Type 0) : Type 0 where
-  pub result : Result A
+  pub result : After A
   pub numbers : List ℕ
 
-abbrev pub fed : {A : Type 0} → Result A → List ℕ → Fed A
+abbrev pub fed : {A : Type 0} → After A → List ℕ → Fed A
 fed r m = record { result = r; numbers = m }
 
 -- Refusal 3 also when the findings' length isn't the buffer's end before the piece.
@@ -32,7 +32,7 @@ unless (refused n v) m w r = fed (refused_at n v w) m
 unfoldable pub renewed : Findings → ℕ → ℕ → List ℕ → List ℕ
 renewed f n e b = numbers_of (if eqb e n then f else findings_of (take e b))
 
-abbrev pub turning : Findings → World → Result (Unit {0}) → Fed (Unit {0})
+abbrev pub turning : Findings → World → After (Unit {0}) → Fed (Unit {0})
 turning f w r = fed r (renewed f w.state.end r.left.state.end r.left.buf)
 
 -- The bytes that came are looked at once; where that tells, by q, that the digest would find nothing and consume nothing, nothing is digested.
@@ -51,7 +51,7 @@ advanced_with c q n m w =
     (if ltb (length w.buf - w.state.end) n then fed (refused_at 4 [] w) m else settled c q m (committed w n))
 
 -- what is written, and what is left of it looked at afresh
-unfoldable pub afresh : Result ℕ → Fed ℕ
+unfoldable pub afresh : After ℕ → Fed ℕ
 afresh r = fed r (numbers_of (findings_of (held r.left)))
 
 abbrev pub took : ℕ → Fed (Unit {0}) → Fed ℕ

@@ -22,7 +22,7 @@ use Rattle.turn.specs.Turn.{is_refused, World, held, says, delivering, went, onc
 use Rattle.turn.specs.Says.{held_long, says_answers, says_within}
 use Rattle.turn.specs.Laws.{once_goes}
 use Rattle.turn.specs.Kept.{Good, idle_next, waits_full}
-use Rattle.ingress.specs.Ingress.{Result, done, refused_at, run, judged, unless_refused, committed, advanced, Writing, wrote, stopped, copied, after_copy, write_once, then_write, write_on, answering, written}
+use Rattle.ingress.specs.Ingress.{After, done, refused_at, run, judged, unless_refused, committed, advanced, Writing, wrote, stopped, copied, after_copy, write_once, then_write, write_on, answering, written}
 use Rattle.ingress.specs.Laws.{passed, passes, run_empty, run_still, copy_none, write_step, write_refused}
 use Rattle.ingress.specs.Story.{Stretch, consumed, came_by, went_by, flat, Story, Arrives, committed_bytes}
 use Rattle.ingress.specs.Kept.{story_bytes, run_ends}
@@ -38,7 +38,7 @@ abbrev pub Right : Choice → (Findings → List ℕ → Bool) → Type 0
 Right c q = (n : ℕ) → c.rules ≡ answered n → (s : List ℕ) → length s ≤ 4096 → q (findings_of s) s ≡ true → c.answers s ≡ nothing 0
 
 -- a result, with the findings of what it leaves held
-abbrev pub found : {A : Type 0} → Result A → Fed A
+abbrev pub found : {A : Type 0} → After A → Fed A
 found r = fed r (numbers_of (findings_of (held r.left)))
 
 -- bytes that arrive carry genuine findings on to genuine ones
@@ -129,14 +129,14 @@ module _ (c : Choice) (p : List ℕ) where
     unfolding then_write
     write_whole = go (is_refused (run c (copied w p)).said) refl ∙ ap (λ (x : Writing). then_write x 0 (write_on c p)) one_copy ∙ sym (write_step c p 0 w)
       where
-        r : Result (Unit {0})
+        r : After (Unit {0})
         r = run c (copied w p)
 
         go : (b : Bool) → is_refused r.said ≡ b → (if b then stopped (length p) r.left else wrote (length p) r.left) ≡ then_write (if b then stopped (length p) r.left else wrote (length p) r.left) 0 (write_on c p)
         go true e = let i : length p ≡ 0 + length p = omega arith in ap (λ (n : ℕ). stopped n r.left) i
         go false e = let i : length p ≡ 0 + length p = omega arith in write_done r.left (length p) (omega arith) ∙ ap (λ (n : ℕ). write_on c p n r.left) i ∙ sym (rw (le-leb 1 (length p) l))
 
-after_left : (r : Result (Unit {0})) (n : ℕ) → (answering (after_copy r n)).left ≡ r.left
+after_left : (r : After (Unit {0})) (n : ℕ) → (answering (after_copy r n)).left ≡ r.left
 after_left r n = ways (λ (x : Writing). (answering x).left ≡ r.left) (is_refused r.said) (λ e. refl) (λ e. refl)
 
 -- the calls
@@ -153,7 +153,7 @@ module _ (c : Choice) (q : Findings → List ℕ → Bool) (right : Right c q) (
       go (answered x) e = rw (eq-eqb (findings_in m).seen w.state.end (omega (arith, seen_is, held_long w, (passed c w (sym e)).inside)))
       go (refused k v) e = refl
 
-  unless_found : {A : Type 0} (o : Outcome (Unit {0})) (r : Fed A) (x : Result A) → (answered tt ≡ o → r ≡ found x) → unless o m w r ≡ found (unless_refused o w x)
+  unless_found : {A : Type 0} (o : Outcome (Unit {0})) (r : Fed A) (x : After A) → (answered tt ≡ o → r ≡ found x) → unless o m w r ≡ found (unless_refused o w x)
   unfolding unless unless_refused
   unless_found (answered y) r x h = h refl
   unless_found (refused k v) r x h = ap (fed (refused_at k v w)) g

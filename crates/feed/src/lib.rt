@@ -11,7 +11,7 @@ ghost use Rattle.quiet.specs.Quiet.{still};
 ghost use Rattle.feed.specs.Feed.{fitting, renewed, settled, fed, write_in, advanced_with, written_with};
 
 use findings::{Findings, NUMBERS};
-use ingress::{Advanced, Checks, Ran, Written};
+use ingress::{AdvanceError, CheckError, RunError, WriteError};
 use selector::Selector;
 use turn::State;
 
@@ -24,18 +24,18 @@ fn judge(
     buf: usize,
     slot_mem: usize,
     queue_mem: usize,
-) -> Checks
+) -> Result<(), CheckError>
     ensures { refusal result ≡ fitting (checks (choice selector table.now).rules state buf slot_mem queue_mem) fits }
 {
     match ingress::judge(selector, state, table, buf, slot_mem, queue_mem) {
-        Checks::TooLong => Checks::TooLong,
-        Checks::BadTable(k) => Checks::BadTable(k),
-        Checks::BadState => Checks::BadState,
-        Checks::Good => {
+        Err(CheckError::TooLong) => Err(CheckError::TooLong),
+        Err(CheckError::BadTable(k)) => Err(CheckError::BadTable(k)),
+        Err(CheckError::BadState) => Err(CheckError::BadState),
+        Ok(()) => {
             if !fits {
-                return Checks::BadState;
+                return Err(CheckError::BadState);
             }
-            Checks::Good
+            Ok(())
         }
     }
 }
@@ -62,23 +62,23 @@ fn settle(
     buf: &mut [u8],
     slot_mem: &mut [u8],
     queue_mem: &mut [u8],
-) -> Ran
+) -> Result<State, RunError>
     ensures { fed (ran result buf.new slot_mem.new queue_mem.new) numbers.new ≡ settled (choice selector table.now) (still selector table.now) numbers.old (world state buf.old slot_mem.old queue_mem.old) }
 {
     let end = text::fitting(state.end, buf.len());
     let known = findings::extend(findings::of_numbers(numbers), &buf[..end]);
     if quiet::is_still(selector, table, known, &buf[..end]) {
         findings::lay(numbers, known);
-        return Ran::Is(state);
+        return Ok(state);
     }
     match ingress::run(selector, table, state, buf, slot_mem, queue_mem) {
-        Ran::Is(s) => {
+        Ok(s) => {
             renew(numbers, known, state.end, s.end, buf);
-            Ran::Is(s)
+            Ok(s)
         }
-        Ran::Full(s) => {
+        Err(RunError::Full(s)) => {
             renew(numbers, known, state.end, s.end, buf);
-            Ran::Full(s)
+            Err(RunError::Full(s))
         }
     }
 }
@@ -93,7 +93,7 @@ pub fn advance(
     buf: &mut [u8],
     slot_mem: &mut [u8],
     queue_mem: &mut [u8],
-) -> Advanced
+) -> Result<State, AdvanceError>
     ensures { fed (result_of state result buf.new slot_mem.new queue_mem.new) numbers.new ≡ advanced_with (choice selector table.now) (still selector table.now) commit numbers.old (world state buf.old slot_mem.old queue_mem.old) }
 {
     let room = buf.len();
@@ -107,13 +107,13 @@ pub fn advance(
         slot_mem.len(),
         queue_mem.len(),
     ) {
-        Checks::TooLong => Advanced::TooLong,
-        Checks::BadTable(k) => Advanced::BadTable(k),
-        Checks::BadState => Advanced::BadState,
-        Checks::Good => {
+        Err(CheckError::TooLong) => Err(AdvanceError::TooLong),
+        Err(CheckError::BadTable(k)) => Err(AdvanceError::BadTable(k)),
+        Err(CheckError::BadState) => Err(AdvanceError::BadState),
+        Ok(()) => {
             let end = state.end;
             if room - end < commit {
-                return Advanced::NoRoom;
+                return Err(AdvanceError::NoRoom);
             }
             match settle(
                 selector,
@@ -124,23 +124,23 @@ pub fn advance(
                 slot_mem,
                 queue_mem,
             ) {
-                Ran::Is(s) => Advanced::Is(s),
-                Ran::Full(s) => Advanced::Full(s),
+                Ok(s) => Ok(s),
+                Err(RunError::Full(s)) => Err(AdvanceError::Full(s)),
             }
         }
     }
 }
 
 // Where the bytes held end after a write.
-fn end_of(wrote: Written, state: State) -> usize
+fn end_of(wrote: Result<(State, usize), WriteError>, state: State) -> usize
     ensures { result ≡ (write_says state wrote).1.end }
 {
     match wrote {
-        Written::Is(s, _) => s.end,
-        Written::Full(s, _) => s.end,
-        Written::TooLong => state.end,
-        Written::BadTable(_) => state.end,
-        Written::BadState => state.end,
+        Ok((s, _)) => s.end,
+        Err(WriteError::Full(s, _)) => s.end,
+        Err(WriteError::TooLong) => state.end,
+        Err(WriteError::BadTable(_)) => state.end,
+        Err(WriteError::BadState) => state.end,
     }
 }
 
@@ -154,7 +154,7 @@ fn write_in(
     buf: &mut [u8],
     slot_mem: &mut [u8],
     queue_mem: &mut [u8],
-) -> Written
+) -> Result<(State, usize), WriteError>
     requires { state.end ≤ length buf.old }
     ensures { fed (taking state result buf.new slot_mem.new queue_mem.new) numbers.new ≡ write_in (choice selector table.now) (still selector table.now) piece.now numbers.old (world state buf.old slot_mem.old queue_mem.old) }
 {
@@ -167,7 +167,7 @@ fn write_in(
         return wrote;
     }
     if n == 0 {
-        return Written::Is(state, 0);
+        return Ok((state, 0));
     }
     moves::put(buf, end, piece);
     match settle(
@@ -179,8 +179,8 @@ fn write_in(
         slot_mem,
         queue_mem,
     ) {
-        Ran::Is(s) => Written::Is(s, n),
-        Ran::Full(s) => Written::Full(s, n),
+        Ok(s) => Ok((s, n)),
+        Err(RunError::Full(s)) => Err(WriteError::Full(s, n)),
     }
 }
 
@@ -194,7 +194,7 @@ pub fn write(
     buf: &mut [u8],
     slot_mem: &mut [u8],
     queue_mem: &mut [u8],
-) -> Written
+) -> Result<(State, usize), WriteError>
     ensures { fed (taking state result buf.new slot_mem.new queue_mem.new) numbers.new ≡ written_with (choice selector table.now) (still selector table.now) piece.now numbers.old (world state buf.old slot_mem.old queue_mem.old) }
 {
     let fit = numbers[0] as usize == state.end;
@@ -207,10 +207,10 @@ pub fn write(
         slot_mem.len(),
         queue_mem.len(),
     ) {
-        Checks::TooLong => Written::TooLong,
-        Checks::BadTable(k) => Written::BadTable(k),
-        Checks::BadState => Written::BadState,
-        Checks::Good => write_in(
+        Err(CheckError::TooLong) => Err(WriteError::TooLong),
+        Err(CheckError::BadTable(k)) => Err(WriteError::BadTable(k)),
+        Err(CheckError::BadState) => Err(WriteError::BadState),
+        Ok(()) => write_in(
             state, piece, selector, table, numbers, buf, slot_mem, queue_mem,
         ),
     }

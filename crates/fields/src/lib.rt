@@ -10,13 +10,6 @@ pub type Memory = [u8; LENGTH];
 // The largest number that is read.
 pub const MOST: u32 = 4294967295;
 
-// A number, or what isn't one.
-#[derive(Clone, Copy)]
-pub enum Amount {
-    Is(u32),
-    Bad,
-}
-
 // Is it `-`, which stands for no bytes and for no ops?
 pub fn is_none(s: &[u8]) -> bool {
     if s.len() != 1 {
@@ -91,16 +84,16 @@ pub fn part_of(s: &[u8], k: usize, b: u8) -> &[u8] {
 // n with one more decimal digit.
 fn with_digit(n: u32, b: u8) -> Amount {
     if b < 48 {
-        return Amount::Bad;
+        return None;
     }
     if 57 < b {
-        return Amount::Bad;
+        return None;
     }
     let next = (n as u64) * 10 + ((b - 48) as u64);
     if 4294967295 < next {
-        return Amount::Bad;
+        return None;
     }
-    Amount::Is(next as u32)
+    Some(next as u32)
 }
 
 // All of s as a decimal number.
@@ -109,30 +102,30 @@ fn decimal(s: &[u8]) -> Amount {
     let mut i = 0;
     while i < s.len() {
         match with_digit(n, s[i]) {
-            Amount::Bad => {
-                return Amount::Bad;
+            None => {
+                return None;
             }
-            Amount::Is(next) => {
+            Some(next) => {
                 n = next;
             }
         }
         i += 1;
     }
-    Amount::Is(n)
+    Some(n)
 }
 
 // A decimal number of at least one digit, at most `most`.
 pub fn number(s: &[u8], most: u32) -> Amount {
     if s.len() == 0 {
-        return Amount::Bad;
+        return None;
     }
     match decimal(s) {
-        Amount::Bad => Amount::Bad,
-        Amount::Is(n) => {
+        None => None,
+        Some(n) => {
             if most < n {
-                return Amount::Bad;
+                return None;
             }
-            Amount::Is(n)
+            Some(n)
         }
     }
 }

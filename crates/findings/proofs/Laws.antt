@@ -1,5 +1,5 @@
 -- Findings carried on piece by piece are those of all the bytes at once. Rests on scan's law of the same, and on text's laws of `keep` and `find_in`.
-use Rattle.std.specs.Prelude.{◌≡◌, refl, Bool, true, List, [], ◌∷◌, ◌++◌, ℕ, ◌+◌, ◌≤◌, ◌<◌, length, drop, if◌then◌else◌}
+use Rattle.std.specs.Prelude.{Option, Some, None, ◌≡◌, refl, Bool, true, List, [], ◌∷◌, ◌++◌, ℕ, ◌+◌, ◌≤◌, ◌<◌, length, drop, if◌then◌else◌}
 use Rattle.std.proofs.Math.Path.{sym, ap}
 use Rattle.std.proofs.Common.{◌∙◌, ⊎_elim, arith, length-drop}
 use Rattle.std.proofs.Math.Bool.{false}
@@ -12,8 +12,6 @@ use Rattle.text.specs.Logic.{order}
 use Rattle.text.specs.Text.{is_blank, keep, find_in}
 use Rattle.text.specs.Laws.{find_later, find_behind, found_none, keep_front, keep_both, stands_behind}
 use Rattle.text.specs.declared.Blanks.TheVariants.{Run}
-use Rattle.text.specs.declared.Found.{Found}
-use Rattle.text.specs.declared.Found.TheVariants.{At, Nothing}
 use Rattle.lines.specs.Lines.{fixed_text}
 use Rattle.lines.specs.declared.Fixed.TheVariants.{Na}
 use Rattle.scan.specs.Scan as scan
@@ -27,10 +25,10 @@ use Rattle.findings.specs.declared.Findings.{Findings}
 
 -- an NA line: one that the first piece ends is the first in both; else it may have begun in that piece's last five bytes
 module _ (s t : List ℕ) (n : ℕ) (h : n ≤ length s) where
-  na_on : (r : Found) → find_in (fixed_text Na) s (na_from n) ≡ r → na_end (s ++ t) (length s) (scan.end_of (fixed_text Na) r) ≡ scan.end_of (fixed_text Na) (find_in (fixed_text Na) (s ++ t) (na_from n))
+  na_on : (r : Option ℕ) → find_in (fixed_text Na) s (na_from n) ≡ r → na_end (s ++ t) (length s) (scan.end_of (fixed_text Na) r) ≡ scan.end_of (fixed_text Na) (find_in (fixed_text Na) (s ++ t) (na_from n))
   unfolding na_end scan.end_of
-  na_on (At p) e = rw (ne_eqb (p + 6) 0 (λ z. absurd (omega arith)), find_behind (fixed_text Na) s t (na_from n) p (na_fits s (na_from n) p e) e)
-  na_on Nothing e =
+  na_on (Some p) e = rw (ne_eqb (p + 6) 0 (λ z. absurd (omega arith)), find_behind (fixed_text Na) s t (na_from n) p (na_fits s (na_from n) p e) e)
+  na_on None e =
       ap (scan.end_of (fixed_text Na))
       (sym (find_later (fixed_text Na) (s ++ t) (na_from n) (na_from (length s)) (omega arith) (λ j g l. stands_behind (fixed_text Na) s t j (omega arith) ∙ found_none (fixed_text Na) s (na_from n) e j g)))
 

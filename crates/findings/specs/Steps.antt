@@ -1,5 +1,5 @@
 -- The ways out of the functions, as the code takes them. Rests on text's laws of `keep` and `find_in`.
-use Rattle.std.specs.Prelude.{◌≡◌, Bool, true, false, List, ℕ, ◌+◌, ◌-◌, ◌≤◌, ◌<◌, length, get_or, drop}
+use Rattle.std.specs.Prelude.{Option, Some, ◌≡◌, Bool, true, false, List, ℕ, ◌+◌, ◌-◌, ◌≤◌, ◌<◌, length, get_or, drop}
 use Rattle.std.proofs.Common.{sym, ◌∙◌, ⊎_elim, arith, length-drop, get_or-drop}
 use Rattle.std.proofs.Math.Path.{ap}
 use borrow.Author.Tests.{eq-eqb, ne_eqb}
@@ -7,8 +7,6 @@ use Rattle.text.specs.Logic.{false_true, order}
 use Rattle.text.specs.Text.{is_blank, keep, find_in}
 use Rattle.text.specs.Laws.{found_at, stands_fits, keep_is, keep_le, keep_stops}
 use Rattle.text.specs.declared.Blanks.TheVariants.{Run}
-use Rattle.text.specs.declared.Found.{Found}
-use Rattle.text.specs.declared.Found.TheVariants.{At}
 use Rattle.lines.specs.Lines.{fixed_text}
 use Rattle.lines.specs.declared.Fixed.TheVariants.{Na}
 use Rattle.scan.specs.Scan as scan
@@ -17,7 +15,7 @@ use Rattle.findings.specs.Findings.{not_lf, na_from, na_end, last_end, texts_of,
 use Rattle.findings.specs.declared.Findings.{Findings}
 
 -- the NA line: known, found, or not there
-pub na_fits : (s : List ℕ) (i p : ℕ) → find_in (fixed_text Na) s i ≡ At p → p + 6 ≤ length s
+pub na_fits : (s : List ℕ) (i p : ℕ) → find_in (fixed_text Na) s i ≡ Some p → p + 6 ≤ length s
 na_fits s i p e = stands_fits (fixed_text Na) s p (omega arith) (found_at (fixed_text Na) s i p e).here
 
 module _ (s : List ℕ) (n e : ℕ) where
@@ -25,7 +23,7 @@ module _ (s : List ℕ) (n e : ℕ) where
   unfolding na_end
   na_known h = rw (ne_eqb e 0 h)
 
-  pub na_sought : e ≡ 0 → (i : ℕ) → i ≡ na_from n → (r : Found) → find_in (fixed_text Na) s i ≡ r → scan.end_of (fixed_text Na) r ≡ na_end s n e
+  pub na_sought : e ≡ 0 → (i : ℕ) → i ≡ na_from n → (r : Option ℕ) → find_in (fixed_text Na) s i ≡ r → scan.end_of (fixed_text Na) r ≡ na_end s n e
   unfolding na_end
   na_sought z i w r q = rw (eq-eqb e 0 z) (ap (scan.end_of (fixed_text Na)) (sym q ∙ ap (find_in (fixed_text Na) s) w))
 

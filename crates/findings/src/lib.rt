@@ -7,7 +7,7 @@ ghost use Rattle.text.specs.Text.{is_blank};
 ghost use Rattle.findings.specs.Findings.{not_lf, na_from, na_end, last_end, findings_of, extended, findings_in, numbers_of};
 
 use lines::Fixed;
-use text::{Blanks, Found};
+use text::Blanks;
 
 // How many bytes these are about, the table's state after them, and where the first occurrence of each of the eleven texts ends;
 // where the first NA line ends, the last byte that is no run blank, and the last LF. An end is 0 for none.
@@ -55,7 +55,7 @@ fn na_end(s: &[u8], n: usize, e: usize) -> usize
     if e != 0 {
         return e;
     }
-    if let Found::At(p) = lines::find_fixed(s, back(n), Fixed::Na) {
+    if let Some(p) = lines::find_fixed(s, back(n), Fixed::Na) {
         return p + lines::fixed_len(Fixed::Na);
     }
     0

@@ -1,5 +1,5 @@
 -- The calls of document 01 as numbers: what an export returns and leaves.
-use Rattle.std.specs.Prelude.{◌≡◌, Bool, List, [], ◌∷◌, ℕ, length, eqb, if◌then◌else◌}
+use Rattle.std.specs.Prelude.{Option, Some, None, ◌≡◌, Bool, List, [], ◌∷◌, ℕ, length, eqb, if◌then◌else◌}
 use Rattle.text.specs.Text.{part_of, part_at}
 use Rattle.outcome.specs.Outcome.{Outcome, answered, refused}
 use Rattle.lists.specs.Grammar as lists
@@ -10,12 +10,10 @@ use Rattle.slot.specs.Slot as slots
 use Rattle.slot.specs.declared.Slot.{Slot}
 use Rattle.queue.specs.Queue.{Got, got, empty}
 use Rattle.queue.specs.Queue as queues
-use Rattle.ingress.specs.Ingress.{Result}
+use Rattle.ingress.specs.Ingress.{After}
 use Rattle.feed.specs.Feed.{Fed}
 use Rattle.turn.specs.declared.State.{State}
 use Rattle.writer.specs.Writer.{Saying}
-use Rattle.writer.specs.declared.Given.{Given}
-use Rattle.writer.specs.declared.Given.TheVariants.{None, Is}
 use Rattle.numbers.specs.Numbers.{held_number, with_slot, with_queue, with_state, laid}
 
 -- what is returned: the refusal's number, 0 where the call isn't refused
@@ -127,7 +125,7 @@ numbers_left (refused n w) v s = if eqb n 5 then with_state v s else v
 abbrev pub left_said : {A : Type 0} → (A → List ℕ) → Outcome A × State → List ℕ → List ℕ → Take
 left_said f x v o = took (number_of x.0) (numbers_left x.0 v x.1) (laid (values_of f x.0) o)
 
-abbrev pub whole_said : {A : Type 0} → (A → List ℕ) → Result A → List ℕ → List ℕ → Whole
+abbrev pub whole_said : {A : Type 0} → (A → List ℕ) → After A → List ℕ → List ℕ → Whole
 whole_said f r v o = whole (number_of r.said) (numbers_left r.said v r.left.state) (laid (values_of f r.said) o) r.left.buf r.left.slot_memory r.left.queue_memory
 
 -- an advance answers nothing
@@ -146,8 +144,8 @@ abbrev pub feed_said : {A : Type 0} → (A → List ℕ) → Fed A → List ℕ 
 feed_said f r v o = feeding (whole_said f r.result v o) r.numbers
 
 -- the number that goes along with a kind of R-12, or none
-abbrev pub given_as : Bool → ℕ → Given
-given_as b n = if b then Is n else None
+abbrev pub given_as : Bool → ℕ → Option ℕ
+given_as b n = if b then Some n else None
 
 -- an answer that is written (R-12): what is returned and left of the array, and the output memory that is left
 pub record Spoken : Type 0 where

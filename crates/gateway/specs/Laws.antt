@@ -1,5 +1,5 @@
 -- The ways out of the exports, each with what led there.
-use Rattle.std.specs.Prelude.{◌≡◌, refl, true, false, List, [], ◌∷◌, ℕ, ◌+◌, ◌≤◌, ◌<◌, min, length, take, leb}
+use Rattle.std.specs.Prelude.{Option, None, Result, ◌≡◌, refl, true, false, List, [], ◌∷◌, ℕ, ◌+◌, ◌≤◌, ◌<◌, min, length, take, leb}
 use Rattle.std.proofs.Common.{sym, ap, ◌∙◌, subst, le-leb}
 use Rattle.std.proofs.lemmas.Bool.{lt-leb}
 use Rattle.text.specs.Text.{part_of, part_at}
@@ -18,23 +18,22 @@ use Rattle.lists.specs.declared.Listed.{Listed}
 use Rattle.slot.specs.Slot as slots
 use Rattle.slot.specs.Laws as slot_laws
 use Rattle.slot.specs.declared.Slot.{Slot}
-use Rattle.slot.specs.declared.Turned.{Turned}
-use Rattle.slot.specs.declared.Reset.{Reset}
+use Rattle.slot.specs.declared.SlotError.{SlotError}
+use Rattle.slot.specs.declared.ResetError.{ResetError}
 use Rattle.queue.specs.Queue.{Got, ours}
 use Rattle.queue.specs.Queue as queues
 use Rattle.queue.specs.declared.Queue.{Queue}
-use Rattle.queue.specs.declared.Taken.{Taken}
+use Rattle.queue.specs.declared.TakeError.{TakeError}
 use Rattle.turn.specs.Turn.{world}
 use Rattle.turn.specs.Says.{held_is}
-use Rattle.ingress.specs.Ingress.{Result, advance_says, advanced, result_of, write_says, written, taking}
+use Rattle.ingress.specs.Ingress.{After, advance_says, advanced, result_of, write_says, written, taking}
 use Rattle.turn.specs.declared.State.{State}
-use Rattle.ingress.specs.declared.Advanced.{Advanced}
-use Rattle.ingress.specs.declared.Written.{Written}
+use Rattle.ingress.specs.declared.AdvanceError.{AdvanceError}
+use Rattle.ingress.specs.declared.WriteError.{WriteError}
 use Rattle.feed.specs.Feed.{Fed, fed, advanced_with, written_with}
 use Rattle.writer.specs.Writer.{Saying, saying, say}
 use Rattle.writer.specs.Writer as writers
-use Rattle.writer.specs.declared.Given.{Given}
-use Rattle.writer.specs.declared.Said.{Said}
+use Rattle.writer.specs.declared.SayError.{SayError}
 use Rattle.numbers.specs.Numbers.{selector_of, word, held_number, answer_of, slot_of, queue_of, state_of, with_slot, with_queue, laid}
 use Rattle.numbers.specs.Laws.{ten, slot_stays, freed_stays}
 use Rattle.gateway.specs.Gateway.{number_of, values_of, Call, call, said, listing, Listing, part_values, numbers_by, reset_said, Turn, turn, signal_said, put_said, read_values, got_values, with_got, Take, took, take_said, Whole, whole, left_said, whole_said, count_values, no_values, Feeding, feeding, feed_said, Spoken, spoken, saying_said}
@@ -77,16 +76,16 @@ slot_part v m o s es p e =
     ∙ ap (λ (y : Slot). laid (part_values m 0 (slots.readable y)) o) es
 
 -- a signal: the slot s read from the numbers v, the answer a from the array w, the call's outcome r with the memory k that it left
-pub signal_is : (v w p m : List ℕ) (s : Slot) → s ≡ slot_of v → (a : Answer) → a ≡ answer_of w → (r : Turned) (k : List ℕ) → slots.after (slots.outcome r) k ≡ slots.signalled s a p m → (x : Turned) → r ≡ x → (u : List ℕ) → u ≡ numbers_by with_slot (slots.outcome x) v → turn (number_of (slots.outcome x)) u k ≡ signal_said (slots.signalled (slot_of v) (answer_of w) p m) v
+pub signal_is : (v w p m : List ℕ) (s : Slot) → s ≡ slot_of v → (a : Answer) → a ≡ answer_of w → (r : Result Slot SlotError) (k : List ℕ) → slots.after (slots.outcome r) k ≡ slots.signalled s a p m → (x : Result Slot SlotError) → r ≡ x → (u : List ℕ) → u ≡ numbers_by with_slot (slots.outcome x) v → turn (number_of (slots.outcome x)) u k ≡ signal_said (slots.signalled (slot_of v) (answer_of w) p m) v
 signal_is v w p m s es a ea r k e x q u f =
     ap (λ (z : List ℕ). turn (number_of (slots.outcome x)) z k) f
-    ∙ ap (λ (y : Turned). signal_said (slots.after (slots.outcome y) k) v) (sym q)
+    ∙ ap (λ (y : Result Slot SlotError). signal_said (slots.after (slots.outcome y) k) v) (sym q)
     ∙ ap (λ (z : slots.After). signal_said z v) (e ∙ (λ i. slots.signalled (es i) (ea i) p m))
 
-pub reset_is : (v m : List ℕ) (n : ℕ) (s : Slot) → s ≡ slot_of v → (r : Reset) → slots.resetting r ≡ slots.was_reset s n m → (x : Reset) → r ≡ x → (u : List ℕ) → u ≡ numbers_by with_slot (slots.resetting x) v → call (number_of (slots.resetting x)) u ≡ reset_said (slots.was_reset (slot_of v) n m) v
+pub reset_is : (v m : List ℕ) (n : ℕ) (s : Slot) → s ≡ slot_of v → (r : Result Slot ResetError) → slots.resetting r ≡ slots.was_reset s n m → (x : Result Slot ResetError) → r ≡ x → (u : List ℕ) → u ≡ numbers_by with_slot (slots.resetting x) v → call (number_of (slots.resetting x)) u ≡ reset_said (slots.was_reset (slot_of v) n m) v
 reset_is v m n s es r e x q u f =
     ap (call (number_of (slots.resetting x))) f
-    ∙ ap (λ (y : Reset). reset_said (slots.resetting y) v) (sym q)
+    ∙ ap (λ (y : Result Slot ResetError). reset_said (slots.resetting y) v) (sym q)
     ∙ ap (λ (z : Outcome Slot). reset_said z v) (e ∙ ap (λ (y : Slot). slots.was_reset y n m) es)
 
 -- a put or a conversion: likewise, by what the call leaves of a queue, and what its answers' outcomes are
@@ -96,10 +95,10 @@ queued_is {R} outcome leaves v s t es r k e x q u f =
     ∙ ap (λ (y : R). put_said (queues.after (outcome y) k) v) (sym q)
     ∙ ap (λ (z : queues.After). put_said z v) (e ∙ ap leaves es)
 
-pub take_is : (v o m : List ℕ) (s : Queue) → s ≡ queue_of v → (r : Taken) → queues.taking r ≡ queues.taken ours s m → (x : Taken) → r ≡ x → (u : List ℕ) → u ≡ numbers_by with_got (queues.taking x) v → (k : List ℕ) → k ≡ laid (values_of got_values (queues.taking x)) o → took (number_of (queues.taking x)) u k ≡ take_said (queues.taken ours (queue_of v) m) v o
+pub take_is : (v o m : List ℕ) (s : Queue) → s ≡ queue_of v → (r : Result (Queue × Option Notice) TakeError) → queues.taking r ≡ queues.taken ours s m → (x : Result (Queue × Option Notice) TakeError) → r ≡ x → (u : List ℕ) → u ≡ numbers_by with_got (queues.taking x) v → (k : List ℕ) → k ≡ laid (values_of got_values (queues.taking x)) o → took (number_of (queues.taking x)) u k ≡ take_said (queues.taken ours (queue_of v) m) v o
 take_is v o m s es r e x q u f k g =
     (λ i. took (number_of (queues.taking x)) (f i) (g i))
-    ∙ ap (λ (y : Taken). take_said (queues.taking y) v o) (sym q)
+    ∙ ap (λ (y : Result (Queue × Option Notice) TakeError). take_said (queues.taking y) v o) (sym q)
     ∙ ap (λ (z : Outcome Got). take_said z v o) (e ∙ ap (λ (y : Queue). queues.taken ours y m) es)
 
 -- an advance or a write: its answer r is one of the cases x, whose numbers are laid;
@@ -108,18 +107,18 @@ laid_is says f v o r x q n u k e = e ∙ ap (λ (y : _). left_said f (says y) v 
 
 -- from the state s read from the numbers v, by the digester of a number, with what it left of the three memories
 module _ (v o : List ℕ) (s : State) (es : s ≡ state_of v) (j : ℕ) (d : Selector) (ed : d ≡ selector_of j) (t b m n b' m' n' : List ℕ) (x : ℕ) (u k : List ℕ) where
-  pub advance_is : (c : ℕ) (r : Advanced) → result_of s r b' m' n' ≡ advanced (choice d t) c (world s b m n) → took x u k ≡ left_said no_values (advance_says (state_of v) r) v o → whole x u k b' m' n' ≡ whole_said no_values (advanced (choice (selector_of j) t) c (world (state_of v) b m n)) v o
-  advance_is c r e g = ap (λ (y : Take). whole y.number y.state y.out b' m' n') g ∙ ap (λ (z : Result Unit). whole_said no_values z v o) (rw (es, ed) at e)
+  pub advance_is : (c : ℕ) (r : Result State AdvanceError) → result_of s r b' m' n' ≡ advanced (choice d t) c (world s b m n) → took x u k ≡ left_said no_values (advance_says (state_of v) r) v o → whole x u k b' m' n' ≡ whole_said no_values (advanced (choice (selector_of j) t) c (world (state_of v) b m n)) v o
+  advance_is c r e g = ap (λ (y : Take). whole y.number y.state y.out b' m' n') g ∙ ap (λ (z : After Unit). whole_said no_values z v o) (rw (es, ed) at e)
 
-  pub write_is : (p : List ℕ) (r : Written) → taking s r b' m' n' ≡ written (choice d t) p (world s b m n) → took x u k ≡ left_said count_values (write_says (state_of v) r) v o → whole x u k b' m' n' ≡ whole_said count_values (written (choice (selector_of j) t) p (world (state_of v) b m n)) v o
-  write_is p r e g = ap (λ (y : Take). whole y.number y.state y.out b' m' n') g ∙ ap (λ (z : Result ℕ). whole_said count_values z v o) (rw (es, ed) at e)
+  pub write_is : (p : List ℕ) (r : Result (State × ℕ) WriteError) → taking s r b' m' n' ≡ written (choice d t) p (world s b m n) → took x u k ≡ left_said count_values (write_says (state_of v) r) v o → whole x u k b' m' n' ≡ whole_said count_values (written (choice (selector_of j) t) p (world (state_of v) b m n)) v o
+  write_is p r e g = ap (λ (y : Take). whole y.number y.state y.out b' m' n') g ∙ ap (λ (z : After ℕ). whole_said count_values z v o) (rw (es, ed) at e)
 
   -- with the findings' numbers f, of which it left f' (R-14)
   module _ (f f' : List ℕ) where
-    pub feed_advance_is : (c : ℕ) (r : Advanced) → fed (result_of s r b' m' n') f' ≡ advanced_with (choice d t) (still d t) c f (world s b m n) → took x u k ≡ left_said no_values (advance_says (state_of v) r) v o → feeding (whole x u k b' m' n') f' ≡ feed_said no_values (advanced_with (choice (selector_of j) t) (still (selector_of j) t) c f (world (state_of v) b m n)) v o
+    pub feed_advance_is : (c : ℕ) (r : Result State AdvanceError) → fed (result_of s r b' m' n') f' ≡ advanced_with (choice d t) (still d t) c f (world s b m n) → took x u k ≡ left_said no_values (advance_says (state_of v) r) v o → feeding (whole x u k b' m' n') f' ≡ feed_said no_values (advanced_with (choice (selector_of j) t) (still (selector_of j) t) c f (world (state_of v) b m n)) v o
     feed_advance_is c r e g = ap (λ (y : Take). feeding (whole y.number y.state y.out b' m' n') f') g ∙ ap (λ (z : Fed Unit). feed_said no_values z v o) (rw (es, ed) at e)
 
-    pub feed_write_is : (p : List ℕ) (r : Written) → fed (taking s r b' m' n') f' ≡ written_with (choice d t) (still d t) p f (world s b m n) → took x u k ≡ left_said count_values (write_says (state_of v) r) v o → feeding (whole x u k b' m' n') f' ≡ feed_said count_values (written_with (choice (selector_of j) t) (still (selector_of j) t) p f (world (state_of v) b m n)) v o
+    pub feed_write_is : (p : List ℕ) (r : Result (State × ℕ) WriteError) → fed (taking s r b' m' n') f' ≡ written_with (choice d t) (still d t) p f (world s b m n) → took x u k ≡ left_said count_values (write_says (state_of v) r) v o → feeding (whole x u k b' m' n') f' ≡ feed_said count_values (written_with (choice (selector_of j) t) (still (selector_of j) t) p f (world (state_of v) b m n)) v o
     feed_write_is p r e g = ap (λ (y : Take). feeding (whole y.number y.state y.out b' m' n') f') g ∙ ap (λ (z : Fed ℕ). feed_said count_values z v o) (rw (es, ed) at e)
 
 -- the findings of what is in the buffer b, n of its bytes, as the numbers m
@@ -127,10 +126,10 @@ pub start_is : (v b m : List ℕ) (s : State) → s ≡ state_of v → (n : ℕ)
 start_is v b m s es n h f e g = g ∙ ap numbers_of (e ∙ ap findings_of (held_is s b [] [] n h ∙ ap (λ (x : State). take x.end b) es))
 
 -- an answer that is written (R-12): the kind k by its number, the number g as given, the call's outcome r with the memory n that it left
-pub say_is : (t p m o : List ℕ) (k l : Kind) → k ≡ l → (g h : Given) → g ≡ h → (r : Said) (n : List ℕ) → saying r n ≡ say t k g p m → (x : Said) → r ≡ x → (u : List ℕ) → u ≡ laid (values_of count_values (writers.outcome x)) o → spoken (call (number_of (writers.outcome x)) u) n ≡ saying_said (say t l h p m) o
+pub say_is : (t p m o : List ℕ) (k l : Kind) → k ≡ l → (g h : Option ℕ) → g ≡ h → (r : Result ℕ SayError) (n : List ℕ) → saying r n ≡ say t k g p m → (x : Result ℕ SayError) → r ≡ x → (u : List ℕ) → u ≡ laid (values_of count_values (writers.outcome x)) o → spoken (call (number_of (writers.outcome x)) u) n ≡ saying_said (say t l h p m) o
 say_is t p m o k l ek g h eg r n e x q u f =
     ap (λ (z : List ℕ). spoken (call (number_of (writers.outcome x)) z) n) f
-    ∙ ap (λ (y : Said). saying_said (saying y n) o) (sym q)
+    ∙ ap (λ (y : Result ℕ SayError). saying_said (saying y n) o) (sym q)
     ∙ ap (λ (z : Saying). saying_said z o) (e ∙ (λ i. say t (ek i) (eg i) p m))
 
 -- Where document 01 has a call change nothing, or one thing alone, every other number of the state stays as it stood, in plain form or not.

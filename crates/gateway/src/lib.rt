@@ -20,15 +20,14 @@ ghost use Rattle.writer.specs.Writer.{say};
 ghost use Rattle.numbers.specs.Numbers.{selector_of, kind_of, answer_of, slot_of, queue_of, state_of, with_end, with_slot, with_queue, laid, answer_values};
 ghost use Rattle.gateway.specs.Gateway.{call, said, count_values, Listing, part_values, reset_said, turn, signal_said, put_said, read_values, took, take_said, left_said, whole, whole_said, no_values, feeding, feed_said, given_as, spoken, saying_said};
 
-use convert::Converted;
-use digest::Digested;
-use ingress::{Advanced, Written};
+use convert::ConvertError;
+use ingress::{AdvanceError, WriteError};
 use lists::Listed;
 use numbers::{NUMBERS, OUT};
-use queue::{Put, Queue, Taken};
-use slot::{Looked, Reset, Slot, Turned};
-use table::Checked;
-use writer::{Given, Said};
+use queue::{PutError, Queue, TakeError};
+use slot::{Looked, ResetError, Slot, SlotError};
+use table::TableError;
+use writer::SayError;
 
 // What a look or a take answers first: whether there was something.
 const THERE: u64 = 1;
@@ -41,11 +40,11 @@ pub extern "C" fn wx_table_check(table: &[u8], out: &mut [u64; OUT]) -> u32
     ensures { call result out.new ≡ said count_values (ruling table.now) out.old }
 {
     match table::check(table) {
-        Checked::Good(n) => {
+        Ok(n) => {
             out[0] = n as u64;
             0
         }
-        Checked::Faulty(k) => {
+        Err(TableError::Faulty(k)) => {
             out[0] = k as u64;
             2
         }
@@ -60,12 +59,12 @@ pub extern "C" fn wx_digest(digester: u32, table: &[u8], input: &[u8], out: &mut
 {
     let chosen = numbers::selector_of(digester);
     match selector::digest(chosen, table, input) {
-        Digested::Is(a) => {
+        Ok(a) => {
             numbers::lay_answer(out, a);
             0
         }
-        Digested::TooLong => 1,
-        Digested::BadTable(k) => {
+        Err(DigestError::TooLong) => 1,
+        Err(DigestError::BadTable(k)) => {
             out[0] = k as u64;
             2
         }
@@ -117,11 +116,11 @@ pub extern "C" fn wx_slot_signal(
 {
     let slot = numbers::slot_of(state);
     match slot.signal(numbers::answer_of(answer), payload, mem) {
-        Turned::Is(next) => {
+        Ok(next) => {
             numbers::put_slot(state, next);
             0
         }
-        Turned::BadLength => 3,
+        Err(SlotError::BadLength) => 3,
     }
 }
 
@@ -155,12 +154,12 @@ pub extern "C" fn wx_slot_reset(state: &mut [u64; NUMBERS], serial: u32, mem: &[
 {
     let slot = numbers::slot_of(state);
     match slot.reset(serial, mem) {
-        Reset::Is(freed) => {
+        Ok(freed) => {
             numbers::put_slot(state, freed);
             0
         }
-        Reset::BadLength => 3,
-        Reset::Repeated => 15,
+        Err(ResetError::BadLength) => 3,
+        Err(ResetError::Repeated) => 15,
     }
 }
 
@@ -203,12 +202,12 @@ pub extern "C" fn wx_queue_put(
     ensures { turn result state.new mem.new ≡ put_said (put_into ours (queue_of state.old) number payload.now mem.old) state.old }
 {
     match numbers::queue_of(state).put(mem, number, payload) {
-        Put::Is(next) => {
+        Ok(next) => {
             numbers::put_queue(state, next);
             0
         }
-        Put::BadBounds => 3,
-        Put::Full => 5,
+        Err(PutError::BadBounds) => 3,
+        Err(PutError::Full) => 5,
     }
 }
 
@@ -218,7 +217,7 @@ pub extern "C" fn wx_queue_take(state: &mut [u64; NUMBERS], mem: &[u8], out: &mu
     ensures { took result state.new out.new ≡ take_said (taken ours (queue_of state.old) mem.now) state.old out.old }
 {
     match numbers::queue_of(state).take(mem) {
-        Taken::Is(rest, notice) => {
+        Ok((rest, Some(notice))) => {
             numbers::put_queue(state, rest);
             out[0] = THERE;
             out[1] = notice.number as u64;
@@ -226,11 +225,11 @@ pub extern "C" fn wx_queue_take(state: &mut [u64; NUMBERS], mem: &[u8], out: &mu
             out[3] = notice.len as u64;
             0
         }
-        Taken::Nothing(_) => {
+        Ok((_, None)) => {
             out[0] = NOTHING;
             0
         }
-        Taken::Bad => 3,
+        Err(TakeError::Bad) => 3,
     }
 }
 
@@ -245,32 +244,32 @@ pub extern "C" fn wx_queue_convert(
     ensures { turn result state.new mem.new ≡ put_said (converted older ours (queue_of old.now) old_mem.now mem.old) state.old }
 {
     match convert::convert(numbers::queue_of(old), old_mem, mem) {
-        Converted::Is(next) => {
+        Ok(next) => {
             numbers::put_queue(state, next);
             0
         }
-        Converted::Bad => 3,
-        Converted::TooFew => 13,
+        Err(ConvertError::Bad) => 3,
+        Err(ConvertError::TooFew) => 13,
     }
 }
 
 // What an advance leaves of the state's numbers, and its number. It is a function of its own since the three memories would be carried along each way out.
-fn lay_advanced(state: &mut [u64; NUMBERS], out: &mut [u64; OUT], what: Advanced) -> u32
+fn lay_advanced(state: &mut [u64; NUMBERS], out: &mut [u64; OUT], what: Result<State, AdvanceError>) -> u32
     ensures { took result state.new out.new ≡ left_said no_values (advance_says (state_of state.old) what) state.old out.old }
 {
     match what {
-        Advanced::Is(s) => {
+        Ok(s) => {
             numbers::put_state(state, s);
             0
         }
-        Advanced::TooLong => 1,
-        Advanced::BadTable(k) => {
+        Err(AdvanceError::TooLong) => 1,
+        Err(AdvanceError::BadTable(k)) => {
             out[0] = k as u64;
             2
         }
-        Advanced::BadState => 3,
-        Advanced::NoRoom => 4,
-        Advanced::Full(s) => {
+        Err(AdvanceError::BadState) => 3,
+        Err(AdvanceError::NoRoom) => 4,
+        Err(AdvanceError::Full(s)) => {
             numbers::put_state(state, s);
             5
         }
@@ -305,22 +304,22 @@ pub extern "C" fn wx_ingress_advance(
 }
 
 // The same of a write, with the bytes that it took.
-fn lay_written(state: &mut [u64; NUMBERS], out: &mut [u64; OUT], what: Written) -> u32
+fn lay_written(state: &mut [u64; NUMBERS], out: &mut [u64; OUT], what: Result<(State, usize), WriteError>) -> u32
     ensures { took result state.new out.new ≡ left_said count_values (write_says (state_of state.old) what) state.old out.old }
 {
     match what {
-        Written::Is(s, n) => {
+        Ok((s, n)) => {
             numbers::put_state(state, s);
             out[0] = n as u64;
             0
         }
-        Written::TooLong => 1,
-        Written::BadTable(k) => {
+        Err(WriteError::TooLong) => 1,
+        Err(WriteError::BadTable(k)) => {
             out[0] = k as u64;
             2
         }
-        Written::BadState => 3,
-        Written::Full(s, n) => {
+        Err(WriteError::BadState) => 3,
+        Err(WriteError::Full(s, n)) => {
             numbers::put_state(state, s);
             out[0] = n as u64;
             5
@@ -461,13 +460,13 @@ pub extern "C" fn wx_list_read(
 }
 
 // The number that goes along with a kind, or none.
-fn number_given(numbered: bool, number: u32) -> Given
+fn number_given(numbered: bool, number: u32) -> Option<u32>
     ensures { result ≡ given_as numbered number }
 {
     if numbered {
-        return Given::Is(number);
+        return Some(number);
     }
-    Given::None
+    None
 }
 
 // Writes an answer as a modem would (R-12), of the kind of that number, with the number where one is given. Answers how many bytes stand at the output memory's front;
@@ -487,16 +486,16 @@ pub extern "C" fn wx_say(
     let asked = numbers::kind_of(kind as u64);
     let given = number_given(numbered, number);
     match writer::say(table, asked, given, payload, output) {
-        Said::Is(n) => {
+        Ok(n) => {
             out[0] = n as u64;
             0
         }
-        Said::BadTable(k) => {
+        Err(SayError::BadTable(k)) => {
             out[0] = k as u64;
             2
         }
-        Said::Unread => 16,
-        Said::Short => 17,
+        Err(SayError::Unread) => 16,
+        Err(SayError::Short) => 17,
     }
 }
 

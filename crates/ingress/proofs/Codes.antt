@@ -23,7 +23,7 @@ use Rattle.selector.specs.declared.Selector.TheVariants.{Numeric}
 use Rattle.turn.specs.Turn.{is_refused, World, held, says}
 use Rattle.turn.specs.Says.{says_answers, says_within}
 use Rattle.turn.specs.Kept.{Good}
-use Rattle.ingress.specs.Ingress.{Result, refused_at, run, judged, unless_refused, committed, advanced}
+use Rattle.ingress.specs.Ingress.{After, refused_at, run, judged, unless_refused, committed, advanced}
 use Rattle.ingress.specs.Laws.{passed}
 use Rattle.ingress.specs.Story.{Stretch, consumed, came_by, went_by, flat, Consumes, Story}
 use Rattle.ingress.specs.Kept.{turned_held, story_bytes, run_ends}
@@ -70,7 +70,7 @@ module _ (t : List ℕ) where
       ∙ turns_codes l u v s.rest n (j - (says coded w).consumed) (omega (arith, e, k, h))
 
   -- Where it isn't refused, no line start of the bytes that were held in w holds a code at or behind the place where what is left begins.
-  abbrev pub AllHeard : {A : Type 0} → World → Result A → Type 0
+  abbrev pub AllHeard : {A : Type 0} → World → After A → Type 0
   AllHeard w r = is_refused r.said ≡ false → (j : ℕ) → length (held w) - length (held r.left) ≤ j → code_at (held w) j ≡ false
 
   run_codes : (w : World) → Good coded w → AllHeard w (run coded w)

@@ -14,7 +14,7 @@ use Rattle.selector.specs.Selector.{Choice}
 use Rattle.turn.specs.Turn.{World}
 use Rattle.turn.specs.Laws.{once_went}
 use Rattle.turn.specs.Kept.{next_leaves}
-use Rattle.ingress.specs.Ingress.{Result, advanced, written}
+use Rattle.ingress.specs.Ingress.{After, advanced, written}
 use Rattle.ingress.specs.Story.{Event, arrived, consumed, dropped, handed, freed, Story, Fed, takes_bytes, Keeps}
 use Rattle.ingress.specs.Conserved.{advance_keeps, write_keeps}
 use Rattle.ingress.specs.Calls.{Call, write, fill, advance, clear, take_one, reset, after_take, after_reset, left_by, left_after, along, forced, forced_by, last_of, in_force, Stored, Serials}
@@ -41,7 +41,7 @@ story_still c (handed a ∷ l) w v s f = absurd f
 story_still c (freed n ∷ l) w v s f = absurd f
 
 -- over an advance and a write,
-keeps_still : {A : Type 0} (c : Choice) (w : World) (b : List ℕ) (r : Result A) → Keeps c w b r → Still w r.left
+keeps_still : {A : Type 0} (c : Choice) (w : World) (b : List ℕ) (r : After A) → Keeps c w b r → Still w r.left
 keeps_still c w b r k = go (takes_bytes r.said) refl
   where
     go : (x : Bool) → takes_bytes r.said ≡ x → Still w r.left

@@ -15,7 +15,7 @@ use Rattle.outcome.specs.Laws.{ways}
 use Rattle.selector.specs.Selector.{Choice}
 use Rattle.turn.specs.Turn.{with_end, is_refused, World, world, held, Quiet}
 use Rattle.turn.specs.Kept.{Good}
-use Rattle.ingress.specs.Ingress.{Result, refused_at, run, is_sound, under_table, checks, judged, unless_refused, committed, advanced, Writing, wrote, stopped, copied, after_copy, write_once, then_write, write_by, write_on, answering, written}
+use Rattle.ingress.specs.Ingress.{After, refused_at, run, is_sound, under_table, checks, judged, unless_refused, committed, advanced, Writing, wrote, stopped, copied, after_copy, write_once, then_write, write_by, write_on, answering, written}
 use Rattle.ingress.specs.Laws.{passed, bytes_of, once_taken}
 use Rattle.ingress.specs.Story.{Stretch, Event, arrived, consumed, dropped, handed, freed, came_by, flat, Arrives, Story, Fed, Over, Waits, Keeps, committed_bytes, NothingLeft, took_of, NothingAfter}
 use Rattle.ingress.specs.Kept.{story_bytes, Ends, run_ends}
@@ -110,11 +110,11 @@ module _ {A : Type 0} (c : Choice) (w : World) (b : List ℕ) (n : ℕ) (v : Lis
   refused_keeps e = low_keeps (low_by c (ltb 4096 (length w.buf)) (is_sound w.state (length w.buf) (length w.slot_memory) (length w.queue_memory)) c.rules refl n v e)
 
 -- What an advance promises.
-abbrev pub AdvanceKeeps : Choice → ℕ → World → Result (Unit {0}) → Type 0
+abbrev pub AdvanceKeeps : Choice → ℕ → World → After (Unit {0}) → Type 0
 AdvanceKeeps c n w r = Keeps c w (committed_bytes w n) r × NothingLeft c r
 
 module _ (c : Choice) (n : ℕ) (w : World) where
-  run_keeps : (b : List ℕ) (u : World) → Arrives w b u → (r : Result (Unit {0})) → Ends c u r → Keeps c w b r × NothingLeft c r
+  run_keeps : (b : List ℕ) (u : World) → Arrives w b u → (r : After (Unit {0})) → Ends c u r → Keeps c w b r × NothingLeft c r
   run_keeps b u a r e =
       (record { same = λ q. absurd (false_true e.takes q); over = λ q. over_run c w r.left b u a e.turns e.story; waits = λ q. e.waits }, e.quiet)
 
@@ -136,7 +136,7 @@ module _ (c : Choice) (n : ℕ) (w : World) where
   advance_keeps = unless_refused_lem (judged c w) refl
 
   -- whatever equals the definition has all of the promise
-  pub advance_whole : (r : Result (Unit {0})) → r ≡ advanced c n w → (r ≡ advanced c n w) × AdvanceKeeps c n w r
+  pub advance_whole : (r : After (Unit {0})) → r ≡ advanced c n w → (r ≡ advanced c n w) × AdvanceKeeps c n w r
   advance_whole r e = (e, rw e advance_keeps)
 
 -- What a write tells, f k being its bytes where k are taken, of which j were taken before: they are conserved; where none more is taken nothing changes, else nothing finished is left.
@@ -150,7 +150,7 @@ Tells c f j w (stopped k v) = (j ≤ k) × Took c w (f k) v × Waits c v
 
 -- one copy
 module _ (c : Choice) (p : List ℕ) (w : World) (g : Good c w) where
-  copy_tells : (n : ℕ) → 1 ≤ n → (u : World) → Arrives w (take n p) u → (r : Result (Unit {0})) → Ends c u r → Tells c (λ k. take k p) 0 w (after_copy r n)
+  copy_tells : (n : ℕ) → 1 ≤ n → (u : World) → Arrives w (take n p) u → (r : After (Unit {0})) → Ends c u r → Tells c (λ k. take k p) 0 w (after_copy r n)
   copy_tells n h u a r e =
       let o : Took c w (take n p) r.left = record { over = over_run c w r.left (take n p) u a e.turns e.story; good = e.good } in
       ways (Tells c (λ k. take k p) 0 w) (is_refused r.said)
@@ -215,7 +215,7 @@ write_by_tells (suc m) c p j w g h =
     (write_once c (drop j p) w) (omega (arith, once_taken c (drop j p) w, length-drop j p)) (once_tells c (drop j p) w g)
 
 -- What a write promises.
-abbrev pub WriteKeeps : Choice → List ℕ → World → Result ℕ → Type 0
+abbrev pub WriteKeeps : Choice → List ℕ → World → After ℕ → Type 0
 WriteKeeps c p w r = Keeps c w (take (took_of r.said) p) r × NothingAfter c r
 
 module _ (c : Choice) (p : List ℕ) (w : World) where
@@ -243,5 +243,5 @@ module _ (c : Choice) (p : List ℕ) (w : World) where
   write_keeps = write_unless (judged c w) refl
 
   -- whatever equals the definition has all of the promise
-  pub write_whole : (r : Result ℕ) → r ≡ written c p w → (r ≡ written c p w) × WriteKeeps c p w r
+  pub write_whole : (r : After ℕ) → r ≡ written c p w → (r ≡ written c p w) × WriteKeeps c p w r
   write_whole r e = (e, rw e write_keeps)

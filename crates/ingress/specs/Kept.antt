@@ -15,7 +15,7 @@ use Rattle.turn.specs.Turn.{with_queue, is_refused, World, with_state, held, say
 use Rattle.turn.specs.Says.{held_long, says_within, notice_found}
 use Rattle.turn.specs.Laws.{once_went, once_stuck, once_end}
 use Rattle.turn.specs.Kept.{Good, trusted, idle, idle_next, kept, next_good, next_held, waits_full, stays}
-use Rattle.ingress.specs.Ingress.{Result, done, refused_at, then_run, run_by, run}
+use Rattle.ingress.specs.Ingress.{After, done, refused_at, then_run, run_by, run}
 use Rattle.ingress.specs.Laws.{passed, passes}
 use Rattle.ingress.specs.Story.{Stretch, Event, arrived, consumed, dropped, handed, freed, notice_of, came_by, went_by, delivered_by, handed_by, flat, waiting_in, Passed, Consumes, Story, Waits, takes_bytes}
 
@@ -94,7 +94,7 @@ story_notices c (handed a ∷ l) w v s =
 story_notices c (freed n ∷ l) w v s = story_notices c l s.at v s.rest ∙ ap (λ (y : World). waiting_in y ++ flat delivered_by l) s.first.left
 
 -- a run that ends with r: turns alone, to a good state, where nothing in the buffer is finished, or at a notice that waits
-pub record Ends (c : Choice) (w : World) (r : Result (Unit {0})) : Type 0 where
+pub record Ends (c : Choice) (w : World) (r : After (Unit {0})) : Type 0 where
   pub turns : List Stretch
   pub story : Story c w (map consumed turns) r.left
   pub good : Good c r.left
@@ -103,7 +103,7 @@ pub record Ends (c : Choice) (w : World) (r : Result (Unit {0})) : Type 0 where
   pub waits : is_refused r.said ≡ true → Waits c r.left
 
 module _ (c : Choice) (w : World) (g : Good c w) where
-  ends_more : (x : Stretch) (u : World) → Consumes c w x u → (r : Result (Unit {0})) → Ends c u r → Ends c w r
+  ends_more : (x : Stretch) (u : World) → Consumes c w x u → (r : After (Unit {0})) → Ends c u r → Ends c w r
   ends_more x u s r e = record { turns = x ∷ e.turns; story = record { at = u; first = s; rest = e.story }; good = e.good; takes = e.takes; quiet = e.quiet; waits = e.waits }
 
   -- nothing is consumed
@@ -127,7 +127,7 @@ module _ (c : Choice) (w : World) (g : Good c w) where
       let q : v ≡ w = k.1 ∙ stays c w g k.0 in
       record { turns = []; story = sym q; good = rw q g; takes = refl; quiet = λ f. absurd (false_true refl f); waits = λ f. rw q (waits_so k.0) }
 
-  module _ (f : World → Result (Unit {0})) (h : (u : World) (n : ℕ) → went u n ≡ once c w → 1 ≤ n → Ends c u (f u)) where
+  module _ (f : World → After (Unit {0})) (h : (u : World) (n : ℕ) → went u n ≡ once c w → 1 ≤ n → Ends c u (f u)) where
     ends_then : (s : Step) → s ≡ once c w → Ends c w (then_run s f)
     unfolding then_run
     ends_then (went v n) e =

@@ -1,6 +1,6 @@
 -- Laws of the ingress for its programs. What it needs of the layers below are the laws that they export.
 use Rattle.std.proofs.Math.Path.{◌≡◌, refl, sym, ap}
-use Rattle.std.proofs.Common.{◌∙◌, length-drop}
+use Rattle.std.proofs.Common.{Option, Some, None, Result, Ok, Err, ◌∙◌, length-drop}
 use Rattle.std.specs.Prelude.{Bool, ◌&&◌, not, List, [], ◌∷◌, take, drop, leb, ltb, if◌then◌else◌}
 use Rattle.std.proofs.Math.Bool.{true, false}
 use Prim.Native.Nat.{ℕ, zero, suc, ◌+◌, ◌-◌, ◌≤◌, ◌<◌, min}
@@ -15,20 +15,18 @@ use Rattle.outcome.specs.Laws.{ways, same_way}
 use Rattle.queue.specs.Queue.{ours, capacity_of, in_bounds}
 use Rattle.selector.specs.Selector.{Choice}
 use Rattle.turn.specs.declared.State.{State}
-use Rattle.turn.specs.declared.Stepped.{Stepped}
-use Rattle.turn.specs.declared.Stepped.TheVariants as steps
 use Rattle.turn.specs.Turn.{with_end, is_refused, World, world, with_state, Step, went, stuck, once, stepped}
 use Rattle.turn.specs.Laws.{left_by_lem, once_end, once_less}
 use Rattle.turn.specs.Kept.{Good}
-use Rattle.ingress.specs.declared.Checks.{Checks}
-use Rattle.ingress.specs.declared.Wrote.{Wrote}
-use Rattle.ingress.specs.declared.Wrote.TheVariants as writes
-use Rattle.ingress.specs.declared.Ran.{Ran}
+use Rattle.ingress.specs.declared.CheckError.{CheckError}
+use Rattle.ingress.specs.declared.CopyError.{CopyError}
+use Rattle.ingress.specs.declared.CopyError.TheVariants as writes
+use Rattle.ingress.specs.declared.RunError.{RunError}
 use Rattle.ingress.specs.Story.{Passed}
-use Rattle.ingress.specs.Ingress.{Result, done, refused_at, then_run, run_by, run, ran, is_sound, under_table, checks, refusal, judged, unless_refused, committed, advanced, Writing, wrote, stopped, copied, after_copy, write_once, then_write, write_by, write_on, writing, answering, written}
+use Rattle.ingress.specs.Ingress.{After, done, refused_at, then_run, run_by, run, ran, is_sound, under_table, checks, refusal, judged, unless_refused, committed, advanced, Writing, wrote, stopped, copied, after_copy, write_once, then_write, write_by, write_on, writing, answering, written}
 
 -- fuel does not matter
-then_same : (s : Step) (f g : World → Result (Unit {0})) → ((v : World) (n : ℕ) → s ≡ went v n → 1 ≤ n → f v ≡ g v) → then_run s f ≡ then_run s g
+then_same : (s : Step) (f g : World → After (Unit {0})) → ((v : World) (n : ℕ) → s ≡ went v n → 1 ≤ n → f v ≡ g v) → then_run s f ≡ then_run s g
 unfolding then_run
 then_same (went v n) f g h = same_way (done tt v) (leb 1 n) (λ q. h v n refl (leb-true 1 n q))
 then_same (stuck v) f g h = refl
@@ -76,23 +74,23 @@ pub record Going (c : Choice) (w₀ w : World) : Type 0 where
   pub queue_long : length w.queue_memory ≡ length w₀.queue_memory
 
 -- the ways on and out, from what `step` answered
-module _ (c : Choice) (w₀ w : World) (g : Going c w₀ w) (h : 0 < w.state.end) (s : State) (r : Stepped) (b m n : List ℕ) (e : stepped s r b m n ≡ once c w) where
-  turned : (x : Stepped) → r ≡ x → stepped s x b m n ≡ once c w
-  turned x q = ap (λ (y : Stepped). stepped s y b m n) (sym q) ∙ e
+module _ (c : Choice) (w₀ w : World) (g : Going c w₀ w) (h : 0 < w.state.end) (s : State) (r : Option (State × ℕ)) (b m n : List ℕ) (e : stepped s r b m n ≡ once c w) where
+  turned : (x : Option (State × ℕ)) → r ≡ x → stepped s x b m n ≡ once c w
+  turned x q = ap (λ (y : Option (State × ℕ)). stepped s y b m n) (sym q) ∙ e
 
-  pub turn_full : r ≡ steps.Full → refused_at 5 [] (world s b m n) ≡ run c w₀
-  turn_full q = run_full c w h (world s b m n) (turned steps.Full q) ∙ sym g.same
+  pub turn_full : r ≡ None → refused_at 5 [] (world s b m n) ≡ run c w₀
+  turn_full q = run_full c w h (world s b m n) (turned None q) ∙ sym g.same
 
-  module _ (x : State) (k : ℕ) (q : r ≡ steps.Is x k) where
+  module _ (x : State) (k : ℕ) (q : r ≡ Some (x, k)) where
     pub turn_still : k ≡ 0 → done tt (world x b m n) ≡ run c w₀
-    turn_still z = run_still c w h (world x b m n) k (turned (steps.Is x k) q) z ∙ sym g.same
+    turn_still z = run_still c w h (world x b m n) k (turned (Some (x, k)) q) z ∙ sym g.same
 
     pub turn_less : (k ≡ 0 → ⊥) → x.end < w.state.end
-    turn_less z = omega (arith, once_end c w (world x b m n) k (turned (steps.Is x k) q))
+    turn_less z = omega (arith, once_end c w (world x b m n) k (turned (Some (x, k)) q))
 
     pub turn_on : (k ≡ 0 → ⊥) → length b ≡ length w.buf → length m ≡ length w.slot_memory → length n ≡ length w.queue_memory → Going c w₀ (world x b m n)
     turn_on z i j l =
-        record { same = g.same ∙ sym (run_goes c w h (world x b m n) k (turned (steps.Is x k) q) z); buf_long = i ∙ g.buf_long; slot_long = j ∙ g.slot_long; queue_long = l ∙ g.queue_long }
+        record { same = g.same ∙ sym (run_goes c w h (world x b m n) k (turned (Some (x, k)) q) z); buf_long = i ∙ g.buf_long; slot_long = j ∙ g.slot_long; queue_long = l ∙ g.queue_long }
 
 -- `is_sound`
 module _ (s : State) (b m n : ℕ) where
@@ -133,7 +131,7 @@ module _ (r : Outcome ℕ) (s : State) (b m n : ℕ) where
 
 module _ (c : Choice) (w : World) where
   -- what `judge` answered, where a match tells which it was
-  pub judged_as : (r : Checks) → refusal r ≡ judged c w → (x : Checks) → r ≡ x → refusal x ≡ judged c w
+  pub judged_as : (r : Result (Unit {0}) CheckError) → refusal r ≡ judged c w → (x : Result (Unit {0}) CheckError) → r ≡ x → refusal x ≡ judged c w
   judged_as r e x q = ap refusal (sym q) ∙ e
 
   -- what isn't refused 1, 2 or 3 is good
@@ -172,20 +170,20 @@ module _ (c : Choice) (n : ℕ) (w : World) where
       unfolding advanced unless_refused
       at_run = rw (sym g, le-ltb (length w.buf - w.state.end) n h)
 
-      pub advance_ran : (r : Ran) (b m q : List ℕ) (y : State) → y ≡ (committed w n).state → ran r b m q ≡ run c (with_state w y) → (x : Ran) → r ≡ x → ran x b m q ≡ advanced c n w
-      advance_ran r b m q y v p x e = ap (λ (z : Ran). ran z b m q) (sym e) ∙ p ∙ ap (λ (z : State). run c (with_state w z)) v ∙ at_run
+      pub advance_ran : (r : Result State RunError) (b m q : List ℕ) (y : State) → y ≡ (committed w n).state → ran r b m q ≡ run c (with_state w y) → (x : Result State RunError) → r ≡ x → ran x b m q ≡ advanced c n w
+      advance_ran r b m q y v p x e = ap (λ (z : Result State RunError). ran z b m q) (sym e) ∙ p ∙ ap (λ (z : State). run c (with_state w z)) v ∙ at_run
 
 -- a run makes no more of what is held
-then_less : (s : Step) (f : World → Result (Unit {0})) → ((v : World) → (f v).left.state.end ≤ v.state.end) → (then_run s f).left.state.end ≤ (left_by_lem s).state.end
+then_less : (s : Step) (f : World → After (Unit {0})) → ((v : World) → (f v).left.state.end ≤ v.state.end) → (then_run s f).left.state.end ≤ (left_by_lem s).state.end
 unfolding then_run
-then_less (went v n) f h = ways (λ (r : Result (Unit {0})). r.left.state.end ≤ v.state.end) (leb 1 n) (λ q. h v) (λ q. omega arith)
+then_less (went v n) f h = ways (λ (r : After (Unit {0})). r.left.state.end ≤ v.state.end) (leb 1 n) (λ q. h v) (λ q. omega arith)
 then_less (stuck v) f h = omega arith
 
 run_by_less : (n : ℕ) (c : Choice) (w : World) → (run_by n c w).left.state.end ≤ w.state.end
 unfolding run_by
 run_by_less zero c w = omega arith
 run_by_less (suc n) c w =
-    ways (λ (r : Result (Unit {0})). r.left.state.end ≤ w.state.end) (leb 1 w.state.end)
+    ways (λ (r : After (Unit {0})). r.left.state.end ≤ w.state.end) (leb 1 w.state.end)
     (λ q. omega (arith, then_less (once c w) (run_by n c) (run_by_less n c), once_less c w))
     (λ q. omega arith)
 
@@ -209,8 +207,8 @@ module _ (c : Choice) (p : List ℕ) (w : World) where
         let l : n ≡ length (take n p) = sym (length-take-le n p (omega arith)) in
         (λ i. world (u i) (v i) w.slot_memory w.queue_memory) ∙ (λ i. committed (world w.state (put w.buf w.state.end (take n p)) w.slot_memory w.queue_memory) (l i))
 
-    pub copy_ran : (b : List ℕ) (y : State) → b ≡ put w.buf w.state.end (take n p) → y ≡ with_end w.state (w.state.end + n) → (r : Ran) (d m q : List ℕ) → ran r d m q ≡ run c (world y b w.slot_memory w.queue_memory) → (x : Ran) → r ≡ x → after_copy (ran x d m q) n ≡ write_once c p w
-    copy_ran b y v u r d m q k x e = ap (λ (z : Ran). after_copy (ran z d m q) n) (sym e) ∙ ap (λ (z : Result (Unit {0})). after_copy z n) (k ∙ ap (run c) (copied_is b y v u)) ∙ at_copy
+    pub copy_ran : (b : List ℕ) (y : State) → b ≡ put w.buf w.state.end (take n p) → y ≡ with_end w.state (w.state.end + n) → (r : Result State RunError) (d m q : List ℕ) → ran r d m q ≡ run c (world y b w.slot_memory w.queue_memory) → (x : Result State RunError) → r ≡ x → after_copy (ran x d m q) n ≡ write_once c p w
+    copy_ran b y v u r d m q k x e = ap (λ (z : Result State RunError). after_copy (ran z d m q) n) (sym e) ∙ ap (λ (z : After (Unit {0})). after_copy z n) (k ∙ ap (run c) (copied_is b y v u)) ∙ at_copy
 
 -- a copy takes no more than there is, and leaves an end in the buffer
 abbrev pub bytes_of : Writing → ℕ
@@ -221,7 +219,7 @@ abbrev left_of : Writing → World
 left_of (wrote n w) = w
 left_of (stopped n w) = w
 
-after_copy_lem : (r : Result (Unit {0})) (n : ℕ) → (bytes_of (after_copy r n) ≡ n) × (left_of (after_copy r n) ≡ r.left)
+after_copy_lem : (r : After (Unit {0})) (n : ℕ) → (bytes_of (after_copy r n) ≡ n) × (left_of (after_copy r n) ≡ r.left)
 after_copy_lem r n = ways (λ x. (bytes_of x ≡ n) × (left_of x ≡ r.left)) (is_refused r.said) (λ q. (refl, refl)) (λ q. (refl, refl))
 
 module _ (c : Choice) (p : List ℕ) (w : World) where
@@ -273,35 +271,35 @@ pub record Writes (c : Choice) (p : List ℕ) (w₀ : World) (k : ℕ) (w : Worl
   pub queue_long : length w.queue_memory ≡ length w₀.queue_memory
 
 -- the ways on and out, from what `write_once` answered for the bytes d not yet taken
-module _ (c : Choice) (p : List ℕ) (w₀ : World) (k : ℕ) (w : World) (g : Writes c p w₀ k w) (d : List ℕ) (f : d ≡ drop k p) (r : Wrote) (b m q : List ℕ) (e : writing r b m q ≡ write_once c d w) where
-  copied_on : (x : Wrote) → r ≡ x → writing x b m q ≡ write_once c (drop k p) w
-  copied_on x v = ap (λ (y : Wrote). writing y b m q) (sym v) ∙ e ∙ ap (λ (y : List ℕ). write_once c y w) f
+module _ (c : Choice) (p : List ℕ) (w₀ : World) (k : ℕ) (w : World) (g : Writes c p w₀ k w) (d : List ℕ) (f : d ≡ drop k p) (r : Result (State × ℕ) CopyError) (b m q : List ℕ) (e : writing r b m q ≡ write_once c d w) where
+  copied_on : (x : Result (State × ℕ) CopyError) → r ≡ x → writing x b m q ≡ write_once c (drop k p) w
+  copied_on x v = ap (λ (y : Result (State × ℕ) CopyError). writing y b m q) (sym v) ∙ e ∙ ap (λ (y : List ℕ). write_once c y w) f
 
-  at_write : (x : Wrote) → r ≡ x → then_write (writing x b m q) k (write_on c p) ≡ write_on c p 0 w₀
+  at_write : (x : Result (State × ℕ) CopyError) → r ≡ x → then_write (writing x b m q) k (write_on c p) ≡ write_on c p 0 w₀
   at_write x v = ap (λ (y : Writing). then_write y k (write_on c p)) (copied_on x v) ∙ sym (write_step c p k w) ∙ sym g.same
 
   module _ (x : State) (n : ℕ) where
-    pub on_full : r ≡ writes.Full x n → stopped (k + n) (world x b m q) ≡ write_on c p 0 w₀
+    pub on_full : r ≡ Err (writes.Full x n) → stopped (k + n) (world x b m q) ≡ write_on c p 0 w₀
     unfolding then_write
-    on_full v = at_write (writes.Full x n) v
+    on_full v = at_write (Err (writes.Full x n)) v
 
-    pub full_room : r ≡ writes.Full x n → k + n ≤ length p
-    full_room v = omega (arith, ap bytes_of (copied_on (writes.Full x n) v), once_taken c (drop k p) w, length-drop k p, g.within)
+    pub full_room : r ≡ Err (writes.Full x n) → k + n ≤ length p
+    full_room v = omega (arith, ap bytes_of (copied_on (Err (writes.Full x n)) v), once_taken c (drop k p) w, length-drop k p, g.within)
 
-    module _ (v : r ≡ writes.Is x n) where
+    module _ (v : r ≡ Ok (x, n)) where
       pub on_still : n ≡ 0 → wrote k (world x b m q) ≡ write_on c p 0 w₀
       unfolding then_write
-      on_still z = rw (lt-leb 1 n (omega arith)) at (at_write (writes.Is x n) v)
+      on_still z = rw (lt-leb 1 n (omega arith)) at (at_write (Ok (x, n)) v)
 
       pub on_room : k + n ≤ length p
-      on_room = omega (arith, ap bytes_of (copied_on (writes.Is x n) v), once_taken c (drop k p) w, length-drop k p, g.within)
+      on_room = omega (arith, ap bytes_of (copied_on (Ok (x, n)) v), once_taken c (drop k p) w, length-drop k p, g.within)
 
       pub on_again : (n ≡ 0 → ⊥) → length b ≡ length w.buf → length m ≡ length w.slot_memory → length q ≡ length w.queue_memory → Writes c p w₀ (k + n) (world x b m q)
       unfolding then_write
       on_again z h i j =
           record {
-            same = sym (rw (le-leb 1 n (omega arith)) at (at_write (writes.Is x n) v));
-            inside = omega (arith, ap (λ (y : Writing). (left_of y).state.end) (copied_on (writes.Is x n) v), once_inside c (drop k p) w g.inside);
+            same = sym (rw (le-leb 1 n (omega arith)) at (at_write (Ok (x, n)) v));
+            inside = omega (arith, ap (λ (y : Writing). (left_of y).state.end) (copied_on (Ok (x, n)) v), once_inside c (drop k p) w g.inside);
             within = on_room;
             buf_long = h ∙ g.buf_long;
             slot_long = i ∙ g.slot_long;
@@ -314,6 +312,6 @@ module _ (c : Choice) (p : List ℕ) (w : World) where
   unfolding written unless_refused
   write_refused n v e = rw (sym e)
 
-  pub write_wrote : Passed c w → (r : Wrote) (b m q : List ℕ) → writing r b m q ≡ write_on c p 0 w → (x : Wrote) → r ≡ x → answering (writing x b m q) ≡ written c p w
+  pub write_wrote : Passed c w → (r : Result (State × ℕ) CopyError) (b m q : List ℕ) → writing r b m q ≡ write_on c p 0 w → (x : Result (State × ℕ) CopyError) → r ≡ x → answering (writing x b m q) ≡ written c p w
   unfolding written unless_refused
-  write_wrote g r b m q e x v = ap (λ (y : Wrote). answering (writing y b m q)) (sym v) ∙ ap answering e ∙ rw (sym g)
+  write_wrote g r b m q e x v = ap (λ (y : Result (State × ℕ) CopyError). answering (writing y b m q)) (sym v) ∙ ap answering e ∙ rw (sym g)

@@ -11,7 +11,7 @@ use Rattle.queue.specs.declared.Queue.{Queue}
 use Rattle.queue.specs.declared.Notice.{Notice}
 use Rattle.selector.specs.Selector.{Choice}
 use Rattle.turn.specs.Turn.{with_end, with_slot, with_queue, is_refused, World, world, with_state, held, says, Quiet, payload_of, went, once}
-use Rattle.ingress.specs.Ingress.{judged, cleared, Result}
+use Rattle.ingress.specs.Ingress.{judged, cleared, After}
 
 -- a stretch of bytes that a turn consumed, and what the digester said it was
 pub record Stretch : Type 0 where
@@ -150,7 +150,7 @@ takes_bytes (answered x) = true
 takes_bytes (refused n v) = eqb n 5
 
 -- What an advance or a write of the bytes b keeps: refused 1 to 4, everything; else every byte is conserved; refusal 5 only where a notice waits.
-pub record Keeps {A : Type 0} (c : Choice) (w : World) (b : List ℕ) (r : Result A) : Type 0 where
+pub record Keeps {A : Type 0} (c : Choice) (w : World) (b : List ℕ) (r : After A) : Type 0 where
   pub same : takes_bytes r.said ≡ false → r.left ≡ w
   pub over : takes_bytes r.said ≡ true → Over c w b r.left
   pub waits : takes_bytes r.said ≡ true → is_refused r.said ≡ true → Waits c r.left
@@ -160,7 +160,7 @@ abbrev pub committed_bytes : World → ℕ → List ℕ
 committed_bytes w n = take n (drop w.state.end w.buf)
 
 -- Demand 3, second half: not refused, then no line start of what is left in the buffer holds a finished item.
-abbrev pub NothingLeft : {A : Type 0} → Choice → Result A → Type 0
+abbrev pub NothingLeft : {A : Type 0} → Choice → After A → Type 0
 NothingLeft c r = is_refused r.said ≡ false → Quiet c r.left
 
 -- how many bytes a write says it took
@@ -169,5 +169,5 @@ took_of (answered n) = n
 took_of (refused k v) = if eqb k 5 then get_or v 0 0 else 0
 
 -- For a write that took a byte: one that took none digested nothing.
-abbrev pub NothingAfter : Choice → Result ℕ → Type 0
+abbrev pub NothingAfter : Choice → After ℕ → Type 0
 NothingAfter c r = 1 ≤ took_of r.said → NothingLeft c r

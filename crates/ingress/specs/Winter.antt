@@ -1,5 +1,5 @@
 -- The winter's fault is shut out: each call is a story, and so is a sequence of calls. From what advance and write keep.
-use Rattle.std.specs.Prelude.{◌≡◌, refl, Bool, true, false, List, [], ◌∷◌, ◌++◌, ℕ, ◌+◌, ◌≤◌, length, get_or, take, eqb, if◌then◌else◌}
+use Rattle.std.specs.Prelude.{Ok, ◌≡◌, refl, Bool, true, false, List, [], ◌∷◌, ◌++◌, ℕ, ◌+◌, ◌≤◌, length, get_or, take, eqb, if◌then◌else◌}
 use Rattle.std.proofs.Common.{sym, ap, ◌∙◌, inl, append-nil, arith}
 use Rattle.moves.specs.Laws.{put_elsewhere}
 use Rattle.outcome.specs.Outcome.{Outcome, answered, refused}
@@ -12,7 +12,6 @@ use Rattle.queue.specs.Queue.{ours, longer, taken, Got, got, empty, Arrival, add
 use Rattle.queue.specs.Queue as queues
 use Rattle.queue.specs.Laws.{ours_sound}
 use Rattle.queue.specs.Waiting.{put_room, take_kept, take_empty, adds_one}
-use Rattle.queue.specs.declared.Put.TheVariants as puts
 use Rattle.queue.specs.declared.Queue.{Queue}
 use Rattle.queue.specs.declared.Notice.{Notice}
 use Rattle.selector.specs.Selector.{Choice}
@@ -20,7 +19,7 @@ use Rattle.turn.specs.Turn.{with_end, with_slot, with_queue, Delivery, deliver, 
 use Rattle.turn.specs.Says.{held_long, says_same, says_within, notice_found}
 use Rattle.turn.specs.Laws.{to_queue_lem, next, once_goes}
 use Rattle.turn.specs.Kept.{Good, trusted, next_good, notice_carries}
-use Rattle.ingress.specs.Ingress.{Result, run, advanced, written}
+use Rattle.ingress.specs.Ingress.{After, run, advanced, written}
 use Rattle.ingress.specs.Laws.{passed, passes, run_goes, at_run}
 use Rattle.ingress.specs.Story.{Event, arrived, consumed, dropped, handed, freed, came_by, handed_by, flat, waiting_in, emptied, Consumes, Story, Fed, Over, Waits, takes_bytes, Keeps, committed_bytes, took_of}
 use Rattle.ingress.specs.Kept.{stretch_of, turns_on, turned_payload, story_bytes, story_notices, run_ends}
@@ -52,7 +51,7 @@ did_over : (c : Choice) (w : World) (b : List ℕ) (v : World) → Over c w b v 
 did_over c w b v o = record { events = o.events; story = o.story; came = o.came; out = fed_hands o.events o.fed }
 
 -- an advance and a write
-did_keeps : {A : Type 0} (c : Choice) (w : World) (b : List ℕ) (r : Result A) → Keeps c w b r → Did c w (if takes_bytes r.said then b else []) [] r.left
+did_keeps : {A : Type 0} (c : Choice) (w : World) (b : List ℕ) (r : After A) → Keeps c w b r → Did c w (if takes_bytes r.said then b else []) [] r.left
 did_keeps c w b r k = ways (λ x. Did c w x [] r.left) (takes_bytes r.said) (λ e. did_over c w b r.left (k.over e)) (λ e. did_nothing c w r.left (k.same e))
 
 took_if : (o : Outcome ℕ) (p : List ℕ) → (if takes_bytes o then take (took_of o) p else []) ≡ take (took_of o) p
@@ -157,7 +156,7 @@ module _ (c : Choice) (w : World) (z : Waits c w) (q : Queue) (n : Notice) (e : 
       let y = room_waits z in
       sym
       (ap (λ (d : Delivery). d.waits)
-      (to_queue_lem with_room.state a p w.slot_memory w.queue_memory y.0 (puts.Is (longer q)) (queues.written ours q a.number p w.queue_memory) (put_room ours ours_sound q a.number p w.queue_memory k.0 k.1 y.1.0 y.1.1) (puts.Is (longer q)) refl
+      (to_queue_lem with_room.state a p w.slot_memory w.queue_memory y.0 (Ok (longer q)) (queues.written ours q a.number p w.queue_memory) (put_room ours ours_sound q a.number p w.queue_memory k.0 k.1 y.1.0 y.1.1) (Ok (longer q)) refl
       ∙ ap (λ (x : List ℕ). deliver with_room.state a x w.slot_memory w.queue_memory) (sym (notice_carries (held w) a y.0))))
 
   room_found : 1 ≤ (says c with_room).consumed
@@ -182,7 +181,7 @@ module _ (c : Choice) (w : World) (z : Waits c w) (q : Queue) (n : Notice) (e : 
       record {
         first = stretch_of c with_room;
         rest = d.turns;
-        story = record { at = next c with_room; first = room_turn; rest = rw (sym (ap (λ (r : Result (Unit {0})). r.left) after_turn)) d.story };
+        story = record { at = next c with_room; first = room_turn; rest = rw (sym (ap (λ (r : After (Unit {0})). r.left) after_turn)) d.story };
         notice =
             ap (λ (b : Bool). if b then adds ours a.number (payload_of (stretch_of c with_room).bytes a) else []) y.0
             ∙ ap (λ (x : List ℕ). adds ours a.number x) (sym p)

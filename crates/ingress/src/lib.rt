@@ -10,13 +10,12 @@ ghost use Rattle.ingress.specs.Ingress.{run, ran, is_sound, checks, refusal, adv
 ghost use Rattle.ingress.specs.Story.{Keeps, committed_bytes, NothingLeft, NothingAfter, took_of};
 
 use selector::Selector;
-use table::Checked;
-use turn::{State, Stepped};
+use table::TableError;
+use turn::State;
 
-// How an advance ends: nothing more is consumed, or a notice met a full queue, with the state that is left.
+// Why turns stop early (refusal 5): a notice met a full queue. With the state that is left.
 #[derive(Clone, Copy)]
-pub enum Ran {
-    Is(State),
+pub enum RunError {
     Full(State),
 }
 
@@ -28,24 +27,24 @@ pub fn run(
     buf: &mut [u8],
     slot_mem: &mut [u8],
     queue_mem: &mut [u8],
-) -> Ran
+) -> Result<State, RunError>
     ensures { ran result buf.new slot_mem.new queue_mem.new ≡ run (choice selector table.now) (world state buf.old slot_mem.old queue_mem.old) }
 {
     let mut s = state;
     while 0 < s.end {
         match turn::step(selector, table, s, buf, slot_mem, queue_mem) {
-            Stepped::Full => {
-                return Ran::Full(s);
+            None => {
+                return Err(RunError::Full(s));
             }
-            Stepped::Is(next, n) => {
+            Some((next, n)) => {
                 s = next;
                 if n == 0 {
-                    return Ran::Is(s);
+                    return Ok(s);
                 }
             }
         }
     }
-    Ran::Is(s)
+    Ok(s)
 }
 
 // Do the numbers fit the memories? The end lies in the buffer, the stored length in the slot's memory, start and count within their bounds.
@@ -63,10 +62,9 @@ fn is_sound(state: State, buf: usize, slot_mem: usize, queue_mem: usize) -> bool
     queue.is_bounded(queue::capacity(queue_mem))
 }
 
-// What the refusals 1, 2 and 3 say of the arguments.
+// Why arguments are refused: 1, 2 with the first faulty record's number, 3.
 #[derive(Clone, Copy)]
-pub enum Checks {
-    Good,
+pub enum CheckError {
     TooLong,
     BadTable(usize),
     BadState,
@@ -80,25 +78,24 @@ pub fn judge(
     buf: usize,
     slot_mem: usize,
     queue_mem: usize,
-) -> Checks
+) -> Result<(), CheckError>
     ensures { refusal result ≡ checks (choice selector table.now).rules state buf slot_mem queue_mem }
 {
     if digest::LONGEST < buf {
-        return Checks::TooLong;
+        return Err(CheckError::TooLong);
     }
-    if let Checked::Faulty(k) = selector::check(selector, table) {
-        return Checks::BadTable(k);
+    if let Err(TableError::Faulty(k)) = selector::check(selector, table) {
+        return Err(CheckError::BadTable(k));
     }
     if !is_sound(state, buf, slot_mem, queue_mem) {
-        return Checks::BadState;
+        return Err(CheckError::BadState);
     }
-    Checks::Good
+    Ok(())
 }
 
-// The state after an advance, or the refusal: 1 to 4 leave all as it stood, 5 with the state that is left.
+// Why an advance is refused: 1 to 4 leave all as it stood, 5 with the state that is left.
 #[derive(Clone, Copy)]
-pub enum Advanced {
-    Is(State),
+pub enum AdvanceError {
     TooLong,
     BadTable(usize),
     BadState,
@@ -116,7 +113,7 @@ pub fn advance(
     buf: &mut [u8],
     slot_mem: &mut [u8],
     queue_mem: &mut [u8],
-) -> Advanced
+) -> Result<State, AdvanceError>
     ensures is { result_of state result buf.new slot_mem.new queue_mem.new ≡ advanced (choice selector table.now) commit (world state buf.old slot_mem.old queue_mem.old) }
     ensures keeps { Keeps (choice selector table.now) (world state buf.old slot_mem.old queue_mem.old) (committed_bytes (world state buf.old slot_mem.old queue_mem.old) commit) (result_of state result buf.new slot_mem.new queue_mem.new) }
     ensures nothing_left { NothingLeft (choice selector table.now) (result_of state result buf.new slot_mem.new queue_mem.new) }
@@ -130,13 +127,13 @@ pub fn advance(
         slot_mem.len(),
         queue_mem.len(),
     ) {
-        Checks::TooLong => Advanced::TooLong,
-        Checks::BadTable(k) => Advanced::BadTable(k),
-        Checks::BadState => Advanced::BadState,
-        Checks::Good => {
+        Err(CheckError::TooLong) => Err(AdvanceError::TooLong),
+        Err(CheckError::BadTable(k)) => Err(AdvanceError::BadTable(k)),
+        Err(CheckError::BadState) => Err(AdvanceError::BadState),
+        Ok(()) => {
             let end = state.end;
             if room - end < commit {
-                return Advanced::NoRoom;
+                return Err(AdvanceError::NoRoom);
             }
             match run(
                 selector,
@@ -146,17 +143,16 @@ pub fn advance(
                 slot_mem,
                 queue_mem,
             ) {
-                Ran::Is(s) => Advanced::Is(s),
-                Ran::Full(s) => Advanced::Full(s),
+                Ok(s) => Ok(s),
+                Err(RunError::Full(s)) => Err(AdvanceError::Full(s)),
             }
         }
     }
 }
 
-// How a copy, or a write, ends: the state that is left and the bytes taken; or with a notice that met a full queue.
+// Why a copy stops early (refusal 5): a notice met a full queue. With the state that is left and the bytes taken.
 #[derive(Clone, Copy)]
-pub enum Wrote {
-    Is(State, usize),
+pub enum CopyError {
     Full(State, usize),
 }
 
@@ -169,14 +165,14 @@ fn write_once(
     buf: &mut [u8],
     slot_mem: &mut [u8],
     queue_mem: &mut [u8],
-) -> Wrote
+) -> Result<(State, usize), CopyError>
     requires { state.end ≤ length buf.old }
     ensures { writing result buf.new slot_mem.new queue_mem.new ≡ write_once (choice selector table.now) bytes.now (world state buf.old slot_mem.old queue_mem.old) }
 {
     let end = state.end;
     let n = text::fitting(bytes.len(), buf.len() - end);
     if n == 0 {
-        return Wrote::Is(state, 0);
+        return Ok((state, 0));
     }
     moves::put(buf, end, &bytes[..n]);
     match run(
@@ -187,8 +183,8 @@ fn write_once(
         slot_mem,
         queue_mem,
     ) {
-        Ran::Is(s) => Wrote::Is(s, n),
-        Ran::Full(s) => Wrote::Full(s, n),
+        Ok(s) => Ok((s, n)),
+        Err(RunError::Full(s)) => Err(CopyError::Full(s, n)),
     }
 }
 
@@ -201,7 +197,7 @@ fn write_on(
     buf: &mut [u8],
     slot_mem: &mut [u8],
     queue_mem: &mut [u8],
-) -> Wrote
+) -> Result<(State, usize), CopyError>
     requires { state.end ≤ length buf.old }
     ensures { writing result buf.new slot_mem.new queue_mem.new ≡ write_on (choice selector table.now) piece.now 0 (world state buf.old slot_mem.old queue_mem.old) }
 {
@@ -217,13 +213,13 @@ fn write_on(
             slot_mem,
             queue_mem,
         ) {
-            Wrote::Full(next, n) => {
-                return Wrote::Full(next, taken + n);
+            Err(CopyError::Full(next, n)) => {
+                return Err(CopyError::Full(next, taken + n));
             }
-            Wrote::Is(next, more) => {
+            Ok((next, more)) => {
                 s = next;
                 if more == 0 {
-                    return Wrote::Is(s, taken);
+                    return Ok((s, taken));
                 }
                 taken += more;
             }
@@ -231,10 +227,9 @@ fn write_on(
     }
 }
 
-// The state after a write and the bytes taken, or the refusal: 1 to 3 leave all as it stood, 5 with the state that is left and the bytes taken.
+// Why a write is refused: 1 to 3 leave all as it stood, 5 with the state that is left and the bytes taken.
 #[derive(Clone, Copy)]
-pub enum Written {
-    Is(State, usize),
+pub enum WriteError {
     TooLong,
     BadTable(usize),
     BadState,
@@ -252,7 +247,7 @@ pub fn write(
     buf: &mut [u8],
     slot_mem: &mut [u8],
     queue_mem: &mut [u8],
-) -> Written
+) -> Result<(State, usize), WriteError>
     ensures is { taking state result buf.new slot_mem.new queue_mem.new ≡ written (choice selector table.now) piece.now (world state buf.old slot_mem.old queue_mem.old) }
     ensures keeps { Keeps (choice selector table.now) (world state buf.old slot_mem.old queue_mem.old) (take (took_of (taking state result buf.new slot_mem.new queue_mem.new).said) piece.now) (taking state result buf.new slot_mem.new queue_mem.new) }
     ensures nothing_left { NothingAfter (choice selector table.now) (taking state result buf.new slot_mem.new queue_mem.new) }
@@ -265,12 +260,12 @@ pub fn write(
         slot_mem.len(),
         queue_mem.len(),
     ) {
-        Checks::TooLong => Written::TooLong,
-        Checks::BadTable(k) => Written::BadTable(k),
-        Checks::BadState => Written::BadState,
-        Checks::Good => match write_on(selector, table, state, piece, buf, slot_mem, queue_mem) {
-            Wrote::Is(s, n) => Written::Is(s, n),
-            Wrote::Full(s, n) => Written::Full(s, n),
+        Err(CheckError::TooLong) => Err(WriteError::TooLong),
+        Err(CheckError::BadTable(k)) => Err(WriteError::BadTable(k)),
+        Err(CheckError::BadState) => Err(WriteError::BadState),
+        Ok(()) => match write_on(selector, table, state, piece, buf, slot_mem, queue_mem) {
+            Ok((s, n)) => Ok((s, n)),
+            Err(CopyError::Full(s, n)) => Err(WriteError::Full(s, n)),
         },
     }
 }

@@ -1,51 +1,45 @@
 -- Where hints are right, what the five give with them is what the rules give, and the hints that they hand on are right too (`firsts_say`).
-use Rattle.std.specs.Prelude.{◌≡◌, List, ℕ, ◌+◌, ◌-◌, ◌≤◌, length, drop, leb}
+use Rattle.std.specs.Prelude.{Option, Some, None, ◌≡◌, List, ℕ, ◌+◌, ◌-◌, ◌≤◌, length, drop, leb}
 use Rattle.std.proofs.Math.Path.{refl}
 use Rattle.std.proofs.Common.{sym, ap, ◌∙◌, arith}
 use borrow.Author.Tests.{leb-true}
+use Rattle.std.specs.declared.ops.ControlFlow.{ControlFlow}
+use Rattle.std.specs.declared.ops.ControlFlow.TheVariants.{Break, Continue}
 use Rattle.outcome.specs.Laws.{ways}
 use Rattle.text.specs.Text.{find_in}
 use Rattle.text.specs.Laws.{found_at, found_none, find_is, stands_drop}
-use Rattle.text.specs.declared.Found.{Found}
-use Rattle.text.specs.declared.Found.TheVariants.{At, Nothing}
 use Rattle.lines.specs.Lines.{fixed_text}
 use Rattle.lines.specs.declared.Fixed.TheVariants as fixed
 use Rattle.parser.specs.Parser.{only_blanks, prompt_from, at_found, numeric_error}
 use Rattle.places.specs.Places.{FirstPlaces}
 use Rattle.places.specs.declared.Places.{Places}
-use Rattle.items.specs.declared.Tried.{Tried}
-use Rattle.items.specs.declared.Tried.TheVariants as tries
 use Rattle.items.specs.declared.First.{First}
 use Rattle.items.specs.declared.First.TheVariants as first
-use Rattle.items.specs.declared.Hinted.{Hinted}
-use Rattle.items.specs.declared.Hinted.TheVariants as hint
 use Rattle.items.specs.declared.Hints.{Hints}
-use Rattle.items.specs.declared.Level.{Level}
-use Rattle.items.specs.declared.Level.TheVariants as level
 use Rattle.items.specs.Rules.{or_else, first_of, prompt_tried, numeric_tried, numeric_errors}
 use Rattle.items.specs.Hints.{given, sought, first_place, decided, Idle, or_hint, found_hint, first_from, before, hinted, onward, prompt_bytes, numerics, firsts, unknown, hint_of, Known, Says}
 use Rattle.items.specs.Laws.{or_next_lem, place_within}
 
 -- a search from further on, but not past what was found, finds the same
-find_same : (t s : List ℕ) (e k m : ℕ) → find_in t s e ≡ At k → e ≤ m → m ≤ k → find_in t s m ≡ At k
+find_same : (t s : List ℕ) (e k m : ℕ) → find_in t s e ≡ Some k → e ≤ m → m ≤ k → find_in t s m ≡ Some k
 find_same t s e k m q h g =
     let v = found_at t s e k q in
-    find_is t s m (At k) (record { after = g; here = v.here; first = λ j a b. v.first j (omega arith) b })
+    find_is t s m (Some k) (record { after = g; here = v.here; first = λ j a b. v.first j (omega arith) b })
 
 -- what is nowhere from e on is nowhere further on, in any suffix
-pub find_lost : (t s : List ℕ) (e k m : ℕ) → e ≤ k + m → find_in t s e ≡ Nothing → find_in t (drop k s) m ≡ Nothing
-find_lost t s e k m h q = find_is t (drop k s) m Nothing (λ j g. stands_drop t s k j ∙ found_none t s e q (k + j) (omega arith))
+pub find_lost : (t s : List ℕ) (e k m : ℕ) → e ≤ k + m → find_in t s e ≡ None → find_in t (drop k s) m ≡ None
+find_lost t s e k m h q = find_is t (drop k s) m None (λ j g. stands_drop t s k j ∙ found_none t s e q (k + j) (omega arith))
 
 -- The five rules by the first place of what they look for.
-given_found : (x : First) (s : List ℕ) (e : ℕ) (r : Found) → find_in (sought x) s e ≡ r → given x s e ≡ decided x s r
+given_found : (x : First) (s : List ℕ) (e : ℕ) (r : Option ℕ) → find_in (sought x) s e ≡ r → given x s e ≡ decided x s r
 unfolding prompt_from numeric_error
-given_found first.Greater s e r q = ap (λ (f : Found). prompt_tried (only_blanks s f) 62 s) q
-given_found first.Sign s e r q = ap (λ (f : Found). prompt_tried (only_blanks s f) 64 s) q
-given_found first.Cme s e r q = ap (λ (f : Found). numeric_tried fixed.Cme (at_found (fixed_text fixed.Cme) s f)) q
-given_found first.Cms s e r q = ap (λ (f : Found). numeric_tried fixed.Cms (at_found (fixed_text fixed.Cms) s f)) q
-given_found first.Modem s e r q = ap (λ (f : Found). numeric_tried fixed.Modem (at_found (fixed_text fixed.Modem) s f)) q
+given_found first.Greater s e r q = ap (λ (f : Option ℕ). prompt_tried (only_blanks s f) 62 s) q
+given_found first.Sign s e r q = ap (λ (f : Option ℕ). prompt_tried (only_blanks s f) 64 s) q
+given_found first.Cme s e r q = ap (λ (f : Option ℕ). numeric_tried fixed.Cme (at_found (fixed_text fixed.Cme) s f)) q
+given_found first.Cms s e r q = ap (λ (f : Option ℕ). numeric_tried fixed.Cms (at_found (fixed_text fixed.Cms) s f)) q
+given_found first.Modem s e r q = ap (λ (f : Option ℕ). numeric_tried fixed.Modem (at_found (fixed_text fixed.Modem) s f)) q
 
-decided_none : (x : First) (s : List ℕ) → decided x s Nothing ≡ tries.Next
+decided_none : (x : First) (s : List ℕ) → decided x s None ≡ None
 unfolding only_blanks prompt_tried at_found numeric_tried
 decided_none first.Greater s = refl
 decided_none first.Sign s = refl
@@ -61,24 +55,24 @@ first_is first.Cms s e p w = w fixed.Cms
 first_is first.Modem s e p w = w fixed.Modem
 
 -- One of the five: its answer, or a hint that is right.
-abbrev HintSays : First → List ℕ → ℕ → Hinted → Type 0
-HintSays x s e (hint.Done a) = given x s e ≡ tries.Done a
-HintSays x s e (hint.Next n) = (given x s e ≡ tries.Next) × Idle (given x s) s e n
+abbrev HintSays : First → List ℕ → ℕ → ControlFlow Answer ℕ → Type 0
+HintSays x s e (Break a) = given x s e ≡ Some a
+HintSays x s e (Continue n) = (given x s e ≡ None) × Idle (given x s) s e n
 
 module _ (x : First) (s : List ℕ) (e : ℕ) where
-  or_says : (t : Tried) (n : ℕ) → given x s e ≡ t → (t ≡ tries.Next → Idle (given x s) s e n) → HintSays x s e (or_hint t n)
+  or_says : (t : Option Answer) (n : ℕ) → given x s e ≡ t → (t ≡ None → Idle (given x s) s e n) → HintSays x s e (or_hint t n)
   unfolding or_hint
-  or_says (tries.Done a) n q v = q
-  or_says tries.Next n q v = (q, v refl)
+  or_says (Some a) n q v = q
+  or_says None n q v = (q, v refl)
 
-  found_says : e ≤ length s → (p : Places) (r : Found) → first_place x s e p ≡ r → find_in (sought x) s e ≡ r → HintSays x s e (found_hint x s r)
+  found_says : e ≤ length s → (p : Places) (r : Option ℕ) → first_place x s e p ≡ r → find_in (sought x) s e ≡ r → HintSays x s e (found_hint x s r)
   unfolding found_hint
-  found_says l p (At k) z q =
+  found_says l p (Some k) z q =
       let i = place_within x s e p k z in
-      or_says (decided x s (At k)) (length s - k) (given_found x s e (At k) q)
-      (λ y m h g. given_found x s m (At k) (find_same (sought x) s e k m q h (omega arith)) ∙ y)
-  found_says l p Nothing z q =
-      (given_found x s e Nothing q ∙ decided_none x s, λ m h g. given_found x s m Nothing (find_lost (sought x) s e 0 m (omega arith) q) ∙ decided_none x s)
+      or_says (decided x s (Some k)) (length s - k) (given_found x s e (Some k) q)
+      (λ y m h g. given_found x s m (Some k) (find_same (sought x) s e k m q h (omega arith)) ∙ y)
+  found_says l p None z q =
+      (given_found x s e None q ∙ decided_none x s, λ m h g. given_found x s m None (find_lost (sought x) s e 0 m (omega arith) q) ∙ decided_none x s)
 
   pub first_says : (p : Places) → FirstPlaces s e p → e ≤ length s → (d : ℕ) → Idle (given x s) s e d → HintSays x s e (first_from x s e p d)
   unfolding first_from
@@ -89,20 +83,20 @@ module _ (x : First) (s : List ℕ) (e : ℕ) where
 
 -- a level's parts, one before the other
 module _ (s : List ℕ) (e : ℕ) where
-  pub before_says : (t u : Tried) (r : Level) → Says s e u r → Says s e (or_else t u) (before t r)
+  pub before_says : (t u : Option Answer) (r : ControlFlow Answer (ℕ × Hints)) → Says s e u r → Says s e (or_else t u) (before t r)
   unfolding or_else before
-  before_says (tries.Done a) u r w = refl
-  before_says tries.Next u r w = w
+  before_says (Some a) u r w = refl
+  before_says None u r w = w
 
-  hinted_says : (x : First) (r : Hinted) (u : Tried) (f : ℕ → Level) → HintSays x s e r → ((n : ℕ) → Idle (given x s) s e n → Says s e u (f n)) → Says s e (or_else (given x s e) u) (hinted r f)
+  hinted_says : (x : First) (r : ControlFlow Answer ℕ) (u : Option Answer) (f : ℕ → ControlFlow Answer (ℕ × Hints)) → HintSays x s e r → ((n : ℕ) → Idle (given x s) s e n → Says s e u (f n)) → Says s e (or_else (given x s e) u) (hinted r f)
   unfolding or_else hinted
-  hinted_says x (hint.Done a) u f w g = rw w
-  hinted_says x (hint.Next n) u f w g = rw w.0 (g n w.1)
+  hinted_says x (Break a) u f w g = rw w
+  hinted_says x (Continue n) u f w g = rw w.0 (g n w.1)
 
-  pub onward_says : (t u : Tried) (r : Level) (f : Hints → Level) → Says s e t r → ((h : Hints) → Known s e h → Says s e u (f h)) → Says s e (or_else t u) (onward r f)
+  pub onward_says : (t u : Option Answer) (r : ControlFlow Answer (ℕ × Hints)) (f : Hints → ControlFlow Answer (ℕ × Hints)) → Says s e t r → ((h : Hints) → Known s e h → Says s e u (f h)) → Says s e (or_else t u) (onward r f)
   unfolding or_else onward
-  onward_says t u (level.Done a) f w g = rw w
-  onward_says t u (level.Next k h) f w g = rw w.0 (g h w.1.1)
+  onward_says t u (Break a) f w g = rw w
+  onward_says t u (Continue (k, h)) f w g = rw w.0 (g h w.1.1)
 
 module _ (s : List ℕ) (e : ℕ) (p : Places) (f : FirstPlaces s e p) (l : e ≤ length s) where
   says : (x : First) (h : Hints) → Known s e h → HintSays x s e (first_from x s e p (hint_of h x))

@@ -2,11 +2,12 @@
 // Of the last five only the first occurrence counts: where that is no answer, one further on may be, on a level of the retry below; hints say what need not be looked for there again.
 #![tactic(auto)]
 
-ghost use Rattle.std.specs.Prelude.{◌≡◌, true, ◌<◌, ◌-◌, length};
+ghost use Rattle.std.specs.Prelude.{Option, Some, None, ◌≡◌, true, ◌<◌, ◌-◌, length};
+ghost use Rattle.std.specs.declared.ops.ControlFlow.{ControlFlow};
+ghost use Rattle.std.specs.declared.ops.ControlFlow.TheVariants.{Break, Continue};
 ghost use Rattle.table.specs.Table.{entries};
 ghost use Rattle.table.specs.declared.Mark.TheVariants as mark;
 ghost use Rattle.text.specs.Text.{stands};
-ghost use Rattle.text.specs.declared.Found.TheVariants as found;
 ghost use Rattle.lines.specs.Lines.{fixed_text};
 ghost use Rattle.parser.specs.Parser.{only_blanks, numeric_at};
 ghost use Rattle.items.specs.Rules.{first_custom, kind_of, custom_prompts, prompt_tried, custom_error, numeric_tried};
@@ -14,17 +15,9 @@ ghost use Rattle.items.specs.Hints.{sought, first_place, decided, first_from, no
 
 use answers::{Answer, Kind};
 use lines::Fixed;
-use parser::Numeric;
 use places::Places;
-use table::{Mark, Next};
-use text::{Blanks, Found, Span};
-
-// What a rule gives: an answer, or the next rule's turn.
-#[derive(Clone, Copy)]
-pub enum Tried {
-    Done(Answer),
-    Next,
-}
+use table::Mark;
+use text::{Blanks, Span};
 
 // The rules of which only the first occurrence counts.
 #[derive(Clone, Copy)]
@@ -34,13 +27,6 @@ pub enum First {
     Cme,
     Cms,
     Modem,
-}
-
-// What such a rule gives: an answer, or the hint for the levels below.
-#[derive(Clone, Copy)]
-pub enum Hinted {
-    Done(Answer),
-    Next(usize),
 }
 
 // A hint for each of them. It is a number of bytes: from a place with at least so many bytes behind it the rule is known not to answer.
@@ -54,37 +40,23 @@ pub struct Hints {
     pub modem: usize,
 }
 
-// What rules give on a level: an answer, or where the level's buf begins and the hints for the level below.
-#[derive(Clone, Copy)]
-pub enum Level {
-    Done(Answer),
-    Next(usize, Hints),
-}
-
-// Where a custom line occurs: its record's number, its text's length and the place; or nowhere.
-#[derive(Clone, Copy)]
-pub enum Occurs {
-    At(u32, usize, usize),
-    Nothing,
-}
-
 // Rules 3 and 5: the first record with the mark whose CRLF text CRLF occurs in s from e on.
-pub fn first_custom(table: &[u8], mark: Mark, s: &[u8], e: usize) -> Occurs
+pub fn first_custom(table: &[u8], mark: Mark, s: &[u8], e: usize) -> Option<(u32, usize, usize)>
     ensures { result ≡ first_custom (entries mark table.now 0 0) s.now e }
 {
     let mut at = 0;
     let mut n = 0;
     loop {
         match table::next_of(table, mark, at, n) {
-            Next::Nothing => {
-                return Occurs::Nothing;
+            None => {
+                return None;
             }
-            Next::Is(r, k) => {
+            Some((r, k)) => {
                 let start = r.place;
                 let end = start + r.len;
                 let x = &table[start..end];
-                if let Found::At(place) = parser::find_custom(s, e, x) {
-                    return Occurs::At(k as u32, r.len, place);
+                if let Some(place) = parser::find_custom(s, e, x) {
+                    return Some((k as u32, r.len, place));
                 }
                 at = end;
                 n = k + 1;
@@ -94,33 +66,33 @@ pub fn first_custom(table: &[u8], mark: Mark, s: &[u8], e: usize) -> Occurs
 }
 
 // Rule 4: a prompt, which consumes all, where the test holds.
-fn prompt_tried(s: &[u8], holds: bool, byte: u8) -> Tried
+fn prompt_tried(s: &[u8], holds: bool, byte: u8) -> Option<Answer>
     ensures { result ≡ prompt_tried holds byte s.now }
 {
     if !holds {
-        return Tried::Next;
+        return None;
     }
-    Tried::Done(answers::with_number(Kind::Prompt, byte as u32, s.len()))
+    Some(answers::with_number(Kind::Prompt, byte as u32, s.len()))
 }
 
 // Rule 4: custom prompts, in table order.
-fn prompts_of(table: &[u8], s: &[u8], e: usize) -> Tried
+fn prompts_of(table: &[u8], s: &[u8], e: usize) -> Option<Answer>
     ensures { result ≡ custom_prompts (entries mark.Prompt table.now 0 0) s.now e }
 {
     let mut at = 0;
     let mut n = 0;
     loop {
         match table::next_of(table, Mark::Prompt, at, n) {
-            Next::Nothing => {
-                return Tried::Next;
+            None => {
+                return None;
             }
-            Next::Is(r, k) => {
+            Some((r, k)) => {
                 let start = r.place;
                 let end = start + r.len;
                 let x = &table[start..end];
                 let holds = parser::custom_prompt(s, e, x);
-                if let Tried::Done(a) = prompt_tried(s, holds, r.prompt) {
-                    return Tried::Done(a);
+                if let Some(a) = prompt_tried(s, holds, r.prompt) {
+                    return Some(a);
                 }
                 at = end;
                 n = k + 1;
@@ -130,64 +102,64 @@ fn prompts_of(table: &[u8], s: &[u8], e: usize) -> Tried
 }
 
 // The same; an empty table costs no call.
-pub fn custom_prompts(table: &[u8], s: &[u8], e: usize) -> Tried
+pub fn custom_prompts(table: &[u8], s: &[u8], e: usize) -> Option<Answer>
     ensures { result ≡ custom_prompts (entries mark.Prompt table.now 0 0) s.now e }
 {
     if table.len() == 0 {
-        return Tried::Next;
+        return None;
     }
     prompts_of(table, s, e)
 }
 
 // Rule 5: the first CE record that occurs; the payload is the text itself.
-pub fn custom_error(table: &[u8], s: &[u8], e: usize) -> Tried
+pub fn custom_error(table: &[u8], s: &[u8], e: usize) -> Option<Answer>
     ensures { result ≡ custom_error (first_custom (entries mark.Error table.now 0 0) s.now e) }
 {
     if table.len() == 0 {
-        return Tried::Next;
+        return None;
     }
     match first_custom(table, Mark::Error, s, e) {
-        Occurs::At(n, len, k) => {
+        Some((n, len, k)) => {
             let text = Span {
                 start: k + 2,
                 len: len,
             };
-            Tried::Done(answers::with_payload(Kind::Custom, n, text, k + (len + 4)))
+            Some(answers::with_payload(Kind::Custom, n, text, k + (len + 4)))
         }
-        Occurs::Nothing => Tried::Next,
+        None => None,
     }
 }
 
 // Rule 4: `>` or `@` at its first place.
-fn prompt_at(s: &[u8], place: usize, byte: u8) -> Tried
+fn prompt_at(s: &[u8], place: usize, byte: u8) -> Option<Answer>
     requires { place < length s.now }
-    ensures { result ≡ prompt_tried (only_blanks s.now (found.At place)) byte s.now }
+    ensures { result ≡ prompt_tried (only_blanks s.now (Some place)) byte s.now }
 {
     let end = text::skip(Blanks::Run, s, place + 1);
     prompt_tried(s, s.len() <= end, byte)
 }
 
 // Rule 5: a numeric error, its head at its first place; with its digits as they came (R-2).
-fn numeric_at(s: &[u8], place: usize, kind: Kind, head: Fixed) -> Tried
+fn numeric_at(s: &[u8], place: usize, kind: Kind, head: Fixed) -> Option<Answer>
     requires { (kind ≡ kind_of head) × (stands (fixed_text head) s.now place ≡ true) }
     ensures { result ≡ numeric_tried head (numeric_at (fixed_text head) s.now place) }
 {
     let behind = place + lines::fixed_len(head);
     match parser::tail_at(s, behind) {
-        Numeric::Is(d) => {
+        Some(d) => {
             let len = d.stop - d.start;
             let digits = Span {
                 start: d.start,
                 len: len,
             };
-            Tried::Done(answers::with_digits(kind, d.code, digits, d.end))
+            Some(answers::with_digits(kind, d.code, digits, d.end))
         }
-        Numeric::Nothing => Tried::Next,
+        None => None,
     }
 }
 
 // The first place of what the rule looks for.
-fn first_place(rule: First, s: &[u8], e: usize, places: Places) -> Found
+fn first_place(rule: First, s: &[u8], e: usize, places: Places) -> Option<usize>
     ensures { result ≡ first_place rule s.now e places }
 {
     match rule {
@@ -200,9 +172,9 @@ fn first_place(rule: First, s: &[u8], e: usize, places: Places) -> Found
 }
 
 // What the rule gives there.
-fn first_at(rule: First, s: &[u8], place: usize) -> Tried
+fn first_at(rule: First, s: &[u8], place: usize) -> Option<Answer>
     requires { stands (sought rule) s.now place ≡ true }
-    ensures { result ≡ decided rule s.now (found.At place) }
+    ensures { result ≡ decided rule s.now (Some place) }
 {
     match rule {
         First::Greater => prompt_at(s, place, b'>'),
@@ -225,39 +197,37 @@ fn behind(s: &[u8], place: usize) -> usize
 }
 
 // What the rule gives from e on. Where at least d bytes are left it is known not to answer, and isn't looked for again.
-fn first_from(rule: First, s: &[u8], e: usize, places: Places, d: usize) -> Hinted
+fn first_from(rule: First, s: &[u8], e: usize, places: Places, d: usize) -> ControlFlow<Answer, usize>
     ensures { result ≡ first_from rule s.now e places d }
 {
     if d <= behind(s, e) {
-        return Hinted::Next(d);
+        return ControlFlow::Continue(d);
     }
-    let Found::At(place) = first_place(rule, s, e, places) else {
-        return Hinted::Next(0);
+    let Some(place) = first_place(rule, s, e, places) else {
+        return ControlFlow::Continue(0);
     };
     match first_at(rule, s, place) {
-        Tried::Done(a) => Hinted::Done(a),
-        Tried::Next => Hinted::Next(s.len() - place),
+        Some(a) => ControlFlow::Break(a),
+        None => ControlFlow::Continue(s.len() - place),
     }
 }
 
 // Rule 4 behind the custom prompts: the bytes `>`, then `@`, each looked for by itself.
-fn prompt_each(s: &[u8], e: usize, places: Places, hints: Hints) -> Level
+fn prompt_each(s: &[u8], e: usize, places: Places, hints: Hints) -> ControlFlow<Answer, (usize, Hints)>
     ensures { result ≡ prompt_bytes s.now e places hints }
 {
     match first_from(First::Greater, s, e, places, hints.greater) {
-        Hinted::Done(a) => Level::Done(a),
-        Hinted::Next(greater) => match first_from(First::Sign, s, e, places, hints.sign) {
-            Hinted::Done(a) => Level::Done(a),
-            Hinted::Next(sign) => Level::Next(
-                e,
+        ControlFlow::Break(a) => ControlFlow::Break(a),
+        ControlFlow::Continue(greater) => match first_from(First::Sign, s, e, places, hints.sign) {
+            ControlFlow::Break(a) => ControlFlow::Break(a),
+            ControlFlow::Continue(sign) => ControlFlow::Continue((e,
                 Hints {
                     greater: greater,
                     sign: sign,
                     cme: hints.cme,
                     cms: hints.cms,
                     modem: hints.modem,
-                },
-            ),
+                })),
         },
     }
 }
@@ -287,7 +257,7 @@ fn nowhere(d: usize, left: usize) -> usize
 }
 
 // Rule 4 behind the custom prompts, on the outermost level: in a short input in one go where neither byte is there, as in most answers.
-pub fn prompt_bytes(s: &[u8], e: usize, places: Places, hints: Hints) -> Level
+pub fn prompt_bytes(s: &[u8], e: usize, places: Places, hints: Hints) -> ControlFlow<Answer, (usize, Hints)>
     ensures { result ≡ prompt_bytes s.now e places hints }
 {
     if s.len() < seek::SHORT {
@@ -300,32 +270,30 @@ pub fn prompt_bytes(s: &[u8], e: usize, places: Places, hints: Hints) -> Level
                 cms: hints.cms,
                 modem: hints.modem,
             };
-            return Level::Next(e, known);
+            return ControlFlow::Continue((e, known));
         }
     }
     prompt_each(s, e, places, hints)
 }
 
 // Rule 5: CME, CMS, MODEM ERROR.
-pub fn numerics(s: &[u8], e: usize, places: Places, hints: Hints) -> Level
+pub fn numerics(s: &[u8], e: usize, places: Places, hints: Hints) -> ControlFlow<Answer, (usize, Hints)>
     ensures { result ≡ numerics s.now e places hints }
 {
     match first_from(First::Cme, s, e, places, hints.cme) {
-        Hinted::Done(a) => Level::Done(a),
-        Hinted::Next(cme) => match first_from(First::Cms, s, e, places, hints.cms) {
-            Hinted::Done(a) => Level::Done(a),
-            Hinted::Next(cms) => match first_from(First::Modem, s, e, places, hints.modem) {
-                Hinted::Done(a) => Level::Done(a),
-                Hinted::Next(modem) => Level::Next(
-                    e,
+        ControlFlow::Break(a) => ControlFlow::Break(a),
+        ControlFlow::Continue(cme) => match first_from(First::Cms, s, e, places, hints.cms) {
+            ControlFlow::Break(a) => ControlFlow::Break(a),
+            ControlFlow::Continue(cms) => match first_from(First::Modem, s, e, places, hints.modem) {
+                ControlFlow::Break(a) => ControlFlow::Break(a),
+                ControlFlow::Continue(modem) => ControlFlow::Continue((e,
                     Hints {
                         greater: hints.greater,
                         sign: hints.sign,
                         cme: cme,
                         cms: cms,
                         modem: modem,
-                    },
-                ),
+                    })),
             },
         },
     }
@@ -354,14 +322,14 @@ fn idle(hints: Hints, left: usize) -> bool
 }
 
 // The five in their order; where all of them are known not to answer, none is looked for.
-pub fn firsts(s: &[u8], e: usize, places: Places, hints: Hints) -> Level
+pub fn firsts(s: &[u8], e: usize, places: Places, hints: Hints) -> ControlFlow<Answer, (usize, Hints)>
     ensures { result ≡ firsts s.now e places hints }
 {
     if idle(hints, behind(s, e)) {
-        return Level::Next(e, hints);
+        return ControlFlow::Continue((e, hints));
     }
     match prompt_each(s, e, places, hints) {
-        Level::Done(a) => Level::Done(a),
-        Level::Next(_, known) => numerics(s, e, places, known),
+        ControlFlow::Break(a) => ControlFlow::Break(a),
+        ControlFlow::Continue((_, known)) => numerics(s, e, places, known),
     }
 }

@@ -2,7 +2,6 @@
 #![tactic(auto)]
 
 use answers::{Answer, Kind};
-use digest::Digested;
 use lines::Digester;
 use std::io;
 
@@ -44,7 +43,7 @@ fn put_quoted(rt: &impl Print, text: &[u8]) -> io::Result<()> {
 // A prompt's byte, a code, or an Ok's or a notice's payload; an Ok may have none.
 fn put_value(rt: &impl Print, input: &[u8], a: Answer) -> io::Result<()> {
     let kind = a.kind;
-    let payload = digest::payload(input, a.place, a.len);
+    let payload = digest::payload(input, a.payload.start, a.payload.len);
     match kind {
         Kind::Prompt => {
             let byte = [(a.number % 256) as u8];
@@ -82,7 +81,7 @@ fn put_text(rt: &impl Print, payload: &[u8]) -> io::Result<()> {
 // One line: the answer, and the bytes consumed.
 fn show(rt: &impl Print, table: &[u8], input: &[u8]) -> io::Result<()> {
     match digest::digest(Digester::Verbose, table, input) {
-        Digested::Is(a) => {
+        Ok(a) => {
             let kind = a.kind;
             put_kind(rt, kind)?;
             put_value(rt, input, a)?;
@@ -90,8 +89,8 @@ fn show(rt: &impl Print, table: &[u8], input: &[u8]) -> io::Result<()> {
             put_number(rt, a.consumed as u64)?;
             put(rt, b"\n")
         }
-        Digested::TooLong => put(rt, b"refused 1\n"),
-        Digested::BadTable(k) => {
+        Err(DigestError::TooLong) => put(rt, b"refused 1\n"),
+        Err(DigestError::BadTable(k)) => {
             put(rt, b"refused 2 ")?;
             put_number(rt, k as u64)?;
             put(rt, b"\n")

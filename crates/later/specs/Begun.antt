@@ -1,7 +1,7 @@
 -- Where a notice begins: one that is heard where buf begins has its payload two bytes behind that, and no other notice has (`first_told`); an ended one there is heard
 -- (`ended_heard`), and as a notice (`notices_notice`).
 use Rattle.std.proofs.Math.Path.{◌≡◌, refl, ap}
-use Rattle.std.proofs.Common.{sym, ◌∙◌, inl, inr, arith, get_or-take, get_or-drop, ne_eqb}
+use Rattle.std.proofs.Common.{Option, Some, None, sym, ◌∙◌, inl, inr, arith, get_or-take, get_or-drop, ne_eqb}
 use Rattle.std.proofs.Math.Bool.{true, false}
 use Rattle.std.specs.Prelude.{Bool, get_or, drop, if◌then◌else◌}
 use mathlib.Core.List.{List, [], ◌∷◌}
@@ -28,11 +28,9 @@ use Rattle.answers.specs.declared.Kind.TheVariants as kind
 use Rattle.answers.specs.declared.Answer.{Answer}
 use Rattle.items.specs.Laws.{next_both, done_next}
 use Rattle.items.specs.Rules.{or_else, skipped, heard, notices, successes, prompts, errors, tried}
-use Rattle.items.specs.declared.Tried.{Tried}
-use Rattle.items.specs.declared.Tried.TheVariants as tries
 use Rattle.digest.specs.Items.{crlf_lf, stands_here}
 use Rattle.digest.specs.Digest.{retries, again, after, digest_in}
-use Rattle.digest.specs.Finished.{Some, NoticeEnd, crlf_end, colon, NoticeEnded}
+use Rattle.digest.specs.Finished.{AnyOf, NoticeEnd, crlf_end, colon, NoticeEnded}
 use Rattle.digest.specs.Numbered.{Below, others_below}
 use Rattle.digest.specs.Position.{ended_told}
 use Rattle.digest.specs.Step.{TriedHas, either_has, digest_step, done_is}
@@ -110,7 +108,7 @@ module _ (s : List ℕ) (i k : ℕ) (h : stands crlf s i ≡ true) (f : is_blank
 -- So a notice that is heard where buf begins has its payload two bytes behind that.
 pub record Begun (s : List ℕ) (a : Answer) : Type 0 where
   pub line : NoticeLine s a.consumed
-  pub place : a.place ≡ skipped s + 2
+  pub place : a.payload.start ≡ skipped s + 2
 
 abbrev pub IfNotice : List ℕ → Answer → Type 0
 IfNotice s a = is_notice a.kind ≡ true → Begun s a
@@ -131,13 +129,13 @@ notices_begun s [] w = tt
 notices_begun s (x ∷ l) w =
     either_has (IfNotice s) (heard (notice_at x.text s (skipped s)) x.number s (skipped s)) (notices l s (skipped s)) (heard_begun s x w.0 (notice_at x.text s (skipped s)) refl) (notices_begun s l w.1)
 
-has_map : (P Q : Answer → Type 0) → ((a : Answer) → P a → Q a) → (t : Tried) → TriedHas P t → TriedHas Q t
-has_map P Q f (tries.Done a) h = f a h
-has_map P Q f tries.Next h = tt
+has_map : (P Q : Answer → Type 0) → ((a : Answer) → P a → Q a) → (t : Option Answer) → TriedHas P t → TriedHas Q t
+has_map P Q f (Some a) h = f a h
+has_map P Q f None h = tt
 
 module _ (d : Digester) (ts : List Token) (good : Texts ts) where
   -- Rules 3 to 5 give no notice, and the retry none whose payload stands so far in front.
-  abbrev others : List ℕ → ℕ → Tried
+  abbrev others : List ℕ → ℕ → Option Answer
   others s e = or_else (successes d (of_mark mark.Success 0 ts) s e) (or_else (prompts (of_mark mark.Prompt 0 ts) s e) (errors (of_mark mark.Error 0 ts) s e))
 
   tried_begun : (s : List ℕ) → TriedHas (IfNotice s) (tried d ts s (skipped s))
@@ -147,7 +145,7 @@ module _ (d : Digester) (ts : List Token) (good : Texts ts) where
       (has_map (Below 0) (IfNotice s) (λ a h z. absurd (omega (arith, h z))) (others s (skipped s)) (others_below 0 s (skipped s) d ts))
 
   abbrev Further : Answer → Type 0
-  Further a = is_notice a.kind ≡ true → (a.len ≡ 0 → ⊥) → 1 ≤ a.place
+  Further a = is_notice a.kind ≡ true → (a.payload.len ≡ 0 → ⊥) → 1 ≤ a.payload.start
 
   again_further : (e : ℕ) (r : Answer) → Further (again e r)
   unfolding again shift
@@ -157,12 +155,12 @@ module _ (d : Digester) (ts : List Token) (good : Texts ts) where
   unfolding after
   further s = rw (digest_step d ts s) (go (tried d ts s (skipped s)) (tried_begun s))
     where
-      go : (r : Tried) → TriedHas (IfNotice s) r → Further (after s (digest_in d ts) (skipped s) r)
-      go (tries.Done a) w = λ z y. omega (arith, (w z).place)
-      go tries.Next w = ways Further (retries s (skipped s)) (λ q. again_further (skipped s) (digest_in d ts (drop (skipped s + 2) s))) (λ q z. absurd (false_true z refl))
+      go : (r : Option Answer) → TriedHas (IfNotice s) r → Further (after s (digest_in d ts) (skipped s) r)
+      go (Some a) w = λ z y. omega (arith, (w z).place)
+      go None w = ways Further (retries s (skipped s)) (λ q. again_further (skipped s) (digest_in d ts (drop (skipped s + 2) s))) (λ q z. absurd (false_true z refl))
 
   -- where rule 2 doesn't answer
-  module _ (s : List ℕ) (h : notices (of_mark mark.Notice 0 ts) s (skipped s) ≡ tries.Next) where
+  module _ (s : List ℕ) (h : notices (of_mark mark.Notice 0 ts) s (skipped s) ≡ None) where
     no_notice : TriedHas (Below 0) (tried d ts s (skipped s))
     unfolding tried or_else
     no_notice = rw h (others_below 0 s (skipped s) d ts)
@@ -183,18 +181,18 @@ module _ (d : Digester) (ts : List Token) (good : Texts ts) where
     unfolding after
     elsewhere = rw (digest_step d ts s) (go (tried d ts s (skipped s)) no_notice)
       where
-        go : (r : Tried) → TriedHas (Below 0) r → is_notice (after s (digest_in d ts) (skipped s) r).kind ≡ true → (after s (digest_in d ts) (skipped s) r).place ≡ skipped s + 2 → ⊥
-        go (tries.Done a) w = λ z p. omega (arith, w z)
-        go tries.Next w =
-            ways (λ (a : Answer). is_notice a.kind ≡ true → a.place ≡ skipped s + 2 → ⊥) (retries s (skipped s))
+        go : (r : Option Answer) → TriedHas (Below 0) r → is_notice (after s (digest_in d ts) (skipped s) r).kind ≡ true → (after s (digest_in d ts) (skipped s) r).place ≡ skipped s + 2 → ⊥
+        go (Some a) w = λ z p. omega (arith, w z)
+        go None w =
+            ways (λ (a : Answer). is_notice a.kind ≡ true → a.payload.start ≡ skipped s + 2 → ⊥) (retries s (skipped s))
             (λ q. again_elsewhere (digest_in d ts (drop (skipped s + 2) s)) (further (drop (skipped s + 2) s))) (λ q z p. false_true z refl)
 
-  pub first_told : (s : List ℕ) (a : Answer) → digest_in d ts s ≡ a → is_notice a.kind ≡ true → a.place ≡ skipped s + 2 → notices (of_mark mark.Notice 0 ts) s (skipped s) ≡ tries.Done a
+  pub first_told : (s : List ℕ) (a : Answer) → digest_in d ts s ≡ a → is_notice a.kind ≡ true → a.payload.start ≡ skipped s + 2 → notices (of_mark mark.Notice 0 ts) s (skipped s) ≡ Some a
   first_told s a p z l = go (notices (of_mark mark.Notice 0 ts) s (skipped s)) refl
     where
-      go : (r : Tried) → notices (of_mark mark.Notice 0 ts) s (skipped s) ≡ r → r ≡ tries.Done a
-      go (tries.Done b) q = ap tries.Done (sym (done_is d ts s b (noticed d ts s (skipped s) b q)) ∙ p)
-      go tries.Next q = absurd (elsewhere s q (rw p z) (rw p l))
+      go : (r : Option Answer) → notices (of_mark mark.Notice 0 ts) s (skipped s) ≡ r → r ≡ Some a
+      go (Some b) q = ap Some (sym (done_is d ts s b (noticed d ts s (skipped s) b q)) ∙ p)
+      go None q = absurd (elsewhere s q (rw p z) (rw p l))
 
 -- Where CRLF stands where buf begins and again behind it, what rule 2 answers is a notice.
 module _ (s : List ℕ) (here : stands crlf s (skipped s) ≡ true) (q : ℕ) (far : skipped s + 2 ≤ q) (there : stands crlf s q ≡ true) where
@@ -210,7 +208,7 @@ module _ (s : List ℕ) (here : stands crlf s (skipped s) ≡ true) (q : ℕ) (f
       go notice.Nothing p = tt
 
 -- and an ended one is answered
-pub ended_heard : (d : Digester) (ts : List Token) (good : Texts ts) (s : List ℕ) (e n : ℕ) (l : List Entry) → Some (λ x. NoticeEnded x.text (drop e s) n) l → notices l s e ≡ tries.Next → ⊥
+pub ended_heard : (d : Digester) (ts : List Token) (good : Texts ts) (s : List ℕ) (e n : ℕ) (l : List Entry) → AnyOf (λ x. NoticeEnded x.text (drop e s) n) l → notices l s e ≡ None → ⊥
 unfolding notices heard
 ended_heard d ts good s e n [] h g = h
 ended_heard d ts good s e n (x ∷ l) (inl h) g = done_next _ (ap (λ (r : Notice). heard r x.number s e) (notice_front d ts good s e x.text n h)) (next_both (heard (notice_at x.text s e) x.number s e) (notices l s e) g).0

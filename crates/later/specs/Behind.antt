@@ -1,7 +1,7 @@
 -- Bytes added behind, where CRLF stands where buf begins and again behind it: rules 1 and 2 give the same, and so does the digest where rule 2 answers (`notice_stays`),
 -- or where an OK line stands and no `CS` text is looked for (`line_stays`).
 use Rattle.std.proofs.Math.Path.{◌≡◌, refl, sym, ap}
-use Rattle.std.proofs.Common.{◌∙◌, ⊎_elim, length-append}
+use Rattle.std.proofs.Common.{Option, Some, None, ◌∙◌, ⊎_elim, length-append}
 use Rattle.std.specs.Prelude.{Bool, ℕ, ◌+◌, ◌-◌, ◌≤◌, ◌<◌, get_or, if◌then◌else◌}
 use Rattle.std.proofs.Math.Bool.{true, false}
 use mathlib.Core.List.{List, [], ◌∷◌, ◌++◌}
@@ -13,8 +13,6 @@ use Rattle.text.specs.Logic.{false_true, not_true_false, and_both, order}
 use Rattle.text.specs.Text.{is_blank, past, trimmed_part, stands, find_in}
 use Rattle.text.specs.Laws.{found_at, found_none, stands_fits, stands_byte, stands_get_d, stands_front, stands_append, stands_behind, find_behind, past_passes, past_stops, past_is}
 use Rattle.text.specs.declared.Blanks.TheVariants as sets
-use Rattle.text.specs.declared.Found.{Found}
-use Rattle.text.specs.declared.Found.TheVariants.{At, Nothing}
 use Rattle.moves.specs.Laws.{part_first}
 use Rattle.table.specs.Table.{is_text, Entry, Token, of_mark}
 use Rattle.table.specs.Laws.{EntryTexts, text_byte, Texts, mark_texts}
@@ -31,8 +29,6 @@ use Rattle.answers.specs.declared.Kind.TheVariants as kind
 use Rattle.answers.specs.declared.Answer.{Answer}
 use Rattle.items.specs.Rules.{or_else, found_or, skipped, heard, notices, first_custom, custom_success, line_success, success, successes, tried}
 use Rattle.items.specs.Laws.{hit}
-use Rattle.items.specs.declared.Tried.{Tried}
-use Rattle.items.specs.declared.Tried.TheVariants as tries
 use Rattle.digest.specs.Items.{lf_not_broken, crlf_lf}
 use Rattle.digest.specs.Digest.{digest_in}
 use Rattle.digest.specs.Step.{done_is}
@@ -56,12 +52,12 @@ module _ (s v : List ℕ) where
   unfolding skipped found_or
   skip_behind = go (find_in crlf s (past (is_blank sets.Space) s 0)) refl
     where
-      go : (r : Found) → find_in crlf s (past (is_blank sets.Space) s 0) ≡ r → stands crlf s (found_or r (past (is_blank sets.Space) s 0)) ≡ true → skipped (s ++ v) ≡ found_or r (past (is_blank sets.Space) s 0)
-      go (At k) q h =
+      go : (r : Option ℕ) → find_in crlf s (past (is_blank sets.Space) s 0) ≡ r → stands crlf s (found_or r (past (is_blank sets.Space) s 0)) ≡ true → skipped (s ++ v) ≡ found_or r (past (is_blank sets.Space) s 0)
+      go (Some k) q h =
           let a = past (is_blank sets.Space) s 0 in
           let f = stands_fits crlf s k (omega arith) h in
           rw (spaces_behind (omega (arith, (found_at crlf s a k q).after)), find_behind crlf s v a k f q)
-      go Nothing q h = let a = past (is_blank sets.Space) s 0 in absurd (false_true h (found_none crlf s a q a (omega arith)))
+      go None q h = let a = past (is_blank sets.Space) s 0 in absurd (false_true h (found_none crlf s a q a (omega arith)))
 
 pub ending_two : (u : List ℕ) (e : ℕ) → stands crlf u e ≡ true → 2 ≡ line_ending u e
 ending_two u e h = ending_crlf u e (not_true_false (stands (bytes "\n") u e) (λ g. omega (arith, (stands_byte 10 [] u e g).1.0, (stands_byte 13 (10 ∷ []) u e h).1.0))) h
@@ -78,10 +74,10 @@ module _ (u : List ℕ) (e q : ℕ) (opened : stands crlf u e ≡ true) (far : e
   unfolding notice_text through
   finished h = go (stands (x ++ crlf) u (e + 2)) (stands (x ++ bytes ":") u (e + 2)) (find_in crlf u (e + 2 + length x + 1)) (rw unbroken at (at_text ∙ h))
     where
-      go : (b c : Bool) (r : Found) → (if b then notice.Ended (e + 2 + length x + 2) else if c then through r else notice.Nothing) ≡ notice.Unfinished → ⊥
+      go : (b c : Bool) (r : Option ℕ) → (if b then notice.Ended (e + 2 + length x + 2) else if c then through r else notice.Nothing) ≡ notice.Unfinished → ⊥
       go true c r g = let z : ◌≡◌ {A = ℕ} 0 1 = cc in omega arith
-      go false true (At k) g = let z : ◌≡◌ {A = ℕ} 0 1 = cc in omega arith
-      go false true Nothing g = let z : ◌≡◌ {A = ℕ} 0 1 = cc in omega arith
+      go false true (Some k) g = let z : ◌≡◌ {A = ℕ} 0 1 = cc in omega arith
+      go false true None g = let z : ◌≡◌ {A = ℕ} 0 1 = cc in omega arith
       go false false r g = let z : ◌≡◌ {A = ℕ} 0 1 = cc in omega arith
 
   text_before : stands x u (e + 2) ≡ true → e + 2 + length x ≤ q
@@ -120,9 +116,9 @@ module _ (s v : List ℕ) (e q : ℕ) (here : stands crlf s e ≡ true) (far : e
     through_same : stands (x ++ bytes ":") s (e + 2) ≡ true → find_in crlf (s ++ v) (e + 2 + length x + 1) ≡ find_in crlf s (e + 2 + length x + 1)
     through_same h = go (find_in crlf s (e + 2 + length x + 1)) refl
       where
-        go : (r : Found) → find_in crlf s (e + 2 + length x + 1) ≡ r → find_in crlf (s ++ v) (e + 2 + length x + 1) ≡ r
-        go (At k) f = find_behind crlf s v (e + 2 + length x + 1) k (stands_fits crlf s k (omega arith) (found_at crlf s (e + 2 + length x + 1) k f).here) f
-        go Nothing f =
+        go : (r : Option ℕ) → find_in crlf s (e + 2 + length x + 1) ≡ r → find_in crlf (s ++ v) (e + 2 + length x + 1) ≡ r
+        go (Some k) f = find_behind crlf s v (e + 2 + length x + 1) k (stands_fits crlf s k (omega arith) (found_at crlf s (e + 2 + length x + 1) k f).here) f
+        go None f =
             let w = and_both (stands x s (e + 2)) (stands (bytes ":") s (e + 2 + length x)) (sym (stands_append x (bytes ":") s (e + 2)) ∙ h) in
             let l = text_before s e q here far there x t w.0 in
             ⊎_elim
@@ -160,7 +156,7 @@ module _ (s v : List ℕ) (e q : ℕ) (here : stands crlf s e ≡ true) (far : e
 -- an OK line in the input: the first from where buf begins, with CRLF at both ends of it
 pub record FirstOk (s : List ℕ) : Type 0 where
   pub k : ℕ
-  pub found : find_in (fixed_text fixed.Ok) s (skipped s) ≡ At k
+  pub found : find_in (fixed_text fixed.Ok) s (skipped s) ≡ Some k
   pub after : skipped s ≤ k
   pub here : stands crlf s (skipped s) ≡ true
   pub there : stands crlf s (k + 4) ≡ true
@@ -168,20 +164,20 @@ pub record FirstOk (s : List ℕ) : Type 0 where
 pub first_ok : (s : List ℕ) (j : ℕ) → stands (fixed_text fixed.Ok) s j ≡ true → FirstOk s
 first_ok s j h = go (find_in (fixed_text fixed.Ok) s (skipped s)) refl (first_crlf s j (stands_front crlf (bytes "OK\r\n") s j h))
   where
-    go : (r : Found) → find_in (fixed_text fixed.Ok) s (skipped s) ≡ r → (skipped s ≤ j) × (stands crlf s (skipped s) ≡ true) → FirstOk s
-    go (At k) f c =
+    go : (r : Option ℕ) → find_in (fixed_text fixed.Ok) s (skipped s) ≡ r → (skipped s ≤ j) × (stands crlf s (skipped s) ≡ true) → FirstOk s
+    go (Some k) f c =
         let w = found_at (fixed_text fixed.Ok) s (skipped s) k f in
         let b = and_both (stands (bytes "\r\nOK") s k) (stands crlf s (k + 4)) (sym (stands_append (bytes "\r\nOK") crlf s k) ∙ w.here) in
         record { k = k; found = f; after = w.after; here = c.1; there = b.1 }
-    go Nothing f c = absurd (false_true h (found_none (fixed_text fixed.Ok) s (skipped s) f j c.0))
+    go None f c = absurd (false_true h (found_none (fixed_text fixed.Ok) s (skipped s) f j c.0))
 
 module _ (d : Digester) (ts : List Token) where
-  pub noticed : (s : List ℕ) (e : ℕ) (a : Answer) → notices (of_mark mark.Notice 0 ts) s e ≡ tries.Done a → tried d ts s e ≡ tries.Done a
+  pub noticed : (s : List ℕ) (e : ℕ) (a : Answer) → notices (of_mark mark.Notice 0 ts) s e ≡ Some a → tried d ts s e ≡ Some a
   unfolding tried
   noticed s e a h = sym (hit (notices (of_mark mark.Notice 0 ts) s e) _ _ a refl h)
 
   -- the first OK line at k, before which no `CS` text is looked for
-  pub ok_done : of_mark mark.Success 0 ts ≡ [] → (s : List ℕ) (e k : ℕ) → find_in (fixed_text fixed.Ok) s e ≡ At k → notices (of_mark mark.Notice 0 ts) s e ≡ tries.Next → tried d ts s e ≡ tries.Done (with_payload kind.Ok 0 (trimmed_part s e k) (k + 6))
+  pub ok_done : of_mark mark.Success 0 ts ≡ [] → (s : List ℕ) (e k : ℕ) → find_in (fixed_text fixed.Ok) s e ≡ Some k → notices (of_mark mark.Notice 0 ts) s e ≡ None → tried d ts s e ≡ Some (with_payload kind.Ok 0 (trimmed_part s e k) (k + 6))
   unfolding tried successes first_custom custom_success line_success success or_else
   ok_done none s e k f g = rw (g, none, f)
 
@@ -191,18 +187,18 @@ module _ (d : Digester) (ts : List Token) (good : Texts ts) (s v : List ℕ) whe
     same_notices : notices (of_mark mark.Notice 0 ts) (s ++ v) (skipped s) ≡ notices (of_mark mark.Notice 0 ts) s (skipped s)
     same_notices = notices_behind s v (skipped s) q here far there (of_mark mark.Notice 0 ts) (mark_texts mark.Notice 0 ts good)
 
-    stays : (a : Answer) → tried d ts s (skipped s) ≡ tries.Done a → tried d ts (s ++ v) (skipped s) ≡ tries.Done a → digest_in d ts (s ++ v) ≡ digest_in d ts s
+    stays : (a : Answer) → tried d ts s (skipped s) ≡ Some a → tried d ts (s ++ v) (skipped s) ≡ Some a → digest_in d ts (s ++ v) ≡ digest_in d ts s
     stays a h g = done_is d ts (s ++ v) a (ap (tried d ts (s ++ v)) (skip_behind s v here) ∙ g) ∙ sym (done_is d ts s a h)
 
-    pub notice_stays : (a : Answer) → notices (of_mark mark.Notice 0 ts) s (skipped s) ≡ tries.Done a → digest_in d ts (s ++ v) ≡ digest_in d ts s
+    pub notice_stays : (a : Answer) → notices (of_mark mark.Notice 0 ts) s (skipped s) ≡ Some a → digest_in d ts (s ++ v) ≡ digest_in d ts s
     notice_stays a h = stays a (noticed d ts s (skipped s) a h) (noticed d ts (s ++ v) (skipped s) a (same_notices ∙ h))
 
   pub line_stays : of_mark mark.Success 0 ts ≡ [] → (j : ℕ) → stands (fixed_text fixed.Ok) s j ≡ true → digest_in d ts (s ++ v) ≡ digest_in d ts s
   line_stays none j h = go (first_ok s j h) (notices (of_mark mark.Notice 0 ts) s (skipped s)) refl
     where
-      go : FirstOk s → (r : Tried) → notices (of_mark mark.Notice 0 ts) s (skipped s) ≡ r → digest_in d ts (s ++ v) ≡ digest_in d ts s
-      go w (tries.Done a) p = notice_stays w.here (w.k + 4) (omega (arith, w.after)) w.there a p
-      go w tries.Next p =
+      go : FirstOk s → (r : Option Answer) → notices (of_mark mark.Notice 0 ts) s (skipped s) ≡ r → digest_in d ts (s ++ v) ≡ digest_in d ts s
+      go w (Some a) p = notice_stays w.here (w.k + 4) (omega (arith, w.after)) w.there a p
+      go w None p =
           let e = skipped s in
           let far : e + 2 ≤ w.k + 4 = omega (arith, w.after) in
           let f = stands_fits crlf s (w.k + 4) (omega arith) w.there in

@@ -17,7 +17,7 @@ use Rattle.answers.specs.declared.Kind.TheVariants.{None, Ok, Prompt, Error, Not
 use Rattle.answers.specs.declared.Answer.{Answer}
 use Rattle.digest.specs.Digest as verbose
 use Rattle.digest.specs.Calls.{digest_long}
-use Rattle.digest.specs.Finished.{Some, LineStart, at_crlf}
+use Rattle.digest.specs.Finished.{AnyOf, LineStart, at_crlf}
 use Rattle.digest.specs.Examples.{Said, said_of}
 use Rattle.numeric.specs.Numeric as numeric
 use Rattle.selector.specs.Selector.{digest}
@@ -85,7 +85,7 @@ all_differ_lem : all_differ changes ≡ true
 unfolding verbose.digest numeric.digest trimmed_part is_blank past keep trimmed stands find_in part_of ruling tokens of_mark numeric_error prompt_from custom_prompt notice_at
 all_differ_lem = refl
 
-none_final : (l : List Change) → all_differ l ≡ true → (a : Answer) → Some (λ x. Final x.selector x.table (bytes x.input) a) l → ⊥
+none_final : (l : List Change) → all_differ l ≡ true → (a : Answer) → AnyOf (λ x. Final x.selector x.table (bytes x.input) a) l → ⊥
 none_final [] h a g = g
 none_final (x ∷ l) h a (inl g) =
     let s = bytes x.input in
@@ -98,7 +98,7 @@ none_final (x ∷ l) h a (inl g) =
     false_true w.1 (ap not (eq-eqb m n z))
 none_final (x ∷ l) h a (inr g) = none_final l (and_both (differs x) (all_differ l) h).1 a g
 
-pub not_final : (a : Answer) → Some (λ x. Final x.selector x.table (bytes x.input) a) changes → ⊥
+pub not_final : (a : Answer) → AnyOf (λ x. Final x.selector x.table (bytes x.input) a) changes → ⊥
 not_final = none_final changes all_differ_lem
 
 -- The theorem with one condition left out: false each time. That the answer is an Ok is no such condition: with an OK line in the input any answer is final (`line_settled`).
@@ -113,7 +113,7 @@ unfolding verbose.digest trimmed_part is_blank past keep trimmed stands find_in 
 needs_line f = not_final (bare Ok 11) (inr (inr (inl (f [] (bytes "\r\nCONNECT\r\n") (bare Ok 11) refl refl refl))))
 
 -- the first of the line starts:
-pub needs_first : ((t s : List ℕ) (a : Answer) (p : ℕ) → digest (Verbal Verbose) t s ≡ answered a → a.kind ≡ Notice → LineStart s p → a.place ≡ p + 2 → Final (Verbal Verbose) t s a) → ⊥
+pub needs_first : ((t s : List ℕ) (a : Answer) (p : ℕ) → digest (Verbal Verbose) t s ≡ answered a → a.kind ≡ Notice → LineStart s p → a.payload.start ≡ p + 2 → Final (Verbal Verbose) t s a) → ⊥
 unfolding verbose.digest trimmed_part is_blank past keep trimmed stands find_in part_of ruling tokens of_mark numeric_error prompt_from custom_prompt notice_at
 needs_first f = let a = with_payload Notice 0 (record { start = 4; len = 2 }) 8 in not_final a (inr (inl (f (bytes "UR\u{2}+A") (bytes "\r\n\r\n+A\r\n") a 2 refl refl (at_crlf refl) refl)))
 

@@ -40,7 +40,7 @@ pub record NoticeFirst (s : List ℕ) (a : Answer) : Type 0 where
   pub p : ℕ
   pub notice : a.kind ≡ kind.Notice
   pub start : FirstStart s p
-  pub begins : a.place ≡ p + 2
+  pub begins : a.payload.start ≡ p + 2
 
 -- The answers that R-13 names.
 pub data Settled (t s : List ℕ) (a : Answer) : Type 0 where

@@ -2,7 +2,7 @@
 -- there are no others (`final_settled`). By the input alone: with no `CS` record, where an OK line stands, the answer is one of the two (`line_settled`); where an ended
 -- notice stands at the first line start, it is that (`first_notice`).
 use Rattle.std.proofs.Math.Path.{◌≡◌, refl, ap}
-use Rattle.std.proofs.Common.{sym, ◌∙◌, ⊎_elim, arith, length-append}
+use Rattle.std.proofs.Common.{Option, Some, None, Ok, sym, ◌∙◌, ⊎_elim, arith, length-append}
 use Rattle.std.proofs.Math.Bool.{true, false}
 use Rattle.std.specs.Prelude.{Bool, ℕ, ◌+◌, ◌-◌, ◌≤◌, length, drop, ltb, if◌then◌else◌}
 use mathlib.Core.List.{List, [], ◌++◌, append-nil}
@@ -22,13 +22,11 @@ use Rattle.answers.specs.Answer.{is_notice, Within}
 use Rattle.answers.specs.declared.Kind.TheVariants as kind
 use Rattle.answers.specs.declared.Answer.{Answer}
 use Rattle.items.specs.Rules.{skipped, notices}
-use Rattle.items.specs.declared.Tried.{Tried}
-use Rattle.items.specs.declared.Tried.TheVariants as tries
 use Rattle.digest.specs.Items.{some_map, some_any, some_texts}
 use Rattle.digest.specs.Digest.{digest_in, under_table}
 use Rattle.digest.specs.Digest as verbose
 use Rattle.digest.specs.Calls.{digest_is}
-use Rattle.digest.specs.Finished.{Some, LineStart, at_crlf, only_one, NoticeEnded}
+use Rattle.digest.specs.Finished.{AnyOf, LineStart, at_crlf, only_one, NoticeEnded}
 use Rattle.digest.specs.Sound.{EndedBy, BrokenBy, notices_told}
 use Rattle.digest.specs.Step.{digest_within, done_is}
 use Rattle.digest.specs.Starts.{start_is}
@@ -72,11 +70,11 @@ module _ (d : Digester) (t s : List ℕ) (a : Answer) (h : digest (Verbal d) t s
   final : ((v : List ℕ) → digest_in d (tokens t) (s ++ v) ≡ digest_in d (tokens t) s) → Final (Verbal d) t s a
   final f v l = sym (digest_is d t (s ++ v) (rw length-append l) told.records (sym told.ruled) a (sym (f v ∙ told.is)))
 
-  begun : notices (of_mark mark.Notice 0 (tokens t)) s (skipped s) ≡ tries.Done a → IfNotice s a
+  begun : notices (of_mark mark.Notice 0 (tokens t)) s (skipped s) ≡ Some a → IfNotice s a
   begun q = rw q at (notices_begun s (of_mark mark.Notice 0 (tokens t)) (mark_texts mark.Notice 0 (tokens t) good))
 
   module _ (w : NoticeFirst s a) where
-    rule_two : notices (of_mark mark.Notice 0 (tokens t)) s (skipped s) ≡ tries.Done a
+    rule_two : notices (of_mark mark.Notice 0 (tokens t)) s (skipped s) ≡ Some a
     rule_two = first_told d (tokens t) good s a told.is (ap is_notice w.notice) (w.begins ∙ ap (λ (k : ℕ). k + 2) (start_skip s w.p w.start))
 
     notice_final : Final (Verbal d) t s a
@@ -85,13 +83,13 @@ module _ (d : Digester) (t s : List ℕ) (a : Answer) (h : digest (Verbal d) t s
         final (λ v. notice_stays d (tokens t) good s v b.here b.q (omega (arith, b.far)) b.there a rule_two)
 
     -- A notice of demand 3 stands there, and ends at the consumed count.
-    pub notice_held : Some (λ x. NoticeEnded x.text (drop w.p s) (a.consumed - w.p)) (of_mark mark.Notice 0 (tokens t))
+    pub notice_held : AnyOf (λ x. NoticeEnded x.text (drop w.p s) (a.consumed - w.p)) (of_mark mark.Notice 0 (tokens t))
     notice_held =
         let l = of_mark mark.Notice 0 (tokens t) in
         ⊎_elim
-        (λ (h : Some (EndedBy d (tokens t) good s (skipped s) a) l).
+        (λ (h : AnyOf (EndedBy d (tokens t) good s (skipped s) a) l).
         some_map (EndedBy d (tokens t) good s (skipped s) a) (λ x. NoticeEnded x.text (drop w.p s) (a.consumed - w.p)) (λ x v. rw (start_skip s w.p w.start) v.0) l h)
-        (λ (h : Some (BrokenBy d (tokens t) good s (skipped s) a) l).
+        (λ (h : AnyOf (BrokenBy d (tokens t) good s (skipped s) a) l).
         absurd (some_any (BrokenBy d (tokens t) good s (skipped s) a) ⊥ (λ x v. false_true (ap is_notice w.notice) (ap (λ (y : Answer). is_notice y.kind) v.1)) l h))
         (notices_told d (tokens t) good s (skipped s) l a rule_two)
 
@@ -101,31 +99,31 @@ module _ (d : Digester) (t s : List ℕ) (a : Answer) (h : digest (Verbal d) t s
   settled_final (by_notice w) = notice_final w
 
   -- what rule 2 answers, with CRLF where buf begins and again behind it
-  noticed_first : (q : ℕ) → stands crlf s (skipped s) ≡ true → skipped s + 2 ≤ q → stands crlf s q ≡ true → (b : Answer) → notices (of_mark mark.Notice 0 (tokens t)) s (skipped s) ≡ tries.Done b → NoticeFirst s a
+  noticed_first : (q : ℕ) → stands crlf s (skipped s) ≡ true → skipped s + 2 ≤ q → stands crlf s q ≡ true → (b : Answer) → notices (of_mark mark.Notice 0 (tokens t)) s (skipped s) ≡ Some b → NoticeFirst s a
   noticed_first q here far there b h =
       let z : b ≡ a = sym (done_is d (tokens t) s b (noticed d (tokens t) s (skipped s) b h)) ∙ told.is in
       let k : b.kind ≡ kind.Notice = rw h at (notices_notice s here q far there (of_mark mark.Notice 0 (tokens t)) (mark_texts mark.Notice 0 (tokens t) good)) in
       let v : a.kind ≡ kind.Notice = ap (λ (x : Answer). x.kind) (sym z) ∙ k in
-      record { p = skipped s; notice = v; start = skip_first s here; begins = (begun (h ∙ ap tries.Done z) (ap is_notice v)).place }
+      record { p = skipped s; notice = v; start = skip_first s here; begins = (begun (h ∙ ap Some z) (ap is_notice v)).place }
 
   -- An ended notice of demand 3 at the first line start is answered as one, whatever else the input holds.
-  pub first_notice : (p n : ℕ) → FirstStart s p → Some (λ x. NoticeEnded x.text (drop p s) n) (of_mark mark.Notice 0 (tokens t)) → NoticeFirst s a
+  pub first_notice : (p n : ℕ) → FirstStart s p → AnyOf (λ x. NoticeEnded x.text (drop p s) n) (of_mark mark.Notice 0 (tokens t)) → NoticeFirst s a
   first_notice p n w h = go (notices (of_mark mark.Notice 0 (tokens t)) s (skipped s)) refl
     where
-      go : (r : Tried) → notices (of_mark mark.Notice 0 (tokens t)) s (skipped s) ≡ r → NoticeFirst s a
-      go (tries.Done b) q =
-          let i : Some (λ x. NoticeEnded x.text (drop (skipped s) s) n) (of_mark mark.Notice 0 (tokens t)) = rw (start_skip s p w) at h in
+      go : (r : Option Answer) → notices (of_mark mark.Notice 0 (tokens t)) s (skipped s) ≡ r → NoticeFirst s a
+      go (Some b) q =
+          let i : AnyOf (λ x. NoticeEnded x.text (drop (skipped s) s) n) (of_mark mark.Notice 0 (tokens t)) = rw (start_skip s p w) at h in
           let m = some_texts (λ x. NoticeEnded x.text (drop (skipped s) s) n) (NoticeLine s (skipped s + n)) (λ x y v. line_of s x.text y n v) (of_mark mark.Notice 0 (tokens t)) (mark_texts mark.Notice 0 (tokens t) good) i in
           noticed_first m.q m.here (omega (arith, m.far)) m.there b q
-      go tries.Next q = absurd (ended_heard d (tokens t) good s (skipped s) n (of_mark mark.Notice 0 (tokens t)) (rw (start_skip s p w) at h) q)
+      go None q = absurd (ended_heard d (tokens t) good s (skipped s) n (of_mark mark.Notice 0 (tokens t)) (rw (start_skip s p w) at h) q)
 
   -- With no `CS` record, what is answered where an OK line stands anywhere in the input is one of the two.
   pub line_settled : NoSuccess t → (j : ℕ) → stands (fixed_text fixed.Ok) s j ≡ true → Settled t s a
   line_settled none j g = go (first_ok s j g) (notices (of_mark mark.Notice 0 (tokens t)) s (skipped s)) refl
     where
-      go : FirstOk s → (r : Tried) → notices (of_mark mark.Notice 0 (tokens t)) s (skipped s) ≡ r → Settled t s a
-      go w (tries.Done b) q = by_notice (noticed_first (w.k + 4) w.here (omega (arith, w.after)) w.there b q)
-      go w tries.Next q =
+      go : FirstOk s → (r : Option Answer) → notices (of_mark mark.Notice 0 (tokens t)) s (skipped s) ≡ r → Settled t s a
+      go w (Some b) q = by_notice (noticed_first (w.k + 4) w.here (omega (arith, w.after)) w.there b q)
+      go w None q =
           let z = done_is d (tokens t) s _ (ok_done d (tokens t) none s (skipped s) w.k w.found q) in
           let i : w.k + 6 - 6 ≡ w.k = omega arith in
           by_ok none (rw (sym told.is ∙ z) (record { ok = refl; room = omega arith; line = ap (stands (fixed_text fixed.Ok) s) i ∙ (found_at (fixed_text fixed.Ok) s (skipped s) w.k w.found).here }))
@@ -153,7 +151,7 @@ module _ (s : List ℕ) where
       go c q (at_crlf h) = w.first q (at_crlf (stands_behind crlf s (fixed_text fixed.Ok) q (stands_fits crlf s q (omega arith) h) ∙ h))
       go c q (only_one h b m n) = absurd (false_true c (h p))
 
-  front_settled : (t : List ℕ) (a : Answer) → a.place + a.len ≤ a.consumed → a.consumed ≤ length s → Settled t (s ++ fixed_text fixed.Ok) a → Settled t s a
+  front_settled : (t : List ℕ) (a : Answer) → a.payload.start + a.payload.len ≤ a.consumed → a.consumed ≤ length s → Settled t (s ++ fixed_text fixed.Ok) a → Settled t s a
   front_settled t a p l (by_ok none w) = by_ok none (record { ok = w.ok; room = w.room; line = sym (stands_behind (fixed_text fixed.Ok) s (fixed_text fixed.Ok) (a.consumed - 6) (omega (arith, w.room))) ∙ w.line })
   front_settled t a p l (by_notice w) = by_notice (record { p = w.p; notice = w.notice; start = front_start w.p (omega (arith, w.begins)) w.start; begins = w.begins })
 

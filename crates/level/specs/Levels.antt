@@ -1,15 +1,15 @@
 -- The levels of the retry: hints and what is gone hold in the suffix that the retry takes (`handed`), and a level says what rules 1 to 5 say (`level_says`).
 -- The one real proof is `custom_whole`: a custom prompt that ends a suffix ends the whole.
-use Rattle.std.specs.Prelude.{◌≡◌, Bool, true, false, ℕ, ◌+◌, ◌-◌, ◌≤◌, ◌<◌, length, get_or, take, drop, leb}
+use Rattle.std.specs.Prelude.{Option, Some, None, ◌≡◌, Bool, true, false, ℕ, ◌+◌, ◌-◌, ◌≤◌, ◌<◌, length, get_or, take, drop, leb}
 use Rattle.std.proofs.Math.Path.{refl}
 use Rattle.std.proofs.Common.{sym, ap, ◌∙◌, arith, length-drop, drop-drop, get_or-drop, le-leb, leb-true}
 use mathlib.Core.List.{List, [], ◌∷◌}
+use Rattle.std.specs.declared.ops.ControlFlow.{ControlFlow}
+use Rattle.std.specs.declared.ops.ControlFlow.TheVariants.{Continue}
 use Rattle.text.specs.Logic.{false_true, not_true_false, and_both}
 use Rattle.text.specs.Text.{is_blank, keep, begins, stands, find_in}
 use Rattle.text.specs.Laws.{find_drop, moved, stands_drop, keep_passes, keep_stops, keep_le, keep_is, rest}
 use Rattle.text.specs.declared.Blanks.TheVariants as blanks
-use Rattle.text.specs.declared.Found.{Found}
-use Rattle.text.specs.declared.Found.TheVariants.{At, Nothing}
 use Rattle.table.specs.Table.{Token, Entry, of_mark, tokens, entries}
 use Rattle.table.specs.declared.Mark.TheVariants as mark
 use Rattle.lines.specs.Lines.{fixed_text}
@@ -18,21 +18,13 @@ use Rattle.lines.specs.declared.Fixed.{Fixed}
 use Rattle.lines.specs.declared.Fixed.TheVariants as fixed
 use Rattle.parser.specs.Parser.{prompt_from, custom_prompt, wrapped, at_found, numeric_error}
 use Rattle.parser.specs.Moved.{prompt_moved, custom_moved, shift_numeric, numeric_moved_on}
-use Rattle.parser.specs.declared.Numeric.{Numeric}
-use Rattle.parser.specs.declared.Numeric.TheVariants as numeric
 use Rattle.places.specs.Places.{unsought}
 use Rattle.pass.specs.Pass.{first_places}
 use Rattle.places.specs.Laws.{sought_first}
 use Rattle.pass.specs.Laws.{heads_first}
-use Rattle.items.specs.declared.Occurs.{Occurs}
-use Rattle.items.specs.declared.Occurs.TheVariants as occurs
-use Rattle.items.specs.declared.Tried.{Tried}
-use Rattle.items.specs.declared.Tried.TheVariants as tries
 use Rattle.items.specs.declared.First.{First}
 use Rattle.items.specs.declared.First.TheVariants as first
 use Rattle.items.specs.declared.Hints.{Hints}
-use Rattle.items.specs.declared.Level.{Level}
-use Rattle.items.specs.declared.Level.TheVariants as level
 use Rattle.items.specs.Rules.{or_else, first_of, skipped, notices, occurs_or, first_custom, success, custom_success, line_success, successes, prompt_tried, custom_prompts, prompts, custom_error, numeric_tried, numeric_errors, error_lines, line_tried, line_errors, not_allowed, errors, tried}
 use Rattle.items.specs.Hints.{given, prompt_bytes, numerics, firsts, unknown, hint_of, Known, Says}
 use Rattle.items.specs.Connect.{connect_none, connect_next, connect_lost}
@@ -45,43 +37,43 @@ pub known_later : (s : List ℕ) (e : ℕ) (h : Hints) → Known s e h → (k : 
 known_later s e h w k l x = λ m a b. w x m (omega arith) b
 
 -- What a rule that gave no answer looked for is nowhere.
-pub occurs_none : (f : Found) (x : Entry) (r : Occurs) → occurs_or f x r ≡ occurs.Nothing → (f ≡ Nothing) × (r ≡ occurs.Nothing)
+pub occurs_none : (f : Option ℕ) (x : Entry) (r : Option (ℕ × ℕ × ℕ)) → occurs_or f x r ≡ None → (f ≡ None) × (r ≡ None)
 unfolding occurs_or
-occurs_none (At k) x r h = let z : ◌≡◌ {A = ℕ} 0 1 = cc in absurd (omega arith)
-occurs_none Nothing x r h = (refl, h)
+occurs_none (Some k) x r h = let z : ◌≡◌ {A = ℕ} 0 1 = cc in absurd (omega arith)
+occurs_none None x r h = (refl, h)
 
-pub error_nowhere : (r : Occurs) → custom_error r ≡ tries.Next → r ≡ occurs.Nothing
+pub error_nowhere : (r : Option (ℕ × ℕ × ℕ)) → custom_error r ≡ None → r ≡ None
 unfolding custom_error
-error_nowhere (occurs.At n len k) h = absurd (done_next _ refl h)
-error_nowhere occurs.Nothing h = refl
+error_nowhere (Some (n, len, k)) h = absurd (done_next _ refl h)
+error_nowhere None h = refl
 
-pub success_nowhere : (s : List ℕ) (e : ℕ) (r : Occurs) → custom_success r s e ≡ tries.Next → r ≡ occurs.Nothing
+pub success_nowhere : (s : List ℕ) (e : ℕ) (r : Option (ℕ × ℕ × ℕ)) → custom_success r s e ≡ None → r ≡ None
 unfolding custom_success success
-success_nowhere s e (occurs.At n len k) h = absurd (done_next _ refl h)
-success_nowhere s e occurs.Nothing h = refl
+success_nowhere s e (Some (n, len, k)) h = absurd (done_next _ refl h)
+success_nowhere s e None h = refl
 
-pub line_success_nowhere : (s : List ℕ) (e : ℕ) (l : Fixed) (r : Found) → line_success s e l r ≡ tries.Next → r ≡ Nothing
+pub line_success_nowhere : (s : List ℕ) (e : ℕ) (l : Fixed) (r : Option ℕ) → line_success s e l r ≡ None → r ≡ None
 unfolding line_success success
-line_success_nowhere s e l (At k) h = absurd (done_next _ refl h)
-line_success_nowhere s e l Nothing h = refl
+line_success_nowhere s e l (Some k) h = absurd (done_next _ refl h)
+line_success_nowhere s e l None h = refl
 
-pub line_nowhere : (l : Fixed) (r : Found) → line_tried l r ≡ tries.Next → r ≡ Nothing
+pub line_nowhere : (l : Fixed) (r : Option ℕ) → line_tried l r ≡ None → r ≡ None
 unfolding line_tried
-line_nowhere l (At k) h = absurd (done_next _ refl h)
-line_nowhere l Nothing h = refl
+line_nowhere l (Some k) h = absurd (done_next _ refl h)
+line_nowhere l None h = refl
 
-pub prompt_nowhere : (b : Bool) (c : ℕ) (s : List ℕ) → prompt_tried b c s ≡ tries.Next → b ≡ false
+pub prompt_nowhere : (b : Bool) (c : ℕ) (s : List ℕ) → prompt_tried b c s ≡ None → b ≡ false
 unfolding prompt_tried
 prompt_nowhere true c s h = absurd (done_next _ refl h)
 prompt_nowhere false c s h = refl
 
-pub numeric_nowhere : (l : Fixed) (r : Numeric) → numeric_tried l r ≡ tries.Next → r ≡ numeric.Nothing
+pub numeric_nowhere : (l : Fixed) (r : Option Digits) → numeric_tried l r ≡ None → r ≡ None
 unfolding numeric_tried
-numeric_nowhere l (numeric.Is d) h = absurd (done_next _ refl h)
-numeric_nowhere l numeric.Nothing h = refl
+numeric_nowhere l (Some d) h = absurd (done_next _ refl h)
+numeric_nowhere l None h = refl
 
 -- the same of a list: where no text answers, none does for another rule that answers no more often
-pub first_lost_of : (f g : Fixed → Tried) → ((l : Fixed) → f l ≡ tries.Next → g l ≡ tries.Next) → (ls : List Fixed) → first_of f ls ≡ tries.Next → first_of g ls ≡ tries.Next
+pub first_lost_of : (f g : Fixed → Option Answer) → ((l : Fixed) → f l ≡ None → g l ≡ None) → (ls : List Fixed) → first_of f ls ≡ None → first_of g ls ≡ None
 unfolding first_of
 first_lost_of f g w [] h = refl
 first_lost_of f g w (l ∷ ls) h = let v = next_both (f l) (first_of f ls) h in both_next (g l) (first_of g ls) (w l v.0) (first_lost_of f g w ls v.1)
@@ -91,20 +83,20 @@ prompt_on : (b : ℕ) (s : List ℕ) (k m : ℕ) → k + m ≤ length s → prom
 prompt_on b s k m h =
     prompt_moved b (drop k s) m (rw length-drop (omega arith)) ∙ ap (λ (u : List ℕ). prompt_from b u 0) (drop-drop m k s) ∙ sym (prompt_moved b s (k + m) h)
 
-prompt_idle : (b : ℕ) (s : List ℕ) (k m : ℕ) → k + m ≤ length s → prompt_tried (prompt_from b s (k + m)) b s ≡ tries.Next → prompt_tried (prompt_from b (drop k s) m) b (drop k s) ≡ tries.Next
+prompt_idle : (b : ℕ) (s : List ℕ) (k m : ℕ) → k + m ≤ length s → prompt_tried (prompt_from b s (k + m)) b s ≡ None → prompt_tried (prompt_from b (drop k s) m) b (drop k s) ≡ None
 prompt_idle b s k m h q = sym (prompt_miss (prompt_from b (drop k s) m) b (drop k s) (prompt_on b s k m h ∙ prompt_nowhere (prompt_from b s (k + m)) b s q))
 
-found_moved : (t s : List ℕ) (k : ℕ) (r : Found) → at_found t s (moved k r) ≡ shift_numeric k (at_found t (drop k s) r)
+found_moved : (t s : List ℕ) (k : ℕ) (r : Option ℕ) → at_found t s (moved k r) ≡ shift_numeric k (at_found t (drop k s) r)
 unfolding at_found moved
-found_moved t s k (At p) = numeric_moved_on t s k p
-found_moved t s k Nothing = unfold shift_numeric in refl
+found_moved t s k (Some p) = numeric_moved_on t s k p
+found_moved t s k None = unfold shift_numeric in refl
 
-no_shift : (k : ℕ) (r : Numeric) → shift_numeric k r ≡ numeric.Nothing → r ≡ numeric.Nothing
+no_shift : (k : ℕ) (r : Option Digits) → shift_numeric k r ≡ None → r ≡ None
 unfolding shift_numeric
-no_shift k (numeric.Is d) h = let z : ◌≡◌ {A = ℕ} 0 1 = cc in absurd (omega arith)
-no_shift k numeric.Nothing h = refl
+no_shift k (Some d) h = let z : ◌≡◌ {A = ℕ} 0 1 = cc in absurd (omega arith)
+no_shift k None h = refl
 
-numeric_idle : (x : Fixed) (s : List ℕ) (k m : ℕ) → numeric_tried x (numeric_error (fixed_text x) s (k + m)) ≡ tries.Next → numeric_tried x (numeric_error (fixed_text x) (drop k s) m) ≡ tries.Next
+numeric_idle : (x : Fixed) (s : List ℕ) (k m : ℕ) → numeric_tried x (numeric_error (fixed_text x) s (k + m)) ≡ None → numeric_tried x (numeric_error (fixed_text x) (drop k s) m) ≡ None
 unfolding numeric_error
 numeric_idle x s k m q =
     let t = fixed_text x in
@@ -112,7 +104,7 @@ numeric_idle x s k m q =
     let r = find_in t (drop k s) m in
     ap (numeric_tried x) (no_shift k (at_found t (drop k s) r) (sym (found_moved t s k r) ∙ ap (at_found t s) (sym (find_drop t s k m)) ∙ n)) ∙ (unfold numeric_tried in refl)
 
-given_on : (x : First) (s : List ℕ) (k m : ℕ) → k + m ≤ length s → given x s (k + m) ≡ tries.Next → given x (drop k s) m ≡ tries.Next
+given_on : (x : First) (s : List ℕ) (k m : ℕ) → k + m ≤ length s → given x s (k + m) ≡ None → given x (drop k s) m ≡ None
 given_on first.Greater s k m h = prompt_idle 62 s k m h
 given_on first.Sign s k m h = prompt_idle 64 s k m h
 given_on first.Cme s k m h = numeric_idle fixed.Cme s k m
@@ -125,7 +117,7 @@ known_on s k h l w x m a b =
     given_on x s k m (omega arith) (w x (k + m) (omega arith) (omega arith))
 
 -- What a level that gave no answer looked for in all that follows.
-pub gone : (d : Digester) (ts : List Token) (s : List ℕ) (e : ℕ) → tried d ts s e ≡ tries.Next → Gone d ts s e
+pub gone : (d : Digester) (ts : List Token) (s : List ℕ) (e : ℕ) → tried d ts s e ≡ None → Gone d ts s e
 unfolding tried prompts errors
 gone d ts s e h =
     let a = next_both (notices (of_mark mark.Notice 0 ts) s e) _ h in
@@ -176,7 +168,7 @@ module _ (s : List ℕ) (e k m : ℕ) (later : e ≤ k + m) where
       let v : drop m (drop k s) ≡ drop (k + m - e) (drop e s) = drop-drop m k s ∙ ap (λ (j : ℕ). drop j s) (sym i) ∙ sym (drop-drop (k + m - e) e s) in
       custom_moved x (drop k s) m ∙ ap (λ (l : List ℕ). custom_prompt x l 0) v ∙ custom_shorter x (drop e s) (k + m - e) (sym (custom_moved x s e) ∙ h)
 
-  prompts_lost : (l : List Entry) → custom_prompts l s e ≡ tries.Next → custom_prompts l (drop k s) m ≡ tries.Next
+  prompts_lost : (l : List Entry) → custom_prompts l s e ≡ None → custom_prompts l (drop k s) m ≡ None
   unfolding custom_prompts
   prompts_lost [] h = refl
   prompts_lost (x ∷ l) h =
@@ -185,26 +177,26 @@ module _ (s : List ℕ) (e k m : ℕ) (later : e ≤ k + m) where
       (sym (prompt_miss (custom_prompt x.text (drop k s) m) x.prompt (drop k s) (custom_lost x.text (prompt_nowhere (custom_prompt x.text s e) x.prompt s w.0))))
       (prompts_lost l w.1)
 
-  first_lost : (l : List Entry) → first_custom l s e ≡ occurs.Nothing → first_custom l (drop k s) m ≡ occurs.Nothing
+  first_lost : (l : List Entry) → first_custom l s e ≡ None → first_custom l (drop k s) m ≡ None
   unfolding first_custom
   first_lost [] h = refl
   first_lost (x ∷ l) h =
       let w = occurs_none (find_in (wrapped x.text) s e) x (first_custom l s e) h in
       rw (find_lost (wrapped x.text) s e k m later w.0) (unfold occurs_or in first_lost l w.1)
 
-  line_success_lost : (l : Fixed) → line_success s e l (find_in (fixed_text l) s e) ≡ tries.Next → line_success (drop k s) m l (find_in (fixed_text l) (drop k s) m) ≡ tries.Next
+  line_success_lost : (l : Fixed) → line_success s e l (find_in (fixed_text l) s e) ≡ None → line_success (drop k s) m l (find_in (fixed_text l) (drop k s) m) ≡ None
   line_success_lost l h =
       let t = fixed_text l in
       sym (line_success_none (drop k s) m l (find_in t (drop k s) m) (find_lost t s e k m later (line_success_nowhere s e l (find_in t s e) h)))
 
-  line_lost : (l : Fixed) → line_tried l (find_in (fixed_text l) s e) ≡ tries.Next → line_tried l (find_in (fixed_text l) (drop k s) m) ≡ tries.Next
+  line_lost : (l : Fixed) → line_tried l (find_in (fixed_text l) s e) ≡ None → line_tried l (find_in (fixed_text l) (drop k s) m) ≡ None
   line_lost l h = let t = fixed_text l in sym (line_none l _ (find_in t (drop k s) m) refl (find_lost t s e k m later (line_nowhere l (find_in t s e) h)))
 
-  errors_lost : line_errors s e ≡ tries.Next → line_errors (drop k s) m ≡ tries.Next
+  errors_lost : line_errors s e ≡ None → line_errors (drop k s) m ≡ None
   unfolding line_errors
   errors_lost = first_lost_of _ _ line_lost error_lines
 
-  successes_lost : (d : Digester) (l : List Entry) → successes d l s e ≡ tries.Next → successes d l (drop k s) m ≡ tries.Next
+  successes_lost : (d : Digester) (l : List Entry) → successes d l s e ≡ None → successes d l (drop k s) m ≡ None
   unfolding successes
   successes_lost d l h =
       let w = next_both (custom_success (first_custom l s e) s e) _ h in
@@ -214,7 +206,7 @@ module _ (s : List ℕ) (e k m : ℕ) (later : e ≤ k + m) where
       (both_next (line_success (drop k s) m fixed.Ok (find_in (fixed_text fixed.Ok) (drop k s) m)) _ (line_success_lost fixed.Ok v.0)
       (connect_next d (drop k s) m (λ j g. connect_lost d s k j (connect_none d s e v.1 (k + j) (omega arith)))))
 
-  custom_error_lost : (l : List Entry) → custom_error (first_custom l s e) ≡ tries.Next → custom_error (first_custom l (drop k s) m) ≡ tries.Next
+  custom_error_lost : (l : List Entry) → custom_error (first_custom l s e) ≡ None → custom_error (first_custom l (drop k s) m) ≡ None
   custom_error_lost l h = sym (custom_error_none l (drop k s) m (first_custom l (drop k s) m) refl (first_lost l (error_nowhere (first_custom l s e) h)))
 
   gone_on : (d : Digester) (ts : List Token) → Gone d ts s e → Gone d ts (drop k s) m
@@ -227,15 +219,15 @@ module _ (s : List ℕ) (e k m : ℕ) (later : e ≤ k + m) where
       }
 
 -- What a level hands down to the one on the suffix from k on.
-pub handed : (d : Digester) (ts : List Token) (s : List ℕ) (e k : ℕ) (h : Hints) → e ≤ k → k ≤ length s → tried d ts s e ≡ tries.Next → Known s e h → GoneAll d ts (take (length s - k) (drop k s)) × Known (take (length s - k) (drop k s)) 0 h
+pub handed : (d : Digester) (ts : List Token) (s : List ℕ) (e k : ℕ) (h : Hints) → e ≤ k → k ≤ length s → tried d ts s e ≡ None → Known s e h → GoneAll d ts (take (length s - k) (drop k s)) × Known (take (length s - k) (drop k s)) 0 h
 handed d ts s e k h l i q w = rw (rest s k) (λ m a. gone_on s e k m (omega arith) d ts (gone d ts s e q), known_on s k h i (known_later s e h w k l))
 
-says_of : (s : List ℕ) (e : ℕ) {t u : Tried} → t ≡ u → (r : Level) → Says s e t r → Says s e u r
+says_of : (s : List ℕ) (e : ℕ) {t u : Option Answer} → t ≡ u → (r : ControlFlow Answer (ℕ × Hints)) → Says s e t r → Says s e u r
 says_of s e p r w = rw p at w
 
 -- NA is what is left, and says so.
 last_says : (s : List ℕ) (e : ℕ) (h : Hints) → Known s e h → Says s e (not_allowed s e) (not_allowed_from s e h)
-last_says s e h w = says_of s e (sym (or_next_lem (not_allowed s e))) (not_allowed_from s e h) (before_says s e (not_allowed s e) tries.Next (level.Next e h) (refl, (refl, w)))
+last_says s e h w = says_of s e (sym (or_next_lem (not_allowed s e))) (not_allowed_from s e h) (before_says s e (not_allowed s e) None (Continue (e, h)) (refl, (refl, w)))
 
 module _ (d : Digester) (t s : List ℕ) (e : ℕ) (l : e ≤ length s) where
   errors_say : (h : Hints) → Known s e h → Says s e (errors (entries mark.Error t 0 0) s e) (errors_from (entries mark.Error t 0 0) s e (first_places s e) h)

@@ -1,8 +1,6 @@
 -- The fixed texts of document 01's rules 3 and 5, byte for byte, and which digester hears which.
-use Rattle.std.specs.Prelude.{Bool, true, false, List, ℕ, leb, if◌then◌else◌}
+use Rattle.std.specs.Prelude.{Option, Some, None, Bool, true, false, List, ℕ, leb, if◌then◌else◌}
 use Rattle.text.specs.Bytes.{bytes}
-use Rattle.text.specs.declared.Found.{Found}
-use Rattle.text.specs.declared.Found.TheVariants.{At, Nothing}
 use Rattle.lines.specs.declared.Fixed.{Fixed}
 use Rattle.lines.specs.declared.Fixed.TheVariants.{Ok, Connect, Error, CommandNotSupport, NoCarrier, Busy, NoAnswer, NoDialtone, Na, Cme, Cms, Modem, ConnectText}
 use Rattle.lines.specs.declared.Digester.{Digester}
@@ -33,11 +31,11 @@ fixed_text Modem = bytes "\r\nMODEM ERROR:"
 fixed_text ConnectText = bytes "\r\nCONNECT "
 
 -- R-3: where the first places of the fixed texts are f, CONNECT's is the least of either line's.
-unfoldable pub earlier : Found → Found → Found
-earlier (At j) (At k) = if leb j k then At j else At k
-earlier (At j) Nothing = At j
-earlier Nothing r = r
+unfoldable pub earlier : Option ℕ → Option ℕ → Option ℕ
+earlier (Some j) (Some k) = if leb j k then Some j else Some k
+earlier (Some j) None = Some j
+earlier None r = r
 
-unfoldable pub connect_place : Digester → (Fixed → Found) → Found
+unfoldable pub connect_place : Digester → (Fixed → Option ℕ) → Option ℕ
 unfolding earlier
 connect_place d f = if hears_text d then earlier (f Connect) (f ConnectText) else f Connect

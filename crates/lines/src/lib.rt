@@ -6,7 +6,6 @@ ghost use Rattle.std.specs.Prelude.{◌≡◌, length};
 ghost use Rattle.text.specs.Text.{stands, find_in};
 ghost use Rattle.lines.specs.Lines.{hears_text, crlf, fixed_text};
 
-use text::Found;
 
 pub const CRLF: [u8; 2] = *b"\r\n";
 
@@ -96,7 +95,7 @@ pub fn fixed_at(buf: &[u8], place: usize, fixed: Fixed) -> bool
 }
 
 // The fixed text's first place at or after `from`, place by place.
-fn find_short(buf: &[u8], from: usize, fixed: Fixed) -> Found
+fn find_short(buf: &[u8], from: usize, fixed: Fixed) -> Option<usize>
     ensures { result ≡ find_in (fixed_text fixed) buf.now from }
 {
     match fixed {
@@ -117,7 +116,7 @@ fn find_short(buf: &[u8], from: usize, fixed: Fixed) -> Found
 }
 
 // The same by blocks, for long inputs; the two numbers are the places in the text of bytes that ordinary traffic seldom has so far apart.
-fn find_long(buf: &[u8], from: usize, fixed: Fixed) -> Found
+fn find_long(buf: &[u8], from: usize, fixed: Fixed) -> Option<usize>
     ensures { result ≡ find_in (fixed_text fixed) buf.now from }
 {
     match fixed {
@@ -138,7 +137,7 @@ fn find_long(buf: &[u8], from: usize, fixed: Fixed) -> Found
 }
 
 // The fixed text's first place at or after `from`.
-pub fn find_fixed(buf: &[u8], from: usize, fixed: Fixed) -> Found
+pub fn find_fixed(buf: &[u8], from: usize, fixed: Fixed) -> Option<usize>
     ensures { result ≡ find_in (fixed_text fixed) buf.now from }
 {
     if buf.len() < seek::SHORT {
@@ -148,27 +147,27 @@ pub fn find_fixed(buf: &[u8], from: usize, fixed: Fixed) -> Found
 }
 
 // The first CRLF at or after `from`: in a long input at the first CR, or behind it.
-pub fn search_crlf(buf: &[u8], from: usize) -> Found
+pub fn search_crlf(buf: &[u8], from: usize) -> Option<usize>
     ensures { result ≡ find_in crlf buf.now from }
 {
     if buf.len() < seek::SHORT {
         return text::find(buf, from, &CRLF);
     }
-    let Found::At(p) = seek::find_cr(buf, from) else {
-        return Found::Nothing;
+    let Some(p) = seek::find_cr(buf, from) else {
+        return None;
     };
     if text::matches_at(buf, p, &CRLF) {
-        return Found::At(p);
+        return Some(p);
     }
     seek::find(buf, p, &CRLF, 0, 1)
 }
 
 // The same for whoever expects it at `from`: small, so that it costs no call there.
-pub fn find_crlf(buf: &[u8], from: usize) -> Found
+pub fn find_crlf(buf: &[u8], from: usize) -> Option<usize>
     ensures { result ≡ find_in crlf buf.now from }
 {
     if text::matches_at(buf, from, &CRLF) {
-        return Found::At(from);
+        return Some(from);
     }
     search_crlf(buf, from)
 }

@@ -1,5 +1,5 @@
 -- How a string goes on, where hexadecimal digits may be owed: closed, with what stands between, or broken off where no string goes on.
-use Rattle.std.specs.Prelude.{◌≡◌, Bool, true, ◌&&◌, if◌then◌else◌}
+use Rattle.std.specs.Prelude.{Result, Ok, Err, ◌≡◌, Bool, true, ◌&&◌, if◌then◌else◌}
 use Rattle.std.proofs.Math.Path.{refl, ap}
 use Rattle.std.proofs.Common.{sym, ◌∙◌, arith, eqb-true}
 use Rattle.std.proofs.Math.Bool.{false}
@@ -11,8 +11,6 @@ use Rattle.text.specs.Logic.{and_both}
 use Rattle.parser.specs.Parser.{is_digit}
 use Rattle.pieces.specs.Pieces.{is_char, is_hex, heard, goes_on, string_end}
 use Rattle.pieces.specs.declared.Heard.TheVariants.{Owes, Closes, Breaks}
-use Rattle.pieces.specs.declared.Ended.{Ended}
-use Rattle.pieces.specs.declared.Ended.TheVariants.{At, Broken}
 use Rattle.lists.specs.Grammar.{Piece, char, escape, piece_word}
 use Rattle.lists.specs.Scan.{at, done, text, in_string, step, is_dead, rests, final, fault_in, stop, scan}
 use Rattle.lists.specs.Places.{here_stops}
@@ -47,9 +45,9 @@ module _ (d n owed p : ℕ) (x : List ℕ) where
     pub place : q ≡ p + length seen
     pub verdict : scan (at (text owed) d n) p x ≡ stop 6 q
 
-  abbrev pub Strung : Ended → Type 0
-  Strung (At e) = Closed e
-  Strung (Broken q) = Breaks-off q
+  abbrev pub Strung : Result ℕ ℕ → Type 0
+  Strung (Ok e) = Closed e
+  Strung (Err q) = Breaks-off q
 
 pub no_owing : (w : List ℕ) → length w ≡ 0 → w ≡ []
 no_owing [] e = refl
@@ -75,7 +73,7 @@ zeros zero = refl
 zeros (suc k) = zeros k
 
 module _ (d n p : ℕ) (x : List ℕ) where
-  breaks_here : (owed : ℕ) → fault_in (at (text owed) d n) x ≡ 6 → Strung d n owed p x (Broken p)
+  breaks_here : (owed : ℕ) → fault_in (at (text owed) d n) x ≡ 6 → Strung d n owed p x (Err p)
   unfolding piece_word
   breaks_here owed e =
       record {
@@ -93,9 +91,9 @@ module _ (d n p : ℕ) (x : List ℕ) where
       }
 
 module _ (d n p b : ℕ) (x : List ℕ) where
-  on_hex : (k : ℕ) (r : Ended) → is_hex b ≡ true → Strung d n k (suc p) x r → Strung d n (suc k) p (b ∷ x) r
+  on_hex : (k : ℕ) (r : Result ℕ ℕ) → is_hex b ≡ true → Strung d n k (suc p) x r → Strung d n (suc k) p (b ∷ x) r
   unfolding hexes
-  on_hex k (At e) h w =
+  on_hex k (Ok e) h w =
       record {
         owing = b ∷ w.owing;
         pieces = w.pieces;
@@ -106,7 +104,7 @@ module _ (d n p b : ℕ) (x : List ℕ) where
         end = omega (arith, w.end);
         onward = scan_hex d n p k b x h ∙ w.onward;
       }
-  on_hex k (Broken q) h w =
+  on_hex k (Err q) h w =
       record {
         owing = b ∷ w.owing;
         pieces = w.pieces;
@@ -121,9 +119,9 @@ module _ (d n p b : ℕ) (x : List ℕ) where
         verdict = scan_hex d n p k b x h ∙ w.verdict;
       }
 
-  on_char : (r : Ended) → is_char b ≡ true → Strung d n 0 (suc p) x r → Strung d n 0 p (b ∷ x) r
+  on_char : (r : Result ℕ ℕ) → is_char b ≡ true → Strung d n 0 (suc p) x r → Strung d n 0 p (b ∷ x) r
   unfolding piece_word hexes
-  on_char (At e) h w =
+  on_char (Ok e) h w =
       let o = no_owing w.owing w.many in
       record {
         owing = [];
@@ -135,7 +133,7 @@ module _ (d n p b : ℕ) (x : List ℕ) where
         end = omega (arith, w.end, ap (λ (l : List ℕ). length (l ++ piece_word w.pieces)) o);
         onward = scan_char d n p b x h ∙ w.onward;
       }
-  on_char (Broken q) h w =
+  on_char (Err q) h w =
       let o = no_owing w.owing w.many in
       record {
         owing = [];
@@ -151,9 +149,9 @@ module _ (d n p b : ℕ) (x : List ℕ) where
         verdict = scan_char d n p b x h ∙ w.verdict;
       }
 
-  on_back : (r : Ended) → b ≡ 92 → Strung d n 2 (suc p) x r → Strung d n 0 p (b ∷ x) r
+  on_back : (r : Result ℕ ℕ) → b ≡ 92 → Strung d n 2 (suc p) x r → Strung d n 0 p (b ∷ x) r
   unfolding piece_word hexes
-  on_back (At e) h w =
+  on_back (Ok e) h w =
       let o = two_owing w.owing w.many w.hex in
       record {
         owing = [];
@@ -165,7 +163,7 @@ module _ (d n p b : ℕ) (x : List ℕ) where
         end = omega (arith, w.end, ap (λ (l : List ℕ). length (l ++ piece_word w.pieces)) o.both);
         onward = ap (λ (a : ℕ). scan (at (text 0) d n) p (a ∷ x)) h ∙ scan_back d n p x ∙ w.onward;
       }
-  on_back (Broken q) h w =
+  on_back (Err q) h w =
       let o = two_owing w.owing w.many w.hex in
       record {
         owing = [];
@@ -181,7 +179,7 @@ module _ (d n p b : ℕ) (x : List ℕ) where
         verdict = ap (λ (a : ℕ). scan (at (text 0) d n) p (a ∷ x)) h ∙ scan_back d n p x ∙ w.verdict;
       }
 
-  on_quote : b ≡ 34 → Strung d n 0 p (b ∷ x) (At (suc p))
+  on_quote : b ≡ 34 → Strung d n 0 p (b ∷ x) (Ok (suc p))
   unfolding piece_word hexes
   on_quote h =
       record {

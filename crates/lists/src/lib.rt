@@ -9,7 +9,7 @@ ghost use Rattle.lists.specs.Grammar.{body, element, list, made, Reading};
 ghost use Rattle.lists.specs.Reader.{Bodied, Bare, ends_at};
 ghost use Rattle.lists.specs.Told.{Told, Whole, written};
 
-use pieces::{Digits, Element, Ended, Kind};
+use pieces::{Element, Kind};
 use text::Blanks;
 
 // Within how many brackets an element may stand.
@@ -89,8 +89,8 @@ fn string_at(s: &[u8], at: usize, depth: usize, n: usize) -> Plain
         return Plain::Refused(9, at);
     }
     match pieces::string_end(s, at + 1) {
-        Ended::At(e) => Plain::Is(without_value(at, e, Kind::String, depth)),
-        Ended::Broken(p) => Plain::Refused(6, p),
+        Ok(e) => Plain::Is(without_value(at, e, Kind::String, depth)),
+        Err(p) => Plain::Refused(6, p),
     }
 }
 
@@ -99,7 +99,7 @@ fn number_at(s: &[u8], at: usize, depth: usize, n: usize) -> Plain
     requires { (at < length s.now) × (is_digit (get_or s.now at 0) ≡ true) }
     ensures { Bodied depth n at (drop at s.now) result }
 {
-    let Digits::Value(low, e) = pieces::number_at(s, at) else {
+    let Some((low, e)) = pieces::number_at(s, at) else {
         return Plain::Refused(8, at);
     };
     if pieces::MOST <= n {
@@ -120,7 +120,7 @@ fn number_at(s: &[u8], at: usize, depth: usize, n: usize) -> Plain
         return Plain::Refused(6, second);
     }
     match pieces::number_at(s, second) {
-        Digits::Value(high, end) => Plain::Is(Element {
+        Some((high, end)) => Plain::Is(Element {
             place: at,
             end: end,
             kind: Kind::Range,
@@ -128,7 +128,7 @@ fn number_at(s: &[u8], at: usize, depth: usize, n: usize) -> Plain
             low: low,
             high: high,
         }),
-        Digits::TooLarge => Plain::Refused(8, second),
+        None => Plain::Refused(8, second),
     }
 }
 

@@ -1,5 +1,5 @@
 // The digester that a line chooses, its form, and the state or the old queue that it starts from where it has one.
-use fields::{Amount, LENGTH};
+use fields::LENGTH;
 use lines::Digester;
 use selector::Selector;
 
@@ -74,16 +74,16 @@ fn started(s: &[u8]) -> Form {
     if fields::parts(s, b',') != 8 {
         return Form::Bad;
     }
-    let Amount::Is(end) = state_number(s, 0, fields::MOST) else {
+    let Some(end) = state_number(s, 0, fields::MOST) else {
         return Form::Bad;
     };
-    let Amount::Is(flag) = state_number(s, 1, 1) else {
+    let Some(flag) = state_number(s, 1, 1) else {
         return Form::Bad;
     };
-    let Amount::Is(len) = state_number(s, 2, fields::MOST) else {
+    let Some(len) = state_number(s, 2, fields::MOST) else {
         return Form::Bad;
     };
-    let Amount::Is(lost) = state_number(s, 3, fields::MOST) else {
+    let Some(lost) = state_number(s, 3, fields::MOST) else {
         return Form::Bad;
     };
     queue_started(s, end as usize, flag == 1, len as usize, lost)
@@ -91,16 +91,16 @@ fn started(s: &[u8]) -> Form {
 
 // The rest of a written state.
 fn queue_started(s: &[u8], end: usize, signalled: bool, len: usize, slot_lost: u32) -> Form {
-    let Amount::Is(start) = state_number(s, 4, fields::MOST) else {
+    let Some(start) = state_number(s, 4, fields::MOST) else {
         return Form::Bad;
     };
-    let Amount::Is(count) = state_number(s, 5, fields::MOST) else {
+    let Some(count) = state_number(s, 5, fields::MOST) else {
         return Form::Bad;
     };
-    let Amount::Is(lost) = state_number(s, 6, fields::MOST) else {
+    let Some(lost) = state_number(s, 6, fields::MOST) else {
         return Form::Bad;
     };
-    let Amount::Is(serial) = state_number(s, 7, fields::MOST) else {
+    let Some(serial) = state_number(s, 7, fields::MOST) else {
         return Form::Bad;
     };
     Form::From(Start {
@@ -115,32 +115,25 @@ fn queue_started(s: &[u8], end: usize, signalled: bool, len: usize, slot_lost: u
     })
 }
 
-// A written queue in the old form (R-9), or what isn't one.
-#[derive(Clone, Copy)]
-pub enum Conversion {
-    Of(usize, usize, u32),
-    Bad,
-}
-
 // The numbers of the line convert START,COUNT,LOST OLD-MEMORY NEW-MEMORY. A line that fills the memory is too long.
 pub fn conversion_of(line: &[u8]) -> Conversion {
     if line.len() == LENGTH {
-        return Conversion::Bad;
+        return None;
     }
     let s = fields::part_of(line, 1, b' ');
     if fields::parts(line, b' ') != 4 || fields::parts(s, b',') != 3 {
-        return Conversion::Bad;
+        return None;
     }
-    let Amount::Is(start) = state_number(s, 0, fields::MOST) else {
-        return Conversion::Bad;
+    let Some(start) = state_number(s, 0, fields::MOST) else {
+        return None;
     };
-    let Amount::Is(count) = state_number(s, 1, fields::MOST) else {
-        return Conversion::Bad;
+    let Some(count) = state_number(s, 1, fields::MOST) else {
+        return None;
     };
-    let Amount::Is(lost) = state_number(s, 2, fields::MOST) else {
-        return Conversion::Bad;
+    let Some(lost) = state_number(s, 2, fields::MOST) else {
+        return None;
     };
-    Conversion::Of(start as usize, count as usize, lost)
+    Some((start as usize, count as usize, lost))
 }
 
 // Has the line list INPUT (R-4) its one field? A line that fills the memory is too long.

@@ -1,7 +1,6 @@
 // The ops of a script, read.
 use answers::Kind;
-use data::Filled;
-use fields::{Amount, Memory};
+use fields::Memory;
 
 // An op. Its last number is how many bytes it has; they were read into the piece's memory.
 #[derive(Clone, Copy)]
@@ -82,15 +81,15 @@ fn takes_number(letter: u8) -> bool {
 // A CME code of E, with the digits behind a comma or, with no comma, its own in decimal; they are read into the piece's memory.
 fn op_of_code(s: &[u8], piece: &mut Memory) -> Op {
     let comma = fields::seek(s, 0, b',');
-    let Amount::Is(n) = fields::number(fields::between(s, 0, comma), 65535) else {
+    let Some(n) = fields::number(fields::between(s, 0, comma), 65535) else {
         return Op::Bad;
     };
     if comma == s.len() {
         return Op::Signal(Kind::Cme, n, ink::decimal(piece, 0, n as u64));
     }
     match data::data(fields::between(s, fields::plus(comma, 1), s.len()), piece) {
-        Filled::Is(len) => Op::Signal(Kind::Cme, n, len),
-        Filled::Bad => Op::Bad,
+        Some(len) => Op::Signal(Kind::Cme, n, len),
+        None => Op::Bad,
     }
 }
 
@@ -103,8 +102,8 @@ pub fn read_op(s: &[u8], piece: &mut Memory) -> Op {
     let rest = fields::between(s, 1, s.len());
     if takes_bytes(letter) {
         return match data::data(rest, piece) {
-            Filled::Is(n) => op_of_bytes(letter, n),
-            Filled::Bad => Op::Bad,
+            Some(n) => op_of_bytes(letter, n),
+            None => Op::Bad,
         };
     }
     if letter == b'E' {
@@ -112,8 +111,8 @@ pub fn read_op(s: &[u8], piece: &mut Memory) -> Op {
     }
     if takes_number(letter) {
         return match fields::number(rest, most(letter)) {
-            Amount::Is(n) => op_of_number(letter, n),
-            Amount::Bad => Op::Bad,
+            Some(n) => op_of_number(letter, n),
+            None => Op::Bad,
         };
     }
     Op::Bad

@@ -84,4 +84,4 @@ laid v o = sets o 0 v
 
 -- an answer of the digester: kind, number, place, length, bytes consumed; behind them the places and lengths of the digits (R-2) and of the text (R-3)
 abbrev pub answer_values : Answer → List ℕ
-answer_values a = kind_number a.kind ∷ a.number ∷ a.place ∷ a.len ∷ a.consumed ∷ a.digits_place ∷ a.digits_len ∷ a.text_place ∷ a.text_len ∷ []
+answer_values a = kind_number a.kind ∷ a.number ∷ a.payload.start ∷ a.payload.len ∷ a.consumed ∷ a.digits.start ∷ a.digits.len ∷ a.text.start ∷ a.text.len ∷ []

@@ -237,11 +237,11 @@ pub fn lay_answer(out: &mut [u64; OUT], a: Answer)
     let kind = a.kind;
     out[0] = answers::kind_number(kind);
     out[1] = a.number as u64;
-    out[2] = a.place as u64;
-    out[3] = a.len as u64;
+    out[2] = a.payload.start as u64;
+    out[3] = a.payload.len as u64;
     out[4] = a.consumed as u64;
-    out[5] = a.digits_place as u64;
-    out[6] = a.digits_len as u64;
-    out[7] = a.text_place as u64;
-    out[8] = a.text_len as u64;
+    out[5] = a.digits.start as u64;
+    out[6] = a.digits.len as u64;
+    out[7] = a.text.start as u64;
+    out[8] = a.text.len as u64;
 }

@@ -1,5 +1,5 @@
 -- The calls that a user makes: the ways out of their programs, their refusals, and what they heard.
-use Rattle.std.specs.Prelude.{◌≡◌, true, List, [], ◌∷◌, ℕ, ◌+◌, ◌≤◌, ◌<◌, length, get_or, ltb}
+use Rattle.std.specs.Prelude.{Option, Some, None, Result, Ok, Err, ◌≡◌, true, List, [], ◌∷◌, ℕ, ◌+◌, ◌≤◌, ◌<◌, length, get_or, ltb}
 use Rattle.std.proofs.Math.Path.{refl}
 use Rattle.std.proofs.Common.{sym, ap, ◌∙◌, le-ltb, lt-ltb}
 use native.Mathlib.Omega.{arith}
@@ -10,39 +10,35 @@ use Rattle.text.specs.Text.{among}
 use Rattle.text.specs.Laws.{trimmed_room}
 use Rattle.text.specs.Bytes.{bytes}
 use Rattle.text.specs.declared.Span.{Span}
-use Rattle.text.specs.declared.Found.{Found}
-use Rattle.text.specs.declared.Found.TheVariants.{At, Nothing}
 use Rattle.answers.specs.declared.Kind.{Kind}
 use Rattle.answers.specs.declared.Answer.{Answer}
 use Rattle.answers.specs.Answer.{Number, has_number, stored, is_found, nothing, with_payload, Within}
 use Rattle.answers.specs.Laws.{nothing_within, payload_within}
-use Rattle.numeric.specs.declared.Code.{Code}
-use Rattle.numeric.specs.declared.Code.TheVariants as codes
-use Rattle.numeric.specs.declared.Digested.{Digested}
-use Rattle.numeric.specs.declared.Digested.TheVariants as cases
+use Rattle.answers.specs.declared.DigestError.{DigestError}
+use Rattle.answers.specs.declared.DigestError.TheVariants as cases
 use Rattle.numeric.specs.Numeric.{kind_of, code_at, leftmost, behind, along, ring, said, said_of, digest_unchecked, ruled, under_table, digest, outcome}
 use Rattle.numeric.specs.Heard.{NoCode, Heard, HeardIn}
 use Rattle.numeric.specs.Laws.{coded, LeastSays, least_says, behind_is, code_parts, code_fits, code_rest}
 
 -- no two answers of `digest` have the same outcome
-pub outcome_one : (r q : Digested) → outcome r ≡ outcome q → r ≡ q
-outcome_one (cases.Is a) (cases.Is b) e = cc
-outcome_one (cases.Is a) cases.TooLong e = let z : ◌≡◌ {A = ℕ} 0 1 = cc in absurd (omega arith)
-outcome_one (cases.Is a) cases.BadTable e = let z : ◌≡◌ {A = ℕ} 0 1 = cc in absurd (omega arith)
-outcome_one cases.TooLong (cases.Is a) e = let z : ◌≡◌ {A = ℕ} 0 1 = cc in absurd (omega arith)
-outcome_one cases.TooLong cases.TooLong e = refl
-outcome_one cases.TooLong cases.BadTable e = let z : ◌≡◌ {A = ℕ} 0 1 = cc in absurd (omega arith)
-outcome_one cases.BadTable (cases.Is a) e = let z : ◌≡◌ {A = ℕ} 0 1 = cc in absurd (omega arith)
-outcome_one cases.BadTable cases.TooLong e = let z : ◌≡◌ {A = ℕ} 0 1 = cc in absurd (omega arith)
-outcome_one cases.BadTable cases.BadTable e = refl
+pub outcome_one : (r q : Result Answer DigestError) → outcome r ≡ outcome q → r ≡ q
+outcome_one (Ok a) (Ok b) e = cc
+outcome_one (Ok a) (Err cases.TooLong) e = let z : ◌≡◌ {A = ℕ} 0 1 = cc in absurd (omega arith)
+outcome_one (Ok a) (Err cases.BadTable) e = let z : ◌≡◌ {A = ℕ} 0 1 = cc in absurd (omega arith)
+outcome_one (Err cases.TooLong) (Ok a) e = let z : ◌≡◌ {A = ℕ} 0 1 = cc in absurd (omega arith)
+outcome_one (Err cases.TooLong) (Err cases.TooLong) e = refl
+outcome_one (Err cases.TooLong) (Err cases.BadTable) e = let z : ◌≡◌ {A = ℕ} 0 1 = cc in absurd (omega arith)
+outcome_one (Err cases.BadTable) (Ok a) e = let z : ◌≡◌ {A = ℕ} 0 1 = cc in absurd (omega arith)
+outcome_one (Err cases.BadTable) (Err cases.TooLong) e = let z : ◌≡◌ {A = ℕ} 0 1 = cc in absurd (omega arith)
+outcome_one (Err cases.BadTable) (Err cases.BadTable) e = refl
 
-abbrev place_of_lem : Code → ℕ
-place_of_lem (codes.At p from) = p
-place_of_lem codes.Nothing = 0
+abbrev place_of_lem : Option Line → ℕ
+place_of_lem (Some (p, from)) = p
+place_of_lem None = 0
 
-abbrev start_of : Code → ℕ
-start_of (codes.At p from) = from
-start_of codes.Nothing = 0
+abbrev start_of : Option Line → ℕ
+start_of (Some (p, from)) = from
+start_of None = 0
 
 module _ (s : List ℕ) where
   -- the way out of `said`
@@ -56,29 +52,29 @@ module _ (s : List ℕ) where
   says = least_says (code_at s) (length s) 0
 
   -- what the walk came to
-  came_to : (f : Found) → LeastSays (code_at s) (length s) 0 f → (p from : ℕ) → codes.At p from ≡ coded s f → (f ≡ At p) × ((code_at s p ≡ true) × (from ≡ behind s p))
-  came_to (At k) w p from e =
+  came_to : (f : Option ℕ) → LeastSays (code_at s) (length s) 0 f → (p from : ℕ) → Some (p, from) ≡ coded s f → (f ≡ Some p) × ((code_at s p ≡ true) × (from ≡ behind s p))
+  came_to (Some k) w p from e =
       let z : k ≡ p = sym (ap place_of_lem e) in
-      (ap At z, (ap (code_at s) (sym z) ∙ w.here, ap start_of e ∙ ap (behind s) z))
-  came_to Nothing w p from e = let z : ◌≡◌ {A = ℕ} 0 1 = cc in absurd (omega arith)
+      (ap Some z, (ap (code_at s) (sym z) ∙ w.here, ap start_of e ∙ ap (behind s) z))
+  came_to None w p from e = let z : ◌≡◌ {A = ℕ} 0 1 = cc in absurd (omega arith)
 
-  came_none : (f : Found) → codes.Nothing ≡ coded s f → f ≡ Nothing
-  came_none (At k) e = let z : ◌≡◌ {A = ℕ} 0 1 = cc in absurd (omega arith)
-  came_none Nothing e = refl
+  came_none : (f : Option ℕ) → None ≡ coded s f → f ≡ None
+  came_none (Some k) e = let z : ◌≡◌ {A = ℕ} 0 1 = cc in absurd (omega arith)
+  came_none None e = refl
 
   -- the ways out of `digest_unchecked`, r being what the walk answered
-  module _ (r : Code) (e : r ≡ coded s (leftmost s)) where
-    at_code : (p from : ℕ) → r ≡ codes.At p from → (leftmost s ≡ At p) × ((code_at s p ≡ true) × (from ≡ behind s p))
+  module _ (r : Option Line) (e : r ≡ coded s (leftmost s)) where
+    at_code : (p from : ℕ) → r ≡ Some (p, from) → (leftmost s ≡ Some p) × ((code_at s p ≡ true) × (from ≡ behind s p))
     at_code p from q = came_to (leftmost s) says p from (sym q ∙ e)
 
-    pub said_room : (p from : ℕ) → r ≡ codes.At p from → (p + 2 ≤ length s) × (from ≡ behind s p)
+    pub said_room : (p from : ℕ) → r ≡ Some (p, from) → (p + 2 ≤ length s) × (from ≡ behind s p)
     said_room p from q = let w = at_code p from q in (code_fits s p w.1.0, w.1.1)
 
-    pub unchecked_at : (p from : ℕ) → r ≡ codes.At p from → (a : Answer) → a ≡ said s p → a ≡ digest_unchecked s
+    pub unchecked_at : (p from : ℕ) → r ≡ Some (p, from) → (a : Answer) → a ≡ said s p → a ≡ digest_unchecked s
     unfolding digest_unchecked said_of
     unchecked_at p from q a f = rw (at_code p from q).0 f
 
-    pub unchecked_none : r ≡ codes.Nothing → (a : Answer) → a ≡ nothing 0 → a ≡ digest_unchecked s
+    pub unchecked_none : r ≡ None → (a : Answer) → a ≡ nothing 0 → a ≡ digest_unchecked s
     unfolding digest_unchecked said_of
     unchecked_none q a f = rw (came_none (leftmost s) (sym q ∙ e)) f
 
@@ -101,9 +97,9 @@ module _ (s : List ℕ) where
   unfolding said
   said_within p h = let f = code_fits s p h in payload_within (kind_of (get_or s p 0)) ring (along s p (get_or s p 0)) (p + 2) (length s) (along_within p (get_or s p 0) f) f
 
-  heard_of : (r : Found) → LeastSays (code_at s) (length s) 0 r → Heard s (said_of s r)
+  heard_of : (r : Option ℕ) → LeastSays (code_at s) (length s) 0 r → Heard s (said_of s r)
   unfolding said_of
-  heard_of (At p) w =
+  heard_of (Some p) w =
       let c = w.here in
       let f = said_found p c in
       record {
@@ -114,7 +110,7 @@ module _ (s : List ℕ) where
         some = λ n. omega (arith, said_consumed p);
         within = omega (arith, said_consumed p, code_fits s p c);
       }
-  heard_of Nothing w =
+  heard_of None w =
       record {
         none = λ n p. none_of p;
         only = λ n. refl;
@@ -133,10 +129,10 @@ module _ (s : List ℕ) where
   unchecked_heard = heard_of (leftmost s) says
 
   -- what is consumed lies in the input, and the payload in what is consumed
-  inside_of : (r : Found) → LeastSays (code_at s) (length s) 0 r → Within (length s) (said_of s r)
+  inside_of : (r : Option ℕ) → LeastSays (code_at s) (length s) 0 r → Within (length s) (said_of s r)
   unfolding said_of
-  inside_of (At p) w = said_within p w.here
-  inside_of Nothing w = nothing_within 0 (length s) (omega arith)
+  inside_of (Some p) w = said_within p w.here
+  inside_of None w = nothing_within 0 (length s) (omega arith)
 
   pub unchecked_inside : Within (length s) (digest_unchecked s)
   unfolding digest_unchecked
@@ -147,10 +143,10 @@ module _ (s : List ℕ) where
   unfolding said
   said_byte p = ways (λ (n : Number). stored n < 256) (has_number (kind_of (get_or s p 0))) (λ e. omega arith) (λ e. omega arith)
 
-  byte_of : (r : Found) → (said_of s r).number < 256
+  byte_of : (r : Option ℕ) → (said_of s r).number < 256
   unfolding said_of
-  byte_of (At p) = said_byte p
-  byte_of Nothing = omega arith
+  byte_of (Some p) = said_byte p
+  byte_of None = omega arith
 
   pub unchecked_byte : (digest_unchecked s).number < 256
   unfolding digest_unchecked

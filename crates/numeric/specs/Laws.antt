@@ -1,5 +1,5 @@
 -- Laws of the definitions, for the programs and for those above. The walk goes from line start to line start: between a line start and the next CR there is none.
-use Rattle.std.specs.Prelude.{◌≡◌, ◌⊎◌, Bool, false, ◌&&◌, ◌||◌, not, List, length, eqb, leb, if◌then◌else◌}
+use Rattle.std.specs.Prelude.{Option, Some, None, ◌≡◌, ◌⊎◌, Bool, false, ◌&&◌, ◌||◌, not, List, length, eqb, leb, if◌then◌else◌}
 use Rattle.std.proofs.Math.Path.{refl, sym, ap}
 use Rattle.std.proofs.Common.{◌∙◌, add-zero, eq-or-lt_of_le}
 use Rattle.std.proofs.Math.Logic.{inl, inr, ⊎_elim}
@@ -13,11 +13,7 @@ use Rattle.outcome.specs.Laws.{ways}
 use Rattle.text.specs.Logic.{false_true, not_true_false, and_both, order}
 use Rattle.text.specs.Text.{past}
 use Rattle.text.specs.Laws.{past_bounds, past_passes, past_stops}
-use Rattle.text.specs.declared.Found.{Found}
-use Rattle.text.specs.declared.Found.TheVariants.{At, Nothing}
 use Rattle.numeric.specs.declared.Line.{Line}
-use Rattle.numeric.specs.declared.Code.{Code}
-use Rattle.numeric.specs.declared.Code.TheVariants as codes
 use Rattle.numeric.specs.Numeric.{is_cr, is_lf, lone_cr, line_start, kind_of, is_listed, code_at, least, leftmost, behind}
 use Rattle.numeric.specs.Heard.{Behind}
 
@@ -30,9 +26,9 @@ unfoldable pub line_behind : List ℕ → ℕ → ℕ → Line
 line_behind s i from = if lone_cr s i then record { start = i + 1; from = i + 1 } else record { start = i + 2; from = from }
 
 -- a code's place, and where what stands before it begins
-abbrev pub coded : List ℕ → Found → Code
-coded s (At p) = codes.At p (behind s p)
-coded s Nothing = codes.Nothing
+abbrev pub coded : List ℕ → Option ℕ → Option Line
+coded s (Some p) = Some (p, (behind s p))
+coded s None = None
 
 -- the codes are 0 to 8 without 5
 listed_from : (d : ℕ) → d ≤ 8 → (d ≡ 5 → ⊥) → is_listed (48 + d) ≡ true
@@ -69,16 +65,16 @@ listed_upto b n h =
 
 -- the least place that passes
 module _ (f : ℕ → Bool) where
-  pub least_at : (n i k : ℕ) → i ≤ k → k < i + n → f k ≡ true → ((j : ℕ) → i ≤ j → j < k → f j ≡ false) → At k ≡ least f n i
+  pub least_at : (n i k : ℕ) → i ≤ k → k < i + n → f k ≡ true → ((j : ℕ) → i ≤ j → j < k → f j ≡ false) → Some k ≡ least f n i
   unfolding least
   least_at zero i k h g e a = absurd (omega arith)
   least_at (suc n) i k h g e a =
       ⊎_elim
-      (λ (q : i ≡ k). rw (ap f q ∙ e) (ap At (sym q)))
+      (λ (q : i ≡ k). rw (ap f q ∙ e) (ap Some (sym q)))
       (λ (q : i < k). rw (a i (omega arith) q) (least_at n (suc i) k (omega arith) (omega arith) e (λ j x y. a j (omega arith) y)))
       (eq-or-lt_of_le h)
 
-  pub least_none : (n i : ℕ) → ((j : ℕ) → i ≤ j → j < i + n → f j ≡ false) → Nothing ≡ least f n i
+  pub least_none : (n i : ℕ) → ((j : ℕ) → i ≤ j → j < i + n → f j ≡ false) → None ≡ least f n i
   unfolding least
   least_none zero i a = refl
   least_none (suc n) i a = rw (a i (omega arith) (omega arith)) (least_none n (suc i) (λ j x y. a j (omega arith) (omega arith)))
@@ -90,19 +86,19 @@ module _ (f : ℕ → Bool) where
     pub here : f k ≡ true
     pub first : (j : ℕ) → i ≤ j → j < k → f j ≡ false
 
-  abbrev pub LeastSays : ℕ → ℕ → Found → Type 0
-  LeastSays n i (At k) = LeastAt n i k
-  LeastSays n i Nothing = (j : ℕ) → i ≤ j → j < i + n → f j ≡ false
+  abbrev pub LeastSays : ℕ → ℕ → Option ℕ → Type 0
+  LeastSays n i (Some k) = LeastAt n i k
+  LeastSays n i None = (j : ℕ) → i ≤ j → j < i + n → f j ≡ false
 
-  least_more : (n i : ℕ) → f i ≡ false → (r : Found) → LeastSays n (suc i) r → LeastSays (suc n) i r
-  least_more n i e (At k) w =
+  least_more : (n i : ℕ) → f i ≡ false → (r : Option ℕ) → LeastSays n (suc i) r → LeastSays (suc n) i r
+  least_more n i e (Some k) w =
       record {
         after = omega (arith, w.after);
         before = omega (arith, w.before);
         here = w.here;
         first = λ j x y. ⊎_elim (λ (q : i ≡ j). ap f (sym q) ∙ e) (λ (q : i < j). w.first j (omega arith) y) (eq-or-lt_of_le x);
       }
-  least_more n i e Nothing w = λ j x y. ⊎_elim (λ (q : i ≡ j). ap f (sym q) ∙ e) (λ (q : i < j). w j (omega arith) (omega arith)) (eq-or-lt_of_le x)
+  least_more n i e None w = λ j x y. ⊎_elim (λ (q : i ≡ j). ap f (sym q) ∙ e) (λ (q : i < j). w j (omega arith) (omega arith)) (eq-or-lt_of_le x)
 
   pub least_says : (n i : ℕ) → LeastSays n i (least f n i)
   unfolding least
@@ -273,13 +269,13 @@ module _ (s : List ℕ) where
 
   module _ (p from : ℕ) (w : Walked p from) where
     -- a code here is the leftmost
-    pub walk_found : is_listed (get_or s p 0) && lone_cr s (p + 1) ≡ true → codes.At p from ≡ coded s (leftmost s)
+    pub walk_found : is_listed (get_or s p 0) && lone_cr s (p + 1) ≡ true → Some (p, from) ≡ coded s (leftmost s)
     unfolding leftmost code_at
     walk_found e =
         let c : code_at s p ≡ true = rw w.start e in
         ap (codes.At p) w.begins ∙ ap (coded s) (least_at (code_at s) (length s) 0 p (omega arith) (omega (arith, code_fits p c)) c (λ j x y. w.none j y))
 
-    pub walk_end : length s ≤ p → codes.Nothing ≡ coded s (leftmost s)
+    pub walk_end : length s ≤ p → None ≡ coded s (leftmost s)
     unfolding leftmost
     walk_end h = ap (coded s) (least_none (code_at s) (length s) 0 (λ j x y. w.none j (omega arith)))
 
@@ -296,7 +292,7 @@ module _ (s : List ℕ) where
           (order j p)
 
       -- no CR is left
-      pub walk_last : length s ≤ q → codes.Nothing ≡ coded s (leftmost s)
+      pub walk_last : length s ≤ q → None ≡ coded s (leftmost s)
       unfolding leftmost
       walk_last h = ap (coded s) (least_none (code_at s) (length s) 0 (λ j x y. none_to j (omega arith)))
 

@@ -1,17 +1,15 @@
 -- The digester for modems in V0 (R-1), in the request's words. It computes. Past the input's end `get_or` gives 0, which is no CR, no LF and no digit.
-use Rattle.std.specs.Prelude.{Bool, true, ◌&&◌, ◌||◌, not, List, [], ◌∷◌, ℕ, zero, suc, ◌+◌, length, get_or, eqb, ltb, if◌then◌else◌}
+use Rattle.std.specs.Prelude.{Option, Some, Result, Err, Bool, true, ◌&&◌, ◌||◌, not, List, [], ◌∷◌, ℕ, zero, suc, ◌+◌, length, get_or, eqb, ltb, if◌then◌else◌}
 use Rattle.outcome.specs.Outcome.{Outcome, answered, refused}
 use Rattle.text.specs.Bytes.{bytes}
 use Rattle.text.specs.Text.{among, trimmed_part}
-use Rattle.text.specs.declared.Found.{Found}
-use Rattle.text.specs.declared.Found.TheVariants.{At, Nothing}
 use Rattle.text.specs.declared.Span.{Span}
 use Rattle.answers.specs.declared.Kind.{Kind}
 use Rattle.answers.specs.declared.Kind.TheVariants.{None, Ok, Error, NoCarrier, Busy, NoAnswer, NoDialtone, Notice}
 use Rattle.answers.specs.declared.Answer.{Answer}
 use Rattle.answers.specs.Answer.{kind_found, nothing, with_payload}
-use Rattle.numeric.specs.declared.Digested.{Digested}
-use Rattle.numeric.specs.declared.Digested.TheVariants as says
+use Rattle.answers.specs.declared.DigestError.{DigestError}
+use Rattle.answers.specs.declared.DigestError.TheVariants as says
 
 abbrev pub is_cr : ℕ → Bool
 is_cr b = eqb b 13
@@ -53,12 +51,12 @@ unfolding line_start kind_of lone_cr
 code_at s p = line_start s p && (is_listed (get_or s p 0) && lone_cr s (p + 1))
 
 -- the least of the n places from i on that passes f
-unfoldable pub least : (ℕ → Bool) → ℕ → ℕ → Found
-least f zero i = Nothing
-least f (suc n) i = let r = least f n (suc i) in if f i then At i else r
+unfoldable pub least : (ℕ → Bool) → ℕ → ℕ → Option ℕ
+least f zero i = None
+least f (suc n) i = let r = least f n (suc i) in if f i then Some i else r
 
 -- The leftmost code wins.
-unfoldable pub leftmost : List ℕ → Found
+unfoldable pub leftmost : List ℕ → Option ℕ
 unfolding least code_at
 leftmost s = least (code_at s) (length s) 0
 
@@ -86,10 +84,10 @@ unfolding kind_of along
 said s p = let b = get_or s p 0 in with_payload (kind_of b) ring (along s p b) (p + 2)
 
 -- With none the answer is None, 0.
-unfoldable pub said_of : List ℕ → Found → Answer
+unfoldable pub said_of : List ℕ → Option ℕ → Answer
 unfolding said
-said_of s (At p) = said s p
-said_of s Nothing = nothing 0
+said_of s (Some p) = said s p
+said_of s None = nothing 0
 
 unfoldable pub digest_unchecked : List ℕ → Answer
 unfolding leftmost said_of
@@ -110,7 +108,7 @@ unfolding digest_unchecked
 digest t s = if ltb 4096 (length s) then refused 1 [] else under_table (ruled t) s
 
 -- the number and values for each case of the answer
-abbrev pub outcome : Digested → Outcome Answer
-outcome (says.Is a) = answered a
-outcome says.TooLong = refused 1 []
-outcome says.BadTable = refused 2 (0 ∷ [])
+abbrev pub outcome : Result Answer DigestError → Outcome Answer
+outcome (Ok a) = answered a
+outcome (Err says.TooLong) = refused 1 []
+outcome (Err says.BadTable) = refused 2 (0 ∷ [])

@@ -110,32 +110,25 @@ fn line_behind(s: &[u8], cr: usize, from: usize) -> Line
     }
 }
 
-// What the walk comes to: a code at a line start, or none.
-#[derive(Clone, Copy)]
-pub enum Code {
-    At(usize, usize),
-    Nothing,
-}
-
 // The leftmost code, with where what stands before it begins, by a walk from line start to line start.
-fn leftmost(s: &[u8]) -> Code
+fn leftmost(s: &[u8]) -> Option<Line>
     ensures { result ≡ coded s.now (leftmost s.now) }
 {
     let mut p = 0;
     let mut from = 0;
     while p < s.len() {
         if is_code(s, p) {
-            return Code::At(p, from);
+            return Some((p, from));
         }
         let cr = next_cr(s, p);
         if cr == s.len() {
-            return Code::Nothing;
+            return None;
         }
         let line = line_behind(s, cr, from);
         p = line.start;
         from = line.from;
     }
-    Code::Nothing
+    None
 }
 
 // What goes along with the code b at p: with an Ok what stands before it, from `from` on, trimmed; with a RING the digit; with another nothing.
@@ -168,30 +161,22 @@ pub fn digest_unchecked(input: &[u8]) -> Answer
     ensures { result ≡ digest_unchecked input.now }
 {
     match leftmost(input) {
-        Code::At(p, from) => said(input, p, from),
-        Code::Nothing => answers::nothing(0),
+        Some((p, from)) => said(input, p, from),
+        None => answers::nothing(0),
     }
-}
-
-// The answer of a digest, or the refusal: 1 for an input over 4,096 bytes, 2 with record number 0 for a table that isn't empty.
-#[derive(Clone, Copy)]
-pub enum Digested {
-    Is(Answer),
-    TooLong,
-    BadTable,
 }
 
 // What the input was, or the refusal. There are no tokens in V0, so the table is to be empty.
 // None exactly when no line start of the input holds a code; else the leftmost code decides, and the rest begins at a line start (`HeardIn`).
-pub fn digest(table: &[u8], input: &[u8]) -> Digested
+pub fn digest(table: &[u8], input: &[u8]) -> Result<Answer, DigestError>
     ensures is { outcome result ≡ digest table.now input.now }
     ensures heard { HeardIn input.now (outcome result) }
 {
     if answers::LONGEST < input.len() {
-        return Digested::TooLong;
+        return Err(DigestError::TooLong);
     }
     if 0 < table.len() {
-        return Digested::BadTable;
+        return Err(DigestError::BadTable);
     }
-    Digested::Is(digest_unchecked(input))
+    Ok(digest_unchecked(input))
 }

@@ -4,11 +4,11 @@
 use answers::Kind;
 use fields::Memory;
 use findings::NUMBERS;
-use ingress::{Advanced, Written};
+use ingress::{AdvanceError, WriteError};
 use notation::op::Op;
-use queue::{Notice, Taken};
+use queue::{Notice, TakeError};
 use selector::Selector;
-use slot::{Held, Looked, Reset, Slot, Turned};
+use slot::{Held, Looked, ResetError, Slot, SlotError};
 use std::io;
 use turn::State;
 
@@ -16,7 +16,7 @@ use turn::State;
 #[derive(Clone, Copy)]
 enum Answered {
     Took(usize),
-    Advanced,
+    Result<State, AdvanceError>,
     Done,
     Nothing,
     Notice(Notice),
@@ -41,25 +41,25 @@ fn leaving(s: State, o: Answered) -> Left {
 }
 
 // What a write answered. A refused one leaves the state as it was, but for refusal 5.
-fn of_write(now: State, wrote: Written) -> Left {
+fn of_write(now: State, wrote: Result<(State, usize), WriteError>) -> Left {
     match wrote {
-        Written::Is(s, n) => leaving(s, Answered::Took(n)),
-        Written::TooLong => leaving(now, Answered::Refused(1)),
-        Written::BadTable(k) => leaving(now, Answered::BadTable(k)),
-        Written::BadState => leaving(now, Answered::Refused(3)),
-        Written::Full(s, n) => leaving(s, Answered::Full(n)),
+        Ok((s, n)) => leaving(s, Answered::Took(n)),
+        Err(WriteError::TooLong) => leaving(now, Answered::Refused(1)),
+        Err(WriteError::BadTable(k)) => leaving(now, Answered::BadTable(k)),
+        Err(WriteError::BadState) => leaving(now, Answered::Refused(3)),
+        Err(WriteError::Full(s, n)) => leaving(s, Answered::Full(n)),
     }
 }
 
 // What an advance answered, likewise.
-fn of_advance(now: State, went: Advanced) -> Left {
+fn of_advance(now: State, went: Result<State, AdvanceError>) -> Left {
     match went {
-        Advanced::Is(s) => leaving(s, Answered::Advanced),
-        Advanced::TooLong => leaving(now, Answered::Refused(1)),
-        Advanced::BadTable(k) => leaving(now, Answered::BadTable(k)),
-        Advanced::BadState => leaving(now, Answered::Refused(3)),
-        Advanced::NoRoom => leaving(now, Answered::Refused(4)),
-        Advanced::Full(s) => leaving(s, Answered::Refused(5)),
+        Ok(s) => leaving(s, Answered::Advanced),
+        Err(AdvanceError::TooLong) => leaving(now, Answered::Refused(1)),
+        Err(AdvanceError::BadTable(k)) => leaving(now, Answered::BadTable(k)),
+        Err(AdvanceError::BadState) => leaving(now, Answered::Refused(3)),
+        Err(AdvanceError::NoRoom) => leaving(now, Answered::Refused(4)),
+        Err(AdvanceError::Full(s)) => leaving(s, Answered::Refused(5)),
     }
 }
 
@@ -144,9 +144,9 @@ fn do_clear(now: State, numbers: &mut [u64; NUMBERS]) -> Left {
 fn do_reset(now: State, serial: u32, slot_mem: &[u8]) -> Left {
     let slot = now.slot;
     match slot.reset(serial, slot_mem) {
-        Reset::Is(x) => leaving(now.with_slot(x), Answered::Done),
-        Reset::BadLength => leaving(now, Answered::Refused(3)),
-        Reset::Repeated => leaving(now, Answered::Refused(15)),
+        Ok(x) => leaving(now.with_slot(x), Answered::Done),
+        Err(ResetError::BadLength) => leaving(now, Answered::Refused(3)),
+        Err(ResetError::Repeated) => leaving(now, Answered::Refused(15)),
     }
 }
 
@@ -162,17 +162,17 @@ fn next_serial(now: State) -> u32 {
 fn do_signal(now: State, kind: Kind, n: u32, p: &[u8], slot_mem: &mut [u8]) -> Left {
     let slot = now.slot;
     match slot.signal(answers::with_number(kind, n, 0), p, slot_mem) {
-        Turned::Is(x) => leaving(now.with_slot(x), Answered::Done),
-        Turned::BadLength => leaving(now, Answered::Refused(3)),
+        Ok(x) => leaving(now.with_slot(x), Answered::Done),
+        Err(SlotError::BadLength) => leaving(now, Answered::Refused(3)),
     }
 }
 
 fn do_take(now: State, queue_mem: &[u8]) -> Left {
     let queue = now.queue;
     match queue.take(queue_mem) {
-        Taken::Is(q, notice) => leaving(now.with_queue(q), Answered::Notice(notice)),
-        Taken::Nothing(q) => leaving(now.with_queue(q), Answered::Nothing),
-        Taken::Bad => leaving(now, Answered::Refused(3)),
+        Ok((q, Some(notice))) => leaving(now.with_queue(q), Answered::Notice(notice)),
+        Ok((q, None)) => leaving(now.with_queue(q), Answered::Nothing),
+        Err(TakeError::Bad) => leaving(now, Answered::Refused(3)),
     }
 }
 

@@ -1,6 +1,6 @@
 -- Laws of what stands at a place: the ways out of each function, over plain lists.
 -- Each rests on text's laws of `stands`, `find_in` and `past`; none looks into a search.
-use Rattle.std.specs.Prelude.{◌≡◌, Bool, ◌&&◌, get_or, take, drop, ltb, if◌then◌else◌}
+use Rattle.std.specs.Prelude.{Option, Some, None, ◌≡◌, Bool, ◌&&◌, get_or, take, drop, ltb, if◌then◌else◌}
 use Rattle.std.proofs.Math.Path.{refl, sym, ap}
 use Rattle.std.proofs.Common.{◌∙◌, add-one, length-append, drop_of_length-le}
 use Rattle.std.proofs.Math.Bool.{true, false}
@@ -17,12 +17,7 @@ use Rattle.text.specs.Text.{is_blank, past, keep, begins, stands, find_in}
 use Rattle.text.specs.Steps.{past_more, past_stop, past_end, stands_past, begins_short}
 use Rattle.text.specs.Laws.{found_at, stands_fits, stands_append, stands_behind, begins_flip, rest, keep_le}
 use Rattle.text.specs.declared.Blanks.TheVariants as blanks
-use Rattle.text.specs.declared.Found.{Found}
-use Rattle.text.specs.declared.Found.TheVariants.{At, Nothing}
-use Rattle.parser.specs.declared.Run.{Run}
-use Rattle.parser.specs.declared.Run.TheVariants.{Value, TooLarge}
 use Rattle.parser.specs.declared.Digits.{Digits}
-use Rattle.parser.specs.declared.Numeric.TheVariants as numeric
 use Rattle.parser.specs.declared.Notice.TheVariants as notice
 use Rattle.lines.specs.Lines.{crlf}
 use Rattle.outcome.specs.Laws.{ways}
@@ -117,31 +112,31 @@ module _ {A : Type 0} (is : ℕ → ℕ → A) (larger : A) (most : ℕ) (s : Li
       run_more g = record { small = g; digits = w.digits ∙ past_more is_digit s i h d; is = value_on }
 
 -- the ways out of `tail_at`
-module _ (s : List ℕ) (p a : ℕ) (u : a ≡ past (is_blank blanks.Run) s p) (r : Run) (q : r ≡ digits_at s a) where
+module _ (s : List ℕ) (p a : ℕ) (u : a ≡ past (is_blank blanks.Run) s p) (r : Option (ℕ × ℕ)) (q : r ≡ digits_at s a) where
   at_run : ended_run s a r ≡ tail_at s p
   unfolding tail_at
   at_run = ap (ended_run s a) q ∙ ap (λ (n : ℕ). ended_run s n (digits_at s n)) u
 
-  pub tail_large : r ≡ TooLarge → numeric.Nothing ≡ tail_at s p
+  pub tail_large : r ≡ None → None ≡ tail_at s p
   unfolding ended_run
   tail_large e = rw e at at_run
 
-  module _ (v b : ℕ) (e : r ≡ Value v b) where
-    at_value : (if ltb a b && ltb 0 (line_ending s b) then numeric.Is (record { code = v; start = a; stop = b; end = b + line_ending s b }) else numeric.Nothing) ≡ tail_at s p
+  module _ (v b : ℕ) (e : r ≡ Some (v, b)) where
+    at_value : (if ltb a b && ltb 0 (line_ending s b) then Some (record { code = v; start = a; stop = b; end = b + line_ending s b }) else None) ≡ tail_at s p
     unfolding ended_run
     at_value = rw e at at_run
 
-    pub tail_bare : b ≤ a → numeric.Nothing ≡ tail_at s p
+    pub tail_bare : b ≤ a → None ≡ tail_at s p
     tail_bare h = rw (le-ltb a b h) at at_value
 
     module _ (h : a < b) (n : ℕ) (w : n ≡ line_ending s b) where
-      at_ending : (if ltb 0 n then numeric.Is (record { code = v; start = a; stop = b; end = b + n }) else numeric.Nothing) ≡ tail_at s p
+      at_ending : (if ltb 0 n then Some (record { code = v; start = a; stop = b; end = b + n }) else None) ≡ tail_at s p
       at_ending = rw w (rw (lt-ltb a b h) at at_value)
 
-      pub tail_open : n ≡ 0 → numeric.Nothing ≡ tail_at s p
+      pub tail_open : n ≡ 0 → None ≡ tail_at s p
       tail_open z = rw z at at_ending
 
-      pub tail_is : (n ≡ 0 → ⊥) → numeric.Is (record { code = v; start = a; stop = b; end = b + n }) ≡ tail_at s p
+      pub tail_is : (n ≡ 0 → ⊥) → Some (record { code = v; start = a; stop = b; end = b + n }) ≡ tail_at s p
       tail_is z = rw (lt-ltb 0 n (omega arith)) at at_ending
 
 -- `numeric_at`
@@ -252,12 +247,12 @@ module _ (x s : List ℕ) (k : ℕ) where
         pub text_other : stands (bytes ":") s (k + length x) ≡ false → notice.Nothing ≡ notice_text x s k
         text_other e = rw (v, e) at behind
 
-        module _ (z : stands (bytes ":") s (k + length x) ≡ true) (r : Found) (q : r ≡ find_in crlf s (k + length x + 1)) where
-          pub text_through : (p : ℕ) → r ≡ At p → notice.Ended (p + 2) ≡ notice_text x s k
+        module _ (z : stands (bytes ":") s (k + length x) ≡ true) (r : Option ℕ) (q : r ≡ find_in crlf s (k + length x + 1)) where
+          pub text_through : (p : ℕ) → r ≡ Some p → notice.Ended (p + 2) ≡ notice_text x s k
           unfolding through
           text_through p e = ap through (sym e ∙ q) ∙ (rw (v, z) at behind)
 
-          pub text_open : r ≡ Nothing → notice.Nothing ≡ notice_text x s k
+          pub text_open : r ≡ None → notice.Nothing ≡ notice_text x s k
           unfolding through
           text_open e = ap through (sym e ∙ q) ∙ (rw (v, z) at behind)
 
@@ -276,17 +271,17 @@ module _ (x s : List ℕ) (p n : ℕ) (q : n ≡ line_ending s p) where
       go (suc m) y = unfold after_ending in refl
 
 -- a notice lies in the input, from its place on
-ended_bounds : (x s : List ℕ) (k : ℕ) (b c : Bool) (r : Found) → stands (x ++ crlf) s k ≡ b → find_in crlf s (k + length x + 1) ≡ r → (end : ℕ) → (if b then notice.Ended (k + length x + 2) else if c then through r else notice.Nothing) ≡ notice.Ended end → (k ≤ end) × (end ≤ length s)
+ended_bounds : (x s : List ℕ) (k : ℕ) (b c : Bool) (r : Option ℕ) → stands (x ++ crlf) s k ≡ b → find_in crlf s (k + length x + 1) ≡ r → (end : ℕ) → (if b then notice.Ended (k + length x + 2) else if c then through r else notice.Nothing) ≡ notice.Ended end → (k ≤ end) × (end ≤ length s)
 unfolding through
 ended_bounds x s k true c r e f end h =
     let g = stands_fits (x ++ crlf) s k (omega (arith, length-append x crlf)) e in
     let q : k + length x + 2 ≡ end = cc in
     (omega arith, omega (arith, g, length-append x crlf))
-ended_bounds x s k false true (At q) e f end h =
+ended_bounds x s k false true (Some q) e f end h =
     let w = found_at crlf s (k + length x + 1) q f in
     let g : q + 2 ≡ end = cc in
     (omega (arith, w.after), omega (arith, stands_fits crlf s q (omega arith) w.here))
-ended_bounds x s k false true Nothing e f end h = let z : ◌≡◌ {A = ℕ} 0 1 = cc in absurd (omega arith)
+ended_bounds x s k false true None e f end h = let z : ◌≡◌ {A = ℕ} 0 1 = cc in absurd (omega arith)
 ended_bounds x s k false false r e f end h = let z : ◌≡◌ {A = ℕ} 0 1 = cc in absurd (omega arith)
 
 unbroken_bounds : (x s : List ℕ) (k : ℕ) (a : Bool) (end : ℕ) → (if a then notice.Unfinished else if stands (x ++ crlf) s k then notice.Ended (k + length x + 2) else if stands (x ++ bytes ":") s k then through (find_in crlf s (k + length x + 1)) else notice.Nothing) ≡ notice.Ended end → (k ≤ end) × (end ≤ length s)
@@ -308,34 +303,34 @@ notice_bounds x s p end h = opened_bounds (line_ending s p) x s p end h
 abbrev pub LiesIn : List ℕ → Digits → Type 0
 LiesIn s d = (d.start < d.stop) × ((d.stop < d.end) × (d.end ≤ length s))
 
-closed_bounds : (s : List ℕ) (a v b : ℕ) (c : Bool) → (c ≡ true → (a < b) × (0 < line_ending s b)) → (d : Digits) → (if c then numeric.Is (record { code = v; start = a; stop = b; end = b + line_ending s b }) else numeric.Nothing) ≡ numeric.Is d → LiesIn s d
+closed_bounds : (s : List ℕ) (a v b : ℕ) (c : Bool) → (c ≡ true → (a < b) × (0 < line_ending s b)) → (d : Digits) → (if c then Some (record { code = v; start = a; stop = b; end = b + line_ending s b }) else None) ≡ Some d → LiesIn s d
 closed_bounds s a v b true h d e =
     let q : d ≡ record { code = v; start = a; stop = b; end = b + line_ending s b } = cc in
     let w = h refl in
     rw q (w.0, (omega (arith, w.1), ending_fits s b w.1))
 closed_bounds s a v b false h d e = let z : ◌≡◌ {A = ℕ} 0 1 = cc in absurd (omega arith)
 
-run_bounds : (s : List ℕ) (a : ℕ) (r : Run) (d : Digits) → ended_run s a r ≡ numeric.Is d → LiesIn s d
+run_bounds : (s : List ℕ) (a : ℕ) (r : Option (ℕ × ℕ)) (d : Digits) → ended_run s a r ≡ Some d → LiesIn s d
 unfolding ended_run
-run_bounds s a (Value v b) d e =
+run_bounds s a (Some (v, b)) d e =
     closed_bounds s a v b (ltb a b && ltb 0 (line_ending s b))
     (λ h. let w = and_both (ltb a b) (ltb 0 (line_ending s b)) h in (ltb-true a b w.0, ltb-true 0 (line_ending s b) w.1)) d e
-run_bounds s a TooLarge d e = let z : ◌≡◌ {A = ℕ} 0 1 = cc in absurd (omega arith)
+run_bounds s a None d e = let z : ◌≡◌ {A = ℕ} 0 1 = cc in absurd (omega arith)
 
-head_bounds : (h s : List ℕ) (p : ℕ) (b : Bool) (d : Digits) → (if b then tail_at s (p + length h) else numeric.Nothing) ≡ numeric.Is d → LiesIn s d
+head_bounds : (h s : List ℕ) (p : ℕ) (b : Bool) (d : Digits) → (if b then tail_at s (p + length h) else None) ≡ Some d → LiesIn s d
 unfolding tail_at
 head_bounds h s p true d e = run_bounds s (past (is_blank blanks.Run) s (p + length h)) (digits_at s (past (is_blank blanks.Run) s (p + length h))) d e
 head_bounds h s p false d e = let z : ◌≡◌ {A = ℕ} 0 1 = cc in absurd (omega arith)
 
-pub numeric_bounds : (h s : List ℕ) (p : ℕ) (d : Digits) → numeric_at h s p ≡ numeric.Is d → LiesIn s d
+pub numeric_bounds : (h s : List ℕ) (p : ℕ) (d : Digits) → numeric_at h s p ≡ Some d → LiesIn s d
 unfolding numeric_at
 numeric_bounds h s p d e = head_bounds h s p (stands h s p) d e
 
-found_bounds : (h s : List ℕ) (r : Found) (d : Digits) → at_found h s r ≡ numeric.Is d → LiesIn s d
+found_bounds : (h s : List ℕ) (r : Option ℕ) (d : Digits) → at_found h s r ≡ Some d → LiesIn s d
 unfolding at_found
-found_bounds h s (At p) d e = numeric_bounds h s p d e
-found_bounds h s Nothing d e = let z : ◌≡◌ {A = ℕ} 0 1 = cc in absurd (omega arith)
+found_bounds h s (Some p) d e = numeric_bounds h s p d e
+found_bounds h s None d e = let z : ◌≡◌ {A = ℕ} 0 1 = cc in absurd (omega arith)
 
-pub error_bounds : (h s : List ℕ) (e : ℕ) (d : Digits) → numeric_error h s e ≡ numeric.Is d → LiesIn s d
+pub error_bounds : (h s : List ℕ) (e : ℕ) (d : Digits) → numeric_error h s e ≡ Some d → LiesIn s d
 unfolding numeric_error
 error_bounds h s e d q = found_bounds h s (find_in h s e) d q

@@ -1,5 +1,5 @@
 -- The parser's definitions don't see what stands before the place: at d + p of s they say what they say at p of the suffix from d on, moved by d.
-use Rattle.std.specs.Prelude.{◌≡◌, Bool, true, false, ◌&&◌, List, [], ◌∷◌, ◌++◌, ℕ, zero, suc, ◌+◌, ◌-◌, ◌≤◌, ◌<◌, length, drop, leb, ltb, if◌then◌else◌}
+use Rattle.std.specs.Prelude.{Option, Some, None, ◌≡◌, Bool, true, false, ◌&&◌, List, [], ◌∷◌, ◌++◌, ℕ, zero, suc, ◌+◌, ◌-◌, ◌≤◌, ◌<◌, length, drop, leb, ltb, if◌then◌else◌}
 use Rattle.std.proofs.Math.Path.{refl}
 use Rattle.std.proofs.Common.{sym, ap, ◌∙◌, ⊎_elim, add-zero, arith, length-drop, drop-drop, lt-ltb, le-ltb}
 use Rattle.text.specs.Bytes.{bytes}
@@ -7,15 +7,9 @@ use Rattle.text.specs.Logic.{order, leb_shift}
 use Rattle.text.specs.Text.{is_blank, past, keep, stands, find_in}
 use Rattle.text.specs.Laws.{find_drop, moved, stands_drop, past_drop}
 use Rattle.text.specs.declared.Blanks.TheVariants as blanks
-use Rattle.text.specs.declared.Found.{Found}
-use Rattle.text.specs.declared.Found.TheVariants.{At, Nothing}
 use Rattle.lines.specs.Lines.{crlf}
 use Rattle.parser.specs.Parser.{only_blanks, prompt_from, custom_prompt, is_digit, value, run_at, digits_at, ended_run, tail_at, numeric_at, line_ending, breaks_off, through, notice_text, after_ending, notice_at}
 use Rattle.parser.specs.declared.Digits.{Digits}
-use Rattle.parser.specs.declared.Run.{Run}
-use Rattle.parser.specs.declared.Run.TheVariants.{Value, TooLarge}
-use Rattle.parser.specs.declared.Numeric.{Numeric}
-use Rattle.parser.specs.declared.Numeric.TheVariants as numeric
 use Rattle.parser.specs.declared.Notice.{Notice}
 use Rattle.parser.specs.declared.Notice.TheVariants as notice
 
@@ -32,10 +26,10 @@ shift_notice d (notice.Ended n) = notice.Ended (d + n)
 shift_notice d notice.Unfinished = notice.Unfinished
 shift_notice d notice.Nothing = notice.Nothing
 
-through_moved : (d : ℕ) (r : Found) → through (moved d r) ≡ shift_notice d (through r)
+through_moved : (d : ℕ) (r : Option ℕ) → through (moved d r) ≡ shift_notice d (through r)
 unfolding through moved shift_notice
-through_moved d (At q) = let e : d + q + 2 ≡ d + (q + 2) = omega arith in ap notice.Ended e
-through_moved d Nothing = refl
+through_moved d (Some q) = let e : d + q + 2 ≡ d + (q + 2) = omega arith in ap notice.Ended e
+through_moved d None = refl
 
 colon_moved : (d : ℕ) (b : Bool) (r : Notice) → (if b then shift_notice d r else notice.Nothing) ≡ shift_notice d (if b then r else notice.Nothing)
 unfolding shift_notice
@@ -71,12 +65,12 @@ notice_moved x s d =
     let e : line_ending s d ≡ line_ending (drop d s) 0 = ap (line_ending s) (sym (add-zero d)) ∙ sym (ending_moved s d 0) in
     ap (λ (n : ℕ). after_ending n x s d) e ∙ after_moved (line_ending (drop d s) 0) x s d
 
-prompt_found : (s : List ℕ) (d : ℕ) (r : Found) → d ≤ length s → only_blanks s (moved d r) ≡ only_blanks (drop d s) r
+prompt_found : (s : List ℕ) (d : ℕ) (r : Option ℕ) → d ≤ length s → only_blanks s (moved d r) ≡ only_blanks (drop d s) r
 unfolding only_blanks moved
-prompt_found s d (At q) h =
+prompt_found s d (Some q) h =
     let e : d + q + 1 ≡ d + (q + 1) = omega arith in
     rw (e, past_drop (is_blank blanks.Run) s d (q + 1), length-drop d s) (leb_shift (length s) d (past (is_blank blanks.Run) (drop d s) (q + 1)) h)
-prompt_found s d Nothing h = refl
+prompt_found s d None h = refl
 
 pub prompt_moved : (c : ℕ) (s : List ℕ) (d : ℕ) → d ≤ length s → prompt_from c s d ≡ prompt_from c (drop d s) 0
 unfolding prompt_from
@@ -92,13 +86,13 @@ custom_moved x s d =
     (sym (stands_drop x s d (n - length x)) ∙ let e : n - length x ≡ 0 + (n - length x) = omega arith in ap (stands x (drop d s)) e)
 
 -- numeric errors
-unfoldable pub shift_numeric : ℕ → Numeric → Numeric
-shift_numeric d (numeric.Is x) = numeric.Is (record { code = x.code; start = d + x.start; stop = d + x.stop; end = d + x.end })
-shift_numeric d numeric.Nothing = numeric.Nothing
+unfoldable pub shift_numeric : ℕ → Option Digits → Option Digits
+shift_numeric d (Some x) = Some (record { code = x.code; start = d + x.start; stop = d + x.stop; end = d + x.end })
+shift_numeric d None = None
 
-unfoldable shift_run : ℕ → Run → Run
-shift_run d (Value v b) = Value v (d + b)
-shift_run d TooLarge = TooLarge
+unfoldable shift_run : ℕ → Option (ℕ × ℕ) → Option (ℕ × ℕ)
+shift_run d (Some (v, b)) = Some (v, (d + b))
+shift_run d None = None
 
 ltb_shift : (d a b : ℕ) → ltb (d + a) (d + b) ≡ ltb a b
 ltb_shift d a b =
@@ -107,21 +101,21 @@ ltb_shift d a b =
     (λ (q : b ≤ a). le-ltb (d + a) (d + b) (omega arith) ∙ sym (le-ltb a b q))
     (order a b)
 
-ended_moved : (d : ℕ) (c : Bool) (x y : Digits) → x ≡ record { code = y.code; start = d + y.start; stop = d + y.stop; end = d + y.end } → (if c then numeric.Is x else numeric.Nothing) ≡ shift_numeric d (if c then numeric.Is y else numeric.Nothing)
+ended_moved : (d : ℕ) (c : Bool) (x y : Digits) → x ≡ record { code = y.code; start = d + y.start; stop = d + y.stop; end = d + y.end } → (if c then Some x else None) ≡ shift_numeric d (if c then Some y else None)
 unfolding shift_numeric
-ended_moved d true x y e = ap numeric.Is e
+ended_moved d true x y e = ap Some e
 ended_moved d false x y e = refl
 
-run_moved : (s : List ℕ) (d a : ℕ) (r : Run) → ended_run s (d + a) (shift_run d r) ≡ shift_numeric d (ended_run (drop d s) a r)
+run_moved : (s : List ℕ) (d a : ℕ) (r : Option (ℕ × ℕ)) → ended_run s (d + a) (shift_run d r) ≡ shift_numeric d (ended_run (drop d s) a r)
 unfolding ended_run shift_run
-run_moved s d a (Value v b) =
+run_moved s d a (Some (v, b)) =
     let n = line_ending (drop d s) b in
     let e : d + b + n ≡ d + (b + n) = omega arith in
     rw (sym (ending_moved s d b), ltb_shift d a b)
     (ended_moved d (ltb a b && ltb 0 n) (record { code = v; start = d + a; stop = d + b; end = d + b + n }) (record { code = v; start = a; stop = b; end = b + n }) (λ i. record { code = v; start = d + a; stop = d + b; end = e i }))
-run_moved s d a TooLarge = unfold shift_numeric in refl
+run_moved s d a None = unfold shift_numeric in refl
 
-most_moved : (d : ℕ) (c : Bool) (v b : ℕ) → (if c then Value v (d + b) else TooLarge) ≡ shift_run d (if c then Value v b else TooLarge)
+most_moved : (d : ℕ) (c : Bool) (v b : ℕ) → (if c then Some (v, (d + b)) else None) ≡ shift_run d (if c then Some (v, b) else None)
 unfolding shift_run
 most_moved d true v b = refl
 most_moved d false v b = refl
@@ -136,7 +130,7 @@ tail_moved s d p =
     let a = past (is_blank blanks.Run) (drop d s) p in
     rw (past_drop (is_blank blanks.Run) s d p, digits_moved s d a) (run_moved s d a (digits_at (drop d s) a))
 
-head_moved : (d : ℕ) (b : Bool) (r : Numeric) → (if b then shift_numeric d r else numeric.Nothing) ≡ shift_numeric d (if b then r else numeric.Nothing)
+head_moved : (d : ℕ) (b : Bool) (r : Option Digits) → (if b then shift_numeric d r else None) ≡ shift_numeric d (if b then r else None)
 unfolding shift_numeric
 head_moved d true r = refl
 head_moved d false r = refl

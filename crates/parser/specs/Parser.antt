@@ -1,15 +1,9 @@
 -- What may stand at a place of the input, in the words of document 01's rules 2 to 5.
-use Rattle.std.specs.Prelude.{Bool, false, ◌&&◌, List, [], ◌∷◌, ◌++◌, ℕ, zero, suc, ◌+◌, ◌*◌, ◌-◌, length, drop, leb, ltb, if◌then◌else◌}
+use Rattle.std.specs.Prelude.{Option, Some, None, Bool, false, ◌&&◌, List, [], ◌∷◌, ◌++◌, ℕ, zero, suc, ◌+◌, ◌*◌, ◌-◌, length, drop, leb, ltb, if◌then◌else◌}
 use Rattle.text.specs.Bytes.{bytes}
 use Rattle.text.specs.Text.{is_blank, past, keep, begins, stands, find_in}
 use Rattle.text.specs.declared.Blanks.TheVariants as blanks
-use Rattle.text.specs.declared.Found.{Found}
-use Rattle.text.specs.declared.Found.TheVariants.{At, Nothing}
 use Rattle.lines.specs.Lines.{crlf}
-use Rattle.parser.specs.declared.Run.{Run}
-use Rattle.parser.specs.declared.Run.TheVariants.{Value, TooLarge}
-use Rattle.parser.specs.declared.Numeric.{Numeric}
-use Rattle.parser.specs.declared.Numeric.TheVariants as numeric
 use Rattle.parser.specs.declared.Notice.{Notice}
 use Rattle.parser.specs.declared.Notice.TheVariants as notice
 
@@ -22,9 +16,9 @@ unfoldable pub breaks_off : List ℕ → List ℕ → ℕ → Bool
 unfolding begins
 breaks_off x s k = begins (drop k s) (x ++ bytes "\r")
 
-unfoldable pub through : Found → Notice
-through (At q) = notice.Ended (q + 2)
-through Nothing = notice.Nothing
+unfoldable pub through : Option ℕ → Notice
+through (Some q) = notice.Ended (q + 2)
+through None = notice.Nothing
 
 -- rule 2: the text from k on, then either CRLF, or `:` and everything through the next CRLF
 unfoldable pub notice_text : List ℕ → List ℕ → ℕ → Notice
@@ -54,9 +48,9 @@ wrapped x = crlf ++ (x ++ crlf)
 unfoldable pub custom_prompt : List ℕ → List ℕ → ℕ → Bool
 custom_prompt x s e = let n = keep (is_blank blanks.Run) (drop e s) in leb (length x) n && stands x s (e + (n - length x))
 
-unfoldable pub only_blanks : List ℕ → Found → Bool
-only_blanks s (At p) = leb (length s) (past (is_blank blanks.Run) s (p + 1))
-only_blanks s Nothing = false
+unfoldable pub only_blanks : List ℕ → Option ℕ → Bool
+only_blanks s (Some p) = leb (length s) (past (is_blank blanks.Run) s (p + 1))
+only_blanks s None = false
 
 -- rule 4: the first such byte must have only run blanks after it
 unfoldable pub prompt_from : ℕ → List ℕ → ℕ → Bool
@@ -78,33 +72,33 @@ unfolding value
 run_at is larger most s p = let v = value 0 (drop p s) in if leb v most then is v (past is_digit s p) else larger
 
 -- rule 5: of at most 65,535
-abbrev pub digits_at : List ℕ → ℕ → Run
-digits_at s p = run_at Value TooLarge 65535 s p
+abbrev pub digits_at : List ℕ → ℕ → Option (ℕ × ℕ)
+digits_at s p = run_at Some (None, 65535) s p
 
 -- the run of digits starts at a; then LF or CRLF
-unfoldable pub ended_run : List ℕ → ℕ → Run → Numeric
+unfoldable pub ended_run : List ℕ → ℕ → Option (ℕ × ℕ) → Option Digits
 unfolding line_ending
-ended_run s a (Value v b) =
+ended_run s a (Some (v, b)) =
     let n = line_ending s b in
-    if ltb a b && ltb 0 n then numeric.Is (record { code = v; start = a; stop = b; end = b + n }) else numeric.Nothing
-ended_run s a TooLarge = numeric.Nothing
+    if ltb a b && ltb 0 n then Some (record { code = v; start = a; stop = b; end = b + n }) else None
+ended_run s a None = None
 
 -- rule 5, behind a head: run blanks, then the digits, then LF or CRLF
-unfoldable pub tail_at : List ℕ → ℕ → Numeric
+unfoldable pub tail_at : List ℕ → ℕ → Option Digits
 unfolding ended_run run_at
 tail_at s p = let a = past (is_blank blanks.Run) s p in ended_run s a (digits_at s a)
 
 -- a numeric error with the head h that begins at the place p
-unfoldable pub numeric_at : List ℕ → List ℕ → ℕ → Numeric
+unfoldable pub numeric_at : List ℕ → List ℕ → ℕ → Option Digits
 unfolding tail_at
-numeric_at h s p = if stands h s p then tail_at s (p + length h) else numeric.Nothing
+numeric_at h s p = if stands h s p then tail_at s (p + length h) else None
 
-unfoldable pub at_found : List ℕ → List ℕ → Found → Numeric
+unfoldable pub at_found : List ℕ → List ℕ → Option ℕ → Option Digits
 unfolding numeric_at
-at_found h s (At p) = numeric_at h s p
-at_found h s Nothing = numeric.Nothing
+at_found h s (Some p) = numeric_at h s p
+at_found h s None = None
 
 -- rule 5: the head at its first occurrence only
-unfoldable pub numeric_error : List ℕ → List ℕ → ℕ → Numeric
+unfoldable pub numeric_error : List ℕ → List ℕ → ℕ → Option Digits
 unfolding at_found
 numeric_error h s e = at_found h s (find_in h s e)

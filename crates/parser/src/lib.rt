@@ -9,7 +9,7 @@ ghost use Rattle.lines.specs.Lines.{fixed_text};
 ghost use Rattle.parser.specs.Parser.{line_ending, is_digit, digits_at, tail_at, numeric_at, custom_prompt, wrapped, breaks_off, notice_text};
 
 use lines::Fixed;
-use text::{Blanks, Found};
+use text::Blanks;
 
 // How long the line ending at `place` is: 2 for CRLF, 1 for LF, 0 for none.
 pub fn line_ending(buf: &[u8], place: usize) -> usize
@@ -48,16 +48,9 @@ fn appended(code: u32, twice: u32, digit: u32) -> u32
     (code << 3) + twice + digit
 }
 
-// A run of digits: its value and its end, or that it is over 65,535.
-#[derive(Clone, Copy)]
-pub enum Run {
-    Value(u32, usize),
-    TooLarge,
-}
-
 // The longest run of digits from `from` on. With no digit there its value is 0 and it ends at `from`. Twice the code is made where the code is, a digit before it
 // is used: of eight times and twice a number in one sum an optimising compiler makes a multiply again.
-fn digits_at(buf: &[u8], from: usize) -> Run
+fn digits_at(buf: &[u8], from: usize) -> Option<(u32, usize)>
     ensures { result ≡ digits_at buf.now from }
 {
     let mut i = from;
@@ -66,17 +59,17 @@ fn digits_at(buf: &[u8], from: usize) -> Run
     while i < buf.len() {
         let b = buf[i];
         if !is_digit(b) {
-            return Run::Value(code, i);
+            return Some((code, i));
         }
         let next = appended(code, twice, wide(b) - 48);
         if 65535 < next {
-            return Run::TooLarge;
+            return None;
         }
         code = next;
         twice = next << 1;
         i += 1;
     }
-    Run::Value(code, i)
+    Some((code, i))
 }
 
 // A numeric error: its code, where its digits start and stop, and where it ends.
@@ -88,28 +81,22 @@ pub struct Digits {
     pub end: usize,
 }
 
-#[derive(Clone, Copy)]
-pub enum Numeric {
-    Is(Digits),
-    Nothing,
-}
-
 // The rest of a numeric error behind its head: run blanks, the digits, LF or CRLF.
-pub fn tail_at(buf: &[u8], place: usize) -> Numeric
+pub fn tail_at(buf: &[u8], place: usize) -> Option<Digits>
     ensures { result ≡ tail_at buf.now place }
 {
     let start = text::skip(Blanks::Run, buf, place);
-    let Run::Value(code, stop) = digits_at(buf, start) else {
-        return Numeric::Nothing;
+    let Some((code, stop)) = digits_at(buf, start) else {
+        return None;
     };
     if stop <= start {
-        return Numeric::Nothing;
+        return None;
     }
     let ending = line_ending(buf, stop);
     if ending == 0 {
-        return Numeric::Nothing;
+        return None;
     }
-    Numeric::Is(Digits {
+    Some(Digits {
         code: code,
         start: start,
         stop: stop,
@@ -118,7 +105,7 @@ pub fn tail_at(buf: &[u8], place: usize) -> Numeric
 }
 
 // The byte's first place at or after `from`.
-pub fn find_byte(buf: &[u8], from: usize, byte: u8) -> Found
+pub fn find_byte(buf: &[u8], from: usize, byte: u8) -> Option<usize>
     ensures { result ≡ find_in (byte ∷ []) buf.now from }
 {
     if buf.len() < seek::SHORT {
@@ -159,17 +146,17 @@ fn custom_at(buf: &[u8], place: usize, x: &[u8]) -> bool
 }
 
 // The custom line's first place at or after `from`.
-pub fn find_custom(buf: &[u8], from: usize, x: &[u8]) -> Found
+pub fn find_custom(buf: &[u8], from: usize, x: &[u8]) -> Option<usize>
     ensures { result ≡ find_in (wrapped x.now) buf.now from }
 {
     let mut place = from;
     while place < buf.len() {
         if custom_at(buf, place, x) {
-            return Found::At(place);
+            return Some(place);
         }
         place += 1;
     }
-    Found::Nothing
+    None
 }
 
 // A notice of rule 2: matched with its end, unfinished, or no match.
@@ -218,7 +205,7 @@ pub fn notice_text(buf: &[u8], at: usize, x: &[u8]) -> Notice
         return Notice::Nothing;
     }
     match text::find(buf, end + 1, &lines::CRLF) {
-        Found::At(k) => Notice::Ended(k + 2),
-        Found::Nothing => Notice::Nothing,
+        Some(k) => Notice::Ended(k + 2),
+        None => Notice::Nothing,
     }
 }

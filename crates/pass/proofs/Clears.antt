@@ -1,5 +1,5 @@
 -- What lets the pass go over the places where none of the eleven texts begins.
-use Rattle.std.specs.Prelude.{◌≡◌, refl, true, false, List, [], ◌∷◌, length, get_or, drop}
+use Rattle.std.specs.Prelude.{Some, None, ◌≡◌, refl, true, false, List, [], ◌∷◌, length, get_or, drop}
 use Rattle.std.proofs.Common.{sym, ap, ◌∙◌, ⊎_elim, ne_eqb}
 use Prim.Native.Nat.{ℕ, zero, suc, ◌+◌, ◌≤◌, ◌<◌}
 use Rattle.std.proofs.Math.Nat.{add-zero}
@@ -8,7 +8,6 @@ use Rattle.text.specs.Bytes.{bytes}
 use Rattle.text.specs.Logic.{false_true, not_true_false, order}
 use Rattle.text.specs.Text.{stands, find_in}
 use Rattle.text.specs.Laws.{stands_byte, stands_get_d, stands_fits, stands_front, found_at, found_none}
-use Rattle.text.specs.declared.Found.TheVariants.{At, Nothing}
 use Rattle.lines.specs.Lines.{fixed_text}
 use Rattle.lines.specs.Laws.{fixed_some}
 use Rattle.lines.specs.declared.Fixed.{Fixed}
@@ -107,7 +106,7 @@ module _ (s : List ℕ) where
       }
 
   -- the places before the first CR, and all of them where there is none
-  module _ (i p : ℕ) (e : find_in (bytes "\r") s i ≡ At p) where
+  module _ (i p : ℕ) (e : find_in (bytes "\r") s i ≡ Some p) where
     pub cr_inside : p < length s
     cr_inside = omega (arith, stands_fits (bytes "\r") s p (omega arith) (found_at (bytes "\r") s i p e).here)
 
@@ -119,5 +118,5 @@ module _ (s : List ℕ) where
           none = λ l h j a b. not_true_false (stands (fixed_text l) s j) (λ q. false_true (begins_cr (fixed_text l) s j (each_begins l h) q) (w.first j a b));
         }
 
-  pub clear_none : (i r : ℕ) → find_in (bytes "\r") s i ≡ Nothing → i ≤ r → Clear s i r
+  pub clear_none : (i r : ℕ) → find_in (bytes "\r") s i ≡ None → i ≤ r → Clear s i r
   clear_none i r e g = record { after = g; none = λ l h j a b. not_true_false (stands (fixed_text l) s j) (λ q. false_true (begins_cr (fixed_text l) s j (each_begins l h) q) (found_none (bytes "\r") s i e j a)) }

@@ -1,5 +1,5 @@
 -- That what the pass finds are the first places, what its results say, and the ways out of the functions. Rests on text's laws of `stands` and `find_in`.
-use Rattle.std.specs.Prelude.{◌≡◌, Bool, ℕ, ◌+◌, ◌-◌, ◌≤◌, ◌<◌, replicate, if◌then◌else◌}
+use Rattle.std.specs.Prelude.{Option, Some, None, ◌≡◌, Bool, ℕ, ◌+◌, ◌-◌, ◌≤◌, ◌<◌, replicate, if◌then◌else◌}
 use Rattle.std.proofs.Math.Path.{refl, sym, ap}
 use Rattle.std.proofs.Common.{◌∙◌, ⊎_elim, arith, le-leb}
 use Rattle.std.proofs.Math.Bool.{true, false}
@@ -10,8 +10,6 @@ use Rattle.text.specs.Logic.{order}
 use Rattle.text.specs.Text.{stands, find_in}
 use Rattle.text.specs.Steps.{find_here, find_next}
 use Rattle.text.specs.Laws.{found_at, stands_fits, find_is, find_says, find_late, Says}
-use Rattle.text.specs.declared.Found.{Found}
-use Rattle.text.specs.declared.Found.TheVariants.{At, Nothing}
 use Rattle.lines.specs.Lines.{fixed_text}
 use Rattle.lines.specs.Laws.{fixed_some}
 use Rattle.lines.specs.declared.Fixed.{Fixed}
@@ -26,13 +24,13 @@ use Rattle.pass.specs.Begin.{is_eleventh, Clear, end_here, lines_here, heads_her
 use Rattle.pass.specs.declared.Passed.TheVariants.{Ok, Others}
 
 -- what is said to end where the first occurrence ends is the first occurrence
-of_first : (t s : List ℕ) (e : ℕ) → 0 < length t → (r : Found) → find_in t s e ≡ r → place_of t s e true (end_of t r) ≡ find_in t s e
+of_first : (t s : List ℕ) (e : ℕ) → 0 < length t → (r : Option ℕ) → find_in t s e ≡ r → place_of t s e true (end_of t r) ≡ find_in t s e
 unfolding place_of end_of
-of_first t s e h (At k) q =
+of_first t s e h (Some k) q =
     let w = found_at t s e k q in
     let m : k + length t - length t ≡ k = omega arith in
     rw (le-leb (e + length t) (k + length t) (omega (arith, w.after)), m, w.here) (sym q)
-of_first t s e h Nothing q = rw (lt-leb (e + length t) 0 (omega arith)) (sym q)
+of_first t s e h None q = rw (lt-leb (e + length t) 0 (omega arith)) (sym q)
 
 -- Those of the pass are the first ones.
 module _ (s : List ℕ) (e : ℕ) where
@@ -84,14 +82,14 @@ find_clear s e r w l h = find_is t s e (find_in t s r) (go (find_in t s r) (find
     t : List ℕ
     t = fixed_text l
 
-    go : (q : Found) → Says t s r q → Says t s e q
-    go (At k) z =
+    go : (q : Option ℕ) → Says t s r q → Says t s e q
+    go (Some k) z =
         record {
           after = omega (arith, w.after, z.after);
           here = z.here;
           first = λ j a b. ⊎_elim (λ (q : j < r). w.none l h j a q) (λ (q : r ≤ j). z.first j q b) (order j r);
         }
-    go Nothing z = λ j a. ⊎_elim (λ (q : j < r). w.none l h j a q) (λ (q : r ≤ j). z j q) (order j r)
+    go None z = λ j a. ⊎_elim (λ (q : j < r). w.none l h j a q) (λ (q : r ≤ j). z j q) (order j r)
 
 ends_clear : (s : List ℕ) (e r : ℕ) → Clear s e r → first_ends e s ≡ first_ends r s
 unfolding first_ends texts
@@ -102,7 +100,7 @@ ends_clear s e r w =
 ends_past : (s : List ℕ) (r : ℕ) → length s ≤ r → first_ends r s ≡ replicate 11 0
 unfolding first_ends texts end_of
 ends_past s r g =
-    let late : (l : Fixed) → find_in (fixed_text l) s r ≡ Nothing = λ l. find_late (fixed_text l) s r (fixed_some l) (omega (arith, fixed_some l)) in
+    let late : (l : Fixed) → find_in (fixed_text l) s r ≡ None = λ l. find_late (fixed_text l) s r (fixed_some l) (omega (arith, fixed_some l)) in
     rw (late fixed.Ok, late fixed.Connect, late fixed.Error, late fixed.CommandNotSupport, late fixed.NoCarrier, late fixed.Busy, late fixed.NoAnswer, late fixed.NoDialtone, late fixed.Cme, late fixed.Cms, late fixed.Modem)
 
 module _ (s : List ℕ) (e p : ℕ) (w : Clear s e p) where
@@ -125,32 +123,32 @@ module _ (s : List ℕ) (e p : ℕ) (w : Clear s e p) where
     unfolding end_of
     pass_room h = go (find_in (fixed_text fixed.Ok) s e) ok_end
       where
-        go : (r : Found) → get_or n 0 0 ≡ end_of (fixed_text fixed.Ok) r → 6 ≤ get_or n 0 0
-        go (At k) z = omega (arith, z)
-        go Nothing z = absurd (omega (arith, z))
+        go : (r : Option ℕ) → get_or n 0 0 ≡ end_of (fixed_text fixed.Ok) r → 6 ≤ get_or n 0 0
+        go (Some k) z = omega (arith, z)
+        go None z = absurd (omega (arith, z))
 
     pub pass_found : 0 < get_or n 0 0 → Ok (get_or n 0 0 - 6) ≡ passed s e
     unfolding passed_by end_of
     pass_found h = go (find_in (fixed_text fixed.Ok) s e) ok_end
       where
-        go : (r : Found) → get_or n 0 0 ≡ end_of (fixed_text fixed.Ok) r → Ok (get_or n 0 0 - 6) ≡ passed_by r s e
-        go (At k) z = let m : get_or n 0 0 - 6 ≡ k = omega (arith, z) in ap Ok m
-        go Nothing z = absurd (omega (arith, z))
+        go : (r : Option ℕ) → get_or n 0 0 ≡ end_of (fixed_text fixed.Ok) r → Ok (get_or n 0 0 - 6) ≡ passed_by r s e
+        go (Some k) z = let m : get_or n 0 0 - 6 ≡ k = omega (arith, z) in ap Ok m
+        go None z = absurd (omega (arith, z))
 
     pub pass_others : (x : Lines) → x ≡ lines_at n → (y : Places) → y ≡ heads_at e n → get_or n 0 0 ≡ 0 → Others x y ≡ passed s e
     unfolding passed_by end_of
     pass_others x a y b h = go (find_in (fixed_text fixed.Ok) s e) ok_end
       where
-        go : (r : Found) → get_or n 0 0 ≡ end_of (fixed_text fixed.Ok) r → Others x y ≡ passed_by r s e
-        go (At k) z = absurd (omega (arith, z))
-        go Nothing z = λ i. Others ((a ∙ ap lines_at ends_are) i) ((b ∙ ap (heads_at e) ends_are) i)
+        go : (r : Option ℕ) → get_or n 0 0 ≡ end_of (fixed_text fixed.Ok) r → Others x y ≡ passed_by r s e
+        go (Some k) z = absurd (omega (arith, z))
+        go None z = λ i. Others ((a ∙ ap lines_at ends_are) i) ((b ∙ ap (heads_at e) ends_are) i)
 
   pub pass_none : length s ≤ p → (x : Lines) → x ≡ lines_at (replicate 11 0) → (y : Places) → y ≡ heads_at e (replicate 11 0) → Others x y ≡ passed s e
   pass_none g x a y b = pass_others (replicate 11 0) (sym (ends_past s p g)) x a y b refl
 
   -- where nothing begins behind p either, only what stands at p counts
   module _ (i : p < length s) (r : ℕ) (z : Clear s (p + 1) r) (g : length s ≤ r) where
-    gone : (l : Fixed) → is_eleventh l ≡ true → stands (fixed_text l) s p ≡ false → find_in (fixed_text l) s e ≡ Nothing
+    gone : (l : Fixed) → is_eleventh l ≡ true → stands (fixed_text l) s p ≡ false → find_in (fixed_text l) s e ≡ None
     gone l h q =
         find_clear s e p w l h
         ∙ find_next (fixed_text l) s p i q
@@ -197,16 +195,16 @@ module _ (s : List ℕ) (p : ℕ) (l : Fixed) (b : Bool) (q : b ≡ stands (fixe
   here_ends h n v = rw (v, sym q ∙ h)
 
 -- What a result of `pass` says.
-pub passed_ok : (s : List ℕ) (e k : ℕ) → passed s e ≡ Ok k → find_in (fixed_text fixed.Ok) s e ≡ At k
+pub passed_ok : (s : List ℕ) (e k : ℕ) → passed s e ≡ Ok k → find_in (fixed_text fixed.Ok) s e ≡ Some k
 unfolding passed_by
 passed_ok s e k q = go (find_in (fixed_text fixed.Ok) s e) q
   where
-    go : (r : Found) → passed_by r s e ≡ Ok k → r ≡ At k
-    go (At j) z = let m : j ≡ k = cc in ap At m
-    go Nothing z = absurd (let m : ◌≡◌ {A = ℕ} 0 1 = cc in omega arith)
+    go : (r : Option ℕ) → passed_by r s e ≡ Ok k → r ≡ Some k
+    go (Some j) z = let m : j ≡ k = cc in ap Some m
+    go None z = absurd (let m : ◌≡◌ {A = ℕ} 0 1 = cc in omega arith)
 
 pub record Passing (s : List ℕ) (e : ℕ) (x : Lines) (y : Places) : Type 0 where
-  pub none : find_in (fixed_text fixed.Ok) s e ≡ Nothing
+  pub none : find_in (fixed_text fixed.Ok) s e ≡ None
   pub lines : x ≡ first_lines s e
   pub heads : y ≡ first_places s e
 
@@ -214,6 +212,6 @@ pub passed_others : (s : List ℕ) (e : ℕ) (x : Lines) (y : Places) → passed
 unfolding passed_by
 passed_others s e x y q = go (find_in (fixed_text fixed.Ok) s e) refl q
   where
-    go : (r : Found) → find_in (fixed_text fixed.Ok) s e ≡ r → passed_by r s e ≡ Others x y → Passing s e x y
-    go (At j) p z = absurd (let m : ◌≡◌ {A = ℕ} 0 1 = cc in omega arith)
-    go Nothing p z = record { none = p; lines = cc; heads = cc }
+    go : (r : Option ℕ) → find_in (fixed_text fixed.Ok) s e ≡ r → passed_by r s e ≡ Others x y → Passing s e x y
+    go (Some j) p z = absurd (let m : ◌≡◌ {A = ℕ} 0 1 = cc in omega arith)
+    go None p z = record { none = p; lines = cc; heads = cc }

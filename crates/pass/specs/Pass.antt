@@ -1,8 +1,6 @@
 -- What one pass finds: the first OK line, or where the other texts that may stand anywhere first end.
-use Rattle.std.specs.Prelude.{true, List, ℕ, get_or}
+use Rattle.std.specs.Prelude.{Option, Some, None, true, List, ℕ, get_or}
 use Rattle.text.specs.Text.{find_in}
-use Rattle.text.specs.declared.Found.{Found}
-use Rattle.text.specs.declared.Found.TheVariants.{At, Nothing}
 use Rattle.lines.specs.Lines.{fixed_text}
 use Rattle.lines.specs.declared.Fixed.TheVariants as fixed
 use Rattle.scan.specs.Scan.{first_ends}
@@ -34,9 +32,9 @@ first_lines s e = lines_at (first_ends e s)
 abbrev pub first_places : List ℕ → ℕ → Places
 first_places s e = heads_at e (first_ends e s)
 
-unfoldable pub passed_by : Found → List ℕ → ℕ → Passed
-passed_by (At k) s e = Ok k
-passed_by Nothing s e = Others (first_lines s e) (first_places s e)
+unfoldable pub passed_by : Option ℕ → List ℕ → ℕ → Passed
+passed_by (Some k) s e = Ok k
+passed_by None s e = Others (first_lines s e) (first_places s e)
 
 abbrev pub passed : List ℕ → ℕ → Passed
 passed s e = passed_by (find_in (fixed_text fixed.Ok) s e) s e

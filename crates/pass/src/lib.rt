@@ -9,7 +9,6 @@ ghost use Rattle.pass.specs.Begin.{may_begin, begin_from, Clear, end_here, lines
 
 use lines::Fixed;
 use places::{Lines, Places};
-use text::Found;
 
 // What a pass finds: the first OK line, or, where there is none, the others.
 #[derive(Clone, Copy)]
@@ -84,7 +83,7 @@ fn begin_from(s: &[u8], from: usize) -> usize
 {
     let mut i = from;
     while BLOCK_BYTES <= s.len() - i {
-        let Found::At(p) = seek::find_cr(s, i) else {
+        let Some(p) = seek::find_cr(s, i) else {
             return s.len();
         };
         if s.len() - p < BLOCK_BYTES {

@@ -1,5 +1,5 @@
 -- Laws of the pieces: the ways out of each function, over plain numbers and lists.
-use Rattle.std.specs.Prelude.{◌≡◌, refl, true, false, List, [], ◌∷◌, ℕ, zero, suc, ◌+◌, ◌*◌, ◌-◌, ◌≤◌, ◌<◌, length, get_or, drop, leb}
+use Rattle.std.specs.Prelude.{Ok, Err, ◌≡◌, refl, true, false, List, [], ◌∷◌, ℕ, zero, suc, ◌+◌, ◌*◌, ◌-◌, ◌≤◌, ◌<◌, length, get_or, drop, leb}
 use Rattle.std.proofs.Math.Path.{sym}
 use Rattle.std.proofs.Common.{ap, ◌∙◌, arith, drop_of_length-le, drop-cons}
 use Rattle.std.proofs.Math.Numerals.{add-one}
@@ -10,7 +10,6 @@ use Rattle.text.specs.Laws.{zero_past}
 use Rattle.parser.specs.Parser.{is_digit}
 use Rattle.pieces.specs.declared.Heard.{Heard}
 use Rattle.pieces.specs.declared.Heard.TheVariants.{Owes, Closes, Breaks}
-use Rattle.pieces.specs.declared.Ended.TheVariants as ended
 use Rattle.pieces.specs.declared.Kind.TheVariants as kinds
 use Rattle.pieces.specs.declared.Element.{Element}
 use Rattle.pieces.specs.Pieces.{is_hex, is_char, heard, goes_on, string_end, kind_of, element_at}
@@ -91,7 +90,7 @@ abbrev pub SameEnd : List ℕ → ℕ → ℕ → ℕ → Type 0
 SameEnd s p i n = string_end 0 p (drop p s) ≡ string_end n i (drop i s)
 
 module _ (s : List ℕ) (p i n : ℕ) (w : SameEnd s p i n) where
-  pub string_open : length s ≤ i → ended.Broken i ≡ string_end 0 p (drop p s)
+  pub string_open : length s ≤ i → Err i ≡ string_end 0 p (drop p s)
   unfolding string_end
   string_open h = sym (w ∙ rw (drop_of_length-le s h))
 
@@ -104,11 +103,11 @@ module _ (s : List ℕ) (p i n : ℕ) (w : SameEnd s p i n) where
     unfolding goes_on
     string_more m e = rw add-one (rw e at string_on)
 
-    pub string_closed : r ≡ Closes → ended.At (i + 1) ≡ string_end 0 p (drop p s)
+    pub string_closed : r ≡ Closes → Ok (i + 1) ≡ string_end 0 p (drop p s)
     unfolding goes_on
     string_closed e = rw add-one (sym (rw e at string_on))
 
-    pub string_broken : r ≡ Breaks → ended.Broken i ≡ string_end 0 p (drop p s)
+    pub string_broken : r ≡ Breaks → Err i ≡ string_end 0 p (drop p s)
     unfolding goes_on
     string_broken e = sym (rw e at string_on)
 

@@ -1,12 +1,8 @@
 -- The bytes that strings and numbers of docs/LISTS.md are made of, and an element as six numbers.
-use Rattle.std.specs.Prelude.{Bool, ◌&&◌, ◌||◌, not, List, [], ◌∷◌, ℕ, zero, suc, ◌+◌, ◌*◌, get_or, eqb, leb, if◌then◌else◌}
+use Rattle.std.specs.Prelude.{Option, Some, None, Result, Ok, Err, Bool, ◌&&◌, ◌||◌, not, List, [], ◌∷◌, ℕ, zero, suc, ◌+◌, ◌*◌, get_or, eqb, leb, if◌then◌else◌}
 use Rattle.parser.specs.Parser.{is_digit, run_at}
 use Rattle.pieces.specs.declared.Heard.{Heard}
 use Rattle.pieces.specs.declared.Heard.TheVariants.{Owes, Closes, Breaks}
-use Rattle.pieces.specs.declared.Ended.{Ended}
-use Rattle.pieces.specs.declared.Ended.TheVariants as ended
-use Rattle.pieces.specs.declared.Digits.{Digits}
-use Rattle.pieces.specs.declared.Digits.TheVariants.{Value, TooLarge}
 use Rattle.pieces.specs.declared.Kind.{Kind}
 use Rattle.pieces.specs.declared.Kind.TheVariants as kinds
 use Rattle.pieces.specs.declared.Element.{Element}
@@ -26,19 +22,19 @@ heard zero b = if is_char b then Owes 0 else if eqb b 92 then Owes 2 else if eqb
 heard (suc n) b = if is_hex b then Owes n else Breaks
 
 -- how a string goes on at the place p
-unfoldable pub goes_on : Heard → ℕ → (ℕ → Ended) → Ended
+unfoldable pub goes_on : Heard → ℕ → (ℕ → Result ℕ ℕ) → Result ℕ ℕ
 goes_on (Owes n) p f = f n
-goes_on Closes p f = ended.At (suc p)
-goes_on Breaks p f = ended.Broken p
+goes_on Closes p f = Ok (suc p)
+goes_on Breaks p f = Err p
 
-unfoldable pub string_end : ℕ → ℕ → List ℕ → Ended
+unfoldable pub string_end : ℕ → ℕ → List ℕ → Result ℕ ℕ
 unfolding heard goes_on
-string_end owed p [] = ended.Broken p
+string_end owed p [] = Err p
 string_end owed p (b ∷ x) = goes_on (heard owed b) p (λ n. string_end n (suc p) x)
 
 -- the longest run of digits from the place p on, of at most 4,294,967,295
-abbrev pub number_at : List ℕ → ℕ → Digits
-number_at s p = run_at Value TooLarge 4294967295 s p
+abbrev pub number_at : List ℕ → ℕ → Option (ℕ × ℕ)
+number_at s p = run_at Some (None, 4294967295) s p
 
 abbrev pub kind_number : Kind → ℕ
 kind_number kinds.Empty = 0

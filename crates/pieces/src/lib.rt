@@ -79,14 +79,7 @@ fn hear(owed: usize, b: u8) -> Heard
     Heard::Breaks
 }
 
-// How a string goes on behind its first quote: it is closed, and ends there, or it can't go on at a place.
-#[derive(Clone, Copy)]
-pub enum Ended {
-    At(usize),
-    Broken(usize),
-}
-
-pub fn string_end(s: &[u8], from: usize) -> Ended
+pub fn string_end(s: &[u8], from: usize) -> Result<usize, usize>
     ensures { result ≡ string_end 0 from (drop from s.now) }
 {
     let mut i = from;
@@ -97,22 +90,15 @@ pub fn string_end(s: &[u8], from: usize) -> Ended
                 owed = n;
             }
             Heard::Closes => {
-                return Ended::At(i + 1);
+                return Ok(i + 1);
             }
             Heard::Breaks => {
-                return Ended::Broken(i);
+                return Err(i);
             }
         }
         i += 1;
     }
-    Ended::Broken(i)
-}
-
-// A number's value and its end, or that it is over 4,294,967,295.
-#[derive(Clone, Copy)]
-pub enum Digits {
-    Value(u64, usize),
-    TooLarge,
+    Err(i)
 }
 
 fn wide(b: u8) -> u64
@@ -130,7 +116,7 @@ fn appended(value: u64, twice: u64, digit: u64) -> u64
 }
 
 // The longest run of digits from `from` on. With no digit there its value is 0 and it ends at `from`.
-pub fn number_at(s: &[u8], from: usize) -> Digits
+pub fn number_at(s: &[u8], from: usize) -> Option<(u64, usize)>
     ensures { result ≡ number_at s.now from }
 {
     let mut i = from;
@@ -139,17 +125,17 @@ pub fn number_at(s: &[u8], from: usize) -> Digits
     while i < s.len() {
         let b = s[i];
         if !parser::is_digit(b) {
-            return Digits::Value(value, i);
+            return Some((value, i));
         }
         let next = appended(value, twice, wide(b) - 48);
         if 4294967295 < next {
-            return Digits::TooLarge;
+            return None;
         }
         value = next;
         twice = next << 1;
         i += 1;
     }
-    Digits::Value(value, i)
+    Some((value, i))
 }
 
 // What an element is.

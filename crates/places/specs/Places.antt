@@ -1,8 +1,6 @@
 -- What places are: first places, whoever found them and when.
-use Rattle.std.specs.Prelude.{◌≡◌, Bool, true, false, ◌&&◌, List, ℕ, ◌+◌, ◌-◌, length, leb, if◌then◌else◌}
+use Rattle.std.specs.Prelude.{Option, Some, None, ◌≡◌, Bool, true, false, ◌&&◌, List, ℕ, ◌+◌, ◌-◌, length, leb, if◌then◌else◌}
 use Rattle.text.specs.Text.{stands, find_in}
-use Rattle.text.specs.declared.Found.{Found}
-use Rattle.text.specs.declared.Found.TheVariants.{At, Nothing}
 use Rattle.lines.specs.Lines.{fixed_text}
 use Rattle.lines.specs.declared.Fixed.{Fixed}
 use Rattle.lines.specs.declared.Fixed.TheVariants as fixed
@@ -75,15 +73,15 @@ head_end p fixed.Modem = p.modem
 head_end p fixed.ConnectText = 0
 
 -- The first place of a text: where it is known to end at n, 0 for nowhere, it counts only where the text stands there, and not before the place e; else it is sought.
-unfoldable pub place_of : List ℕ → List ℕ → ℕ → Bool → ℕ → Found
+unfoldable pub place_of : List ℕ → List ℕ → ℕ → Bool → ℕ → Option ℕ
 place_of t s e known n =
-    if known then (if leb (e + length t) n && stands t s (n - length t) then At (n - length t) else Nothing)
+    if known then (if leb (e + length t) n && stands t s (n - length t) then Some (n - length t) else None)
     else find_in t s e
 
-unfoldable pub place_in : List ℕ → Places → Fixed → Found
+unfoldable pub place_in : List ℕ → Places → Fixed → Option ℕ
 place_in s p l = place_of (fixed_text l) s p.from (p.passed && is_head l) (head_end p l)
 
-unfoldable pub line_in : List ℕ → ℕ → Lines → Fixed → Found
+unfoldable pub line_in : List ℕ → ℕ → Lines → Fixed → Option ℕ
 line_in s e x l = place_of (fixed_text l) s e (is_line l) (line_end x l)
 
 -- Each is the text's first place in s at or after e.

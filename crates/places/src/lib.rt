@@ -8,7 +8,6 @@ ghost use Rattle.lines.specs.Lines.{fixed_text, earlier, connect_place};
 ghost use Rattle.places.specs.Places.{is_line, line_end, is_head, head_end, place_of, place_in, line_in, unsought};
 
 use lines::{Digester, Fixed};
-use text::Found;
 
 // Where the first occurrence of each line but OK ends, 0 for none.
 #[derive(Clone, Copy)]
@@ -130,7 +129,7 @@ fn head_end(places: Places, text: Fixed) -> usize
 }
 
 // The first place of a text at or after `from`. Where it is known to end at `end`, or nowhere, it counts only where the text stands there, and not before `from`; else it is sought.
-fn place_of(s: &[u8], from: usize, text: Fixed, known: bool, end: usize) -> Found
+fn place_of(s: &[u8], from: usize, text: Fixed, known: bool, end: usize) -> Option<usize>
     ensures { result ≡ place_of (fixed_text text) s.now from known end }
 {
     if !known {
@@ -138,19 +137,19 @@ fn place_of(s: &[u8], from: usize, text: Fixed, known: bool, end: usize) -> Foun
     }
     let len = lines::fixed_len(text);
     if end < len {
-        return Found::Nothing;
+        return None;
     }
     if end - len < from {
-        return Found::Nothing;
+        return None;
     }
     if lines::fixed_at(s, end - len, text) {
-        return Found::At(end - len);
+        return Some(end - len);
     }
-    Found::Nothing
+    None
 }
 
 // The first place of a head.
-pub fn place(s: &[u8], places: Places, text: Fixed) -> Found
+pub fn place(s: &[u8], places: Places, text: Fixed) -> Option<usize>
     ensures { result ≡ place_in s.now places text }
 {
     let known = places.passed & is_head(text);
@@ -158,20 +157,20 @@ pub fn place(s: &[u8], places: Places, text: Fixed) -> Found
 }
 
 // The first place of a line at or after e.
-pub fn line(s: &[u8], e: usize, lines: Lines, text: Fixed) -> Found
+pub fn line(s: &[u8], e: usize, lines: Lines, text: Fixed) -> Option<usize>
     ensures { result ≡ line_in s.now e lines text }
 {
     place_of(s, e, text, is_line(text), line_end(lines, text))
 }
 
 // The earlier of two places.
-fn earlier(a: Found, b: Found) -> Found
+fn earlier(a: Option<usize>, b: Option<usize>) -> Option<usize>
     ensures { result ≡ earlier a b }
 {
-    let Found::At(j) = a else {
+    let Some(j) = a else {
         return b;
     };
-    let Found::At(k) = b else {
+    let Some(k) = b else {
         return a;
     };
     if j <= k {
@@ -181,7 +180,7 @@ fn earlier(a: Found, b: Found) -> Found
 }
 
 // CONNECT's first place: that of its line or, where the digester hears it (R-3), of one with text, whichever is earlier.
-pub fn connect(digester: Digester, s: &[u8], e: usize, lines: Lines) -> Found
+pub fn connect(digester: Digester, s: &[u8], e: usize, lines: Lines) -> Option<usize>
     ensures { result ≡ connect_place digester (line_in s.now e lines) }
 {
     let bare = line(s, e, lines, Fixed::Connect);

@@ -1,5 +1,5 @@
 -- The ways out of the queue's calls, each with the tests that led there, and that their promises determine them.
-use Rattle.std.specs.Prelude.{◌≡◌, refl, true, false, ◌&&◌, List, [], ℕ, zero, suc, ◌+◌, ◌-◌, ◌*◌, ◌/◌, ◌≤◌, ◌<◌, length, get_or, take, drop, eqb, leb, ltb}
+use Rattle.std.specs.Prelude.{Option, Some, None, Result, Ok, Err, ◌≡◌, refl, true, false, ◌&&◌, List, [], ℕ, zero, suc, ◌+◌, ◌-◌, ◌*◌, ◌/◌, ◌≤◌, ◌<◌, length, get_or, take, drop, eqb, leb, ltb}
 use Rattle.std.proofs.Common.{sym, ◌∙◌, mul-suc, mul-le-mul_left, arith, get_or-take, get_or-drop}
 use Rattle.std.proofs.Math.Path.{ap}
 use Rattle.std.proofs.Math.Nat.{mul-div-le}
@@ -11,23 +11,23 @@ use Rattle.moves.specs.Laws.{put_none}
 use Rattle.outcome.specs.Outcome.{Outcome, answered, refused}
 use Rattle.outcome.specs.Laws.{ways}
 use Rattle.queue.specs.declared.Queue.{Queue}
-use Rattle.queue.specs.declared.Put.{Put}
-use Rattle.queue.specs.declared.Put.TheVariants as puts
-use Rattle.queue.specs.declared.Taken.{Taken}
-use Rattle.queue.specs.declared.Taken.TheVariants as takes
+use Rattle.queue.specs.declared.PutError.{PutError}
+use Rattle.queue.specs.declared.PutError.TheVariants as puts
+use Rattle.queue.specs.declared.TakeError.{TakeError}
+use Rattle.queue.specs.declared.TakeError.TheVariants as takes
 use Rattle.queue.specs.Queue.{Geometry, ours, older, Sound, capacity_of, start_in, in_bounds, ring_place, lost_one, longer, After, after, head_of, recorded, written, put_into, outcome, got, empty, taking, shorter, length_at, record_good, taken}
 
 -- two answers with the same outcome are equal
-pub outcome_one : (r q : Put) → outcome r ≡ outcome q → r ≡ q
-outcome_one (puts.Is x) (puts.Is y) e = cc
-outcome_one (puts.Is x) puts.BadBounds e = let z : ◌≡◌ {A = ℕ} 0 1 = cc in absurd (omega arith)
-outcome_one (puts.Is x) puts.Full e = let z : ◌≡◌ {A = ℕ} 0 1 = cc in absurd (omega arith)
-outcome_one puts.BadBounds (puts.Is y) e = let z : ◌≡◌ {A = ℕ} 0 1 = cc in absurd (omega arith)
-outcome_one puts.BadBounds puts.BadBounds e = refl
-outcome_one puts.BadBounds puts.Full e = let z : ◌≡◌ {A = ℕ} 3 5 = cc in absurd (omega arith)
-outcome_one puts.Full (puts.Is y) e = let z : ◌≡◌ {A = ℕ} 0 1 = cc in absurd (omega arith)
-outcome_one puts.Full puts.BadBounds e = let z : ◌≡◌ {A = ℕ} 3 5 = cc in absurd (omega arith)
-outcome_one puts.Full puts.Full e = refl
+pub outcome_one : (r q : Result Queue PutError) → outcome r ≡ outcome q → r ≡ q
+outcome_one (Ok x) (Ok y) e = cc
+outcome_one (Ok x) (Err puts.BadBounds) e = let z : ◌≡◌ {A = ℕ} 0 1 = cc in absurd (omega arith)
+outcome_one (Ok x) (Err puts.Full) e = let z : ◌≡◌ {A = ℕ} 0 1 = cc in absurd (omega arith)
+outcome_one (Err puts.BadBounds) (Ok y) e = let z : ◌≡◌ {A = ℕ} 0 1 = cc in absurd (omega arith)
+outcome_one (Err puts.BadBounds) (Err puts.BadBounds) e = refl
+outcome_one (Err puts.BadBounds) (Err puts.Full) e = let z : ◌≡◌ {A = ℕ} 3 5 = cc in absurd (omega arith)
+outcome_one (Err puts.Full) (Ok y) e = let z : ◌≡◌ {A = ℕ} 0 1 = cc in absurd (omega arith)
+outcome_one (Err puts.Full) (Err puts.BadBounds) e = let z : ◌≡◌ {A = ℕ} 3 5 = cc in absurd (omega arith)
+outcome_one (Err puts.Full) (Err puts.Full) e = refl
 
 -- and where that is so of a call's answers, they are equal with the memories that they left
 pub after_one : {R : Type 0} (outcome : R → Outcome Queue) → ((r q : R) → outcome r ≡ outcome q → r ≡ q) → (w : After) (r q : R) (m n : List ℕ) → after (outcome r) m ≡ w → after (outcome q) n ≡ w → (r ≡ q) × (m ≡ n)
@@ -35,16 +35,16 @@ after_one outcome one w r q m n e f =
     let g : after (outcome r) m ≡ after (outcome q) n = e ∙ sym f in
     (one r q (ap (λ (x : After). x.said) g), ap (λ (x : After). x.memory) g)
 
-pub taking_one : (r q : Taken) → taking r ≡ taking q → r ≡ q
-taking_one (takes.Is x n) (takes.Is y k) e = cc
-taking_one (takes.Is x n) (takes.Nothing y) e = let z : ◌≡◌ {A = ℕ} 0 1 = cc in absurd (omega arith)
-taking_one (takes.Is x n) takes.Bad e = let z : ◌≡◌ {A = ℕ} 0 1 = cc in absurd (omega arith)
-taking_one (takes.Nothing x) (takes.Is y k) e = let z : ◌≡◌ {A = ℕ} 0 1 = cc in absurd (omega arith)
-taking_one (takes.Nothing x) (takes.Nothing y) e = cc
-taking_one (takes.Nothing x) takes.Bad e = let z : ◌≡◌ {A = ℕ} 0 1 = cc in absurd (omega arith)
-taking_one takes.Bad (takes.Is y k) e = let z : ◌≡◌ {A = ℕ} 0 1 = cc in absurd (omega arith)
-taking_one takes.Bad (takes.Nothing y) e = let z : ◌≡◌ {A = ℕ} 0 1 = cc in absurd (omega arith)
-taking_one takes.Bad takes.Bad e = refl
+pub taking_one : (r q : Result (Queue × Option Notice) TakeError) → taking r ≡ taking q → r ≡ q
+taking_one (Ok (x, Some n)) (Ok (y, Some k)) e = cc
+taking_one (Ok (x, Some n)) (Ok (y, None)) e = let z : ◌≡◌ {A = ℕ} 0 1 = cc in absurd (omega arith)
+taking_one (Ok (x, Some n)) (Err takes.Bad) e = let z : ◌≡◌ {A = ℕ} 0 1 = cc in absurd (omega arith)
+taking_one (Ok (x, None)) (Ok (y, Some k)) e = let z : ◌≡◌ {A = ℕ} 0 1 = cc in absurd (omega arith)
+taking_one (Ok (x, None)) (Ok (y, None)) e = cc
+taking_one (Ok (x, None)) (Err takes.Bad) e = let z : ◌≡◌ {A = ℕ} 0 1 = cc in absurd (omega arith)
+taking_one (Err takes.Bad) (Ok (y, Some k)) e = let z : ◌≡◌ {A = ℕ} 0 1 = cc in absurd (omega arith)
+taking_one (Err takes.Bad) (Ok (y, None)) e = let z : ◌≡◌ {A = ℕ} 0 1 = cc in absurd (omega arith)
+taking_one (Err takes.Bad) (Err takes.Bad) e = refl
 
 -- `start_in`, `in_bounds`, `ring_place`
 pub start_none : (cap start : ℕ) → cap ≡ 0 → eqb start 0 ≡ start_in cap start

@@ -1,15 +1,15 @@
 -- The notice queue in document 01's words, over a geometry of records: what each call leaves of queue and memory, and when it refuses.
-use Rattle.std.specs.Prelude.{◌≡◌, Bool, ◌&&◌, not, List, [], ◌∷◌, ◌++◌, ℕ, zero, suc, ◌+◌, ◌-◌, ◌*◌, ◌/◌, ◌%◌, ◌≤◌, min, length, get_or, take, drop, eqb, leb, ltb, if◌then◌else◌}
+use Rattle.std.specs.Prelude.{Option, Some, None, Result, Ok, Err, ◌≡◌, Bool, ◌&&◌, not, List, [], ◌∷◌, ◌++◌, ℕ, zero, suc, ◌+◌, ◌-◌, ◌*◌, ◌/◌, ◌%◌, ◌≤◌, min, length, get_or, take, drop, eqb, leb, ltb, if◌then◌else◌}
 use Rattle.text.specs.Bytes.{bytes}
 use Rattle.text.specs.Text.{stands, part_of}
 use Rattle.moves.specs.Moves.{put, one_more}
 use Rattle.outcome.specs.Outcome.{Outcome, answered, refused}
 use Rattle.queue.specs.declared.Queue.{Queue}
 use Rattle.queue.specs.declared.Notice.{Notice}
-use Rattle.queue.specs.declared.Put.{Put}
-use Rattle.queue.specs.declared.Put.TheVariants as puts
-use Rattle.queue.specs.declared.Taken.{Taken}
-use Rattle.queue.specs.declared.Taken.TheVariants as takes
+use Rattle.queue.specs.declared.PutError.{PutError}
+use Rattle.queue.specs.declared.PutError.TheVariants as puts
+use Rattle.queue.specs.declared.TakeError.{TakeError}
+use Rattle.queue.specs.declared.TakeError.TheVariants as takes
 
 -- How records lie. A record is `size` bytes: a head, which is a mark of two bytes, the table number and the payload's length as it is `spelled` and `read`, then the
 -- payload. `head` is how long the head is, `longest` how long a payload may be, `most` how many records there are at most.
@@ -96,20 +96,20 @@ put_into g x number p m =
     else after (answered (longer x)) (written g x number p m)
 
 -- document 01's number for each case
-abbrev pub outcome : Put → Outcome Queue
-outcome (puts.Is x) = answered x
-outcome puts.BadBounds = refused 3 []
-outcome puts.Full = refused 5 []
+abbrev pub outcome : Result Queue PutError → Outcome Queue
+outcome (Ok x) = answered x
+outcome (Err puts.BadBounds) = refused 3 []
+outcome (Err puts.Full) = refused 5 []
 
 -- What taking gives: the next queue, and the oldest record's number with its payload's place and length, or nothing.
 pub data Got : Type 0 where
   got : Queue → Notice → Got
   empty : Queue → Got
 
-abbrev pub taking : Taken → Outcome Got
-taking (takes.Is x n) = answered (got x n)
-taking (takes.Nothing x) = answered (empty x)
-taking takes.Bad = refused 3 []
+abbrev pub taking : Result (Queue × Option Notice) TakeError → Outcome Got
+taking (Ok (x, Some n)) = answered (got x n)
+taking (Ok (x, None)) = answered (empty x)
+taking (Err takes.Bad) = refused 3 []
 
 -- Moves the start one on round the ring and lowers the count.
 unfoldable pub shorter : ℕ → Queue → Queue

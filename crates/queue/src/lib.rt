@@ -32,19 +32,16 @@ pub struct Notice {
     pub len: usize,
 }
 
-// The next queue, or refusal 3 (bounds) or 5 (full).
+// Why a put is refused: 3 (bounds) or 5 (full).
 #[derive(Clone, Copy)]
-pub enum Put {
-    Is(Queue),
+pub enum PutError {
     BadBounds,
     Full,
 }
 
-// The next queue with the notice, an empty queue as it stood, or refusal 3.
+// Why a take is refused (3): the bounds, or the record.
 #[derive(Clone, Copy)]
-pub enum Taken {
-    Is(Queue, Notice),
-    Nothing(Queue),
+pub enum TakeError {
     Bad,
 }
 
@@ -148,26 +145,26 @@ impl Queue {
 
     // Puts a notice as the record next after those held, as the ingress delivers it. Refusal 3 where start or count is outside its bounds;
     // a payload of 0 or over 1,024 bytes is a lost notice, counted, even when the queue is full; refusal 5 where it is full.
-    pub fn put(self, mem: &mut [u8], number: u8, p: &[u8]) -> Put
+    pub fn put(self, mem: &mut [u8], number: u8, p: &[u8]) -> Result<Queue, PutError>
         ensures { after (outcome result) mem.new ≡ put_into ours self number p.now mem.old }
     {
         let cap = capacity(mem.len());
         if !self.is_bounded(cap) {
-            return Put::BadBounds;
+            return Err(PutError::BadBounds);
         }
         let n = p.len();
         if n == 0 {
-            return Put::Is(self.lose());
+            return Ok(self.lose());
         }
         if LONGEST < n {
-            return Put::Is(self.lose());
+            return Ok(self.lose());
         }
         if cap <= self.count {
-            return Put::Full;
+            return Err(PutError::Full);
         }
         let base = RECORD * ring(self.start, self.count, cap);
         write_record(mem, base, number, p);
-        Put::Is(Queue {
+        Ok(Queue {
             start: self.start,
             count: self.count + 1,
             lost: self.lost,
@@ -176,27 +173,27 @@ impl Queue {
 
     // Takes the oldest notice: its number, and its payload's place and length in the memory, of which no byte changes.
     // An empty queue answers nothing. Refusal 3 where start or count is outside its bounds, or the record has a wrong mark or length.
-    pub fn take(self, mem: &[u8]) -> Taken
+    pub fn take(self, mem: &[u8]) -> Result<(Queue, Option<Notice>), TakeError>
         ensures { taking result ≡ taken ours self mem.now }
     {
         let cap = capacity(mem.len());
         if !self.is_bounded(cap) {
-            return Taken::Bad;
+            return Err(TakeError::Bad);
         }
         if self.count == 0 {
-            return Taken::Nothing(self);
+            return Ok((self, None));
         }
         let base = RECORD * self.start;
         if !text::matches_at(mem, base, b"UX") {
-            return Taken::Bad;
+            return Err(TakeError::Bad);
         }
         let number = mem[base + 2];
         let len = length_at(mem, base);
         if len == 0 {
-            return Taken::Bad;
+            return Err(TakeError::Bad);
         }
         if LONGEST < len {
-            return Taken::Bad;
+            return Err(TakeError::Bad);
         }
         let next = Queue {
             start: ring(self.start, 1, cap),
@@ -208,6 +205,6 @@ impl Queue {
             place: base + HEAD,
             len: len,
         };
-        Taken::Is(next, notice)
+        Ok((next, Some(notice)))
     }
 }

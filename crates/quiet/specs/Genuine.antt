@@ -1,6 +1,6 @@
 -- Where the findings are genuine, those of s, and s is still by them, a digest of s finds nothing and consumes nothing.
 -- Rests on `nothing_unchecked`, and on scan's theorem: each end that a pass tells is that of the text's first occurrence.
-use Rattle.std.specs.Prelude.{◌≡◌, refl, ◌⊎◌, Bool, false, ◌&&◌, ◌||◌, ℕ, ◌+◌, ◌≤◌, ◌<◌, eqb}
+use Rattle.std.specs.Prelude.{Option, Some, None, ◌≡◌, refl, ◌⊎◌, Bool, false, ◌&&◌, ◌||◌, ℕ, ◌+◌, ◌≤◌, ◌<◌, eqb}
 use Rattle.std.proofs.Common.{sym, ◌∙◌, arith}
 use Rattle.std.proofs.Math.Path.{ap}
 use Rattle.std.proofs.Math.Logic.{inl, inr, ⊎_elim}
@@ -14,8 +14,6 @@ use Rattle.text.specs.Bytes.{bytes}
 use Rattle.text.specs.Logic.{false_true, and_both}
 use Rattle.text.specs.Text.{find_in}
 use Rattle.text.specs.Laws.{found_none}
-use Rattle.text.specs.declared.Found.{Found}
-use Rattle.text.specs.declared.Found.TheVariants.{At, Nothing}
 use Rattle.table.specs.Table.{record_at, then_tokens, tokens_by, tokens, entries, ruling}
 use Rattle.table.specs.declared.Mark.TheVariants as mark
 use Rattle.lines.specs.Lines.{hears_text, fixed_text}
@@ -28,8 +26,6 @@ use Rattle.scan.proofs.Theorem.{first_end, scanned_firsts}
 use Rattle.findings.specs.Findings.{findings_of}
 use Rattle.answers.specs.Answer.{nothing}
 use Rattle.items.specs.Rules.{skipped, custom_prompts, heads}
-use Rattle.items.specs.declared.Tried.{Tried}
-use Rattle.items.specs.declared.Tried.TheVariants as tries
 use Rattle.digest.specs.Digest.{digest_unchecked}
 use Rattle.digest.specs.Finished.{nine}
 use Rattle.selector.specs.Selector.{choice}
@@ -51,13 +47,13 @@ every_so p P Q f (x ∷ l) b e v =
     let c = and_both b (p x) w.0 in
     (c.0, (f x v.0 c.1, w.1))
 
-next_is : (r : Tried) → is_next r ≡ true → r ≡ tries.Next
-next_is (tries.Done a) e = absurd (false_true e refl)
-next_is tries.Next e = refl
+next_is : (r : Option Answer) → is_next r ≡ true → r ≡ None
+next_is (Some a) e = absurd (false_true e refl)
+next_is None e = refl
 
-nothing_is : (r : Found) → is_nothing r ≡ true → r ≡ Nothing
-nothing_is (At k) e = absurd (false_true e refl)
-nothing_is Nothing e = refl
+nothing_is : (r : Option ℕ) → is_nothing r ≡ true → r ≡ None
+nothing_is (Some k) e = absurd (false_true e refl)
+nothing_is None e = refl
 
 -- a table of no bytes has no record
 no_tokens : (t : List ℕ) → length t ≡ 0 → tokens t ≡ []

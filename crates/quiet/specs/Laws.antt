@@ -1,5 +1,5 @@
 -- What the code and its callers know of `counts`.
-use Rattle.std.specs.Prelude.{◌≡◌, true, List, [], ◌∷◌, ℕ, ◌+◌, ◌-◌, ◌≤◌, ◌<◌, length, get_or, eqb}
+use Rattle.std.specs.Prelude.{Option, Some, None, ◌≡◌, true, List, [], ◌∷◌, ℕ, ◌+◌, ◌-◌, ◌≤◌, ◌<◌, length, get_or, eqb}
 use Rattle.std.proofs.Math.Path.{refl, sym, ap}
 use Rattle.std.proofs.Common.{◌∙◌, arith, drop-cons, le-leb}
 use Rattle.std.proofs.Math.Bool.{false, and-true}
@@ -7,8 +7,6 @@ use Rattle.std.proofs.lemmas.Bool.{lt-leb}
 use Rattle.text.specs.Logic.{false_true, not_true_false}
 use Rattle.text.specs.Text.{begins, stands, find_in}
 use Rattle.text.specs.Laws.{found_at, found_none, stands_byte}
-use Rattle.text.specs.declared.Found.{Found}
-use Rattle.text.specs.declared.Found.TheVariants.{At, Nothing}
 use Rattle.scan.specs.Scan.{end_of}
 use Rattle.quiet.specs.Quiet.{counts, Absent}
 
@@ -22,7 +20,7 @@ module _ (t s : List ℕ) where
   counts_is n h = rw (le-leb (length t) n h)
 
   -- a text that was found counts at its end
-  pub found_counts : (k : ℕ) → find_in t s 0 ≡ At k → counts t s (k + length t) ≡ true
+  pub found_counts : (k : ℕ) → find_in t s 0 ≡ Some k → counts t s (k + length t) ≡ true
   found_counts k e =
       let i : k + length t - length t ≡ k = omega arith in
       sym (counts_is (k + length t) (omega arith)) ∙ ap (stands t s) i ∙ (found_at t s 0 k e).here
@@ -32,9 +30,9 @@ module _ (t s : List ℕ) where
   unfolding end_of
   counts_absent h = go (find_in t s 0) refl h
     where
-      go : (r : Found) → find_in t s 0 ≡ r → counts t s (end_of t r) ≡ false → Absent t s
-      go (At k) e f = absurd (false_true (found_counts k e) f)
-      go Nothing e f = λ j. found_none t s 0 e j (omega arith)
+      go : (r : Option ℕ) → find_in t s 0 ≡ r → counts t s (end_of t r) ≡ false → Absent t s
+      go (Some k) e f = absurd (false_true (found_counts k e) f)
+      go None e f = λ j. found_none t s 0 e j (omega arith)
 
 -- a text of one byte: past the end it doesn't count, else where it is the byte
 module _ (c : ℕ) (s : List ℕ) (n : ℕ) where

@@ -1,6 +1,6 @@
 -- R-14: by how the input ends and which texts it lacks, no line start holds a finished item (`nothing_finished`), and it need not be digested.
 -- A prompt is the last byte that is no run blank; every other item has at least four bytes and ends in LF, and none begins before the first line start.
-use Rattle.std.specs.Prelude.{◌≡◌, ◌⊎◌, true, false, List, [], ◌∷◌, ℕ, ◌+◌, ◌-◌, ◌≤◌, ◌<◌, length, get_or, drop}
+use Rattle.std.specs.Prelude.{Option, Some, None, ◌≡◌, ◌⊎◌, true, false, List, [], ◌∷◌, ℕ, ◌+◌, ◌-◌, ◌≤◌, ◌<◌, length, get_or, drop}
 use Rattle.std.proofs.Math.Path.{refl}
 use Rattle.std.proofs.Common.{sym, ap, ◌∙◌, inl, inr, ⊎_elim, arith, get_or-drop}
 use Rattle.std.proofs.Math.Nat.{zero-add}
@@ -10,8 +10,6 @@ use Rattle.text.specs.Logic.{false_true, order}
 use Rattle.text.specs.Text.{is_blank, keep, stands, find_in}
 use Rattle.text.specs.Laws.{found_at, found_none, stands_get_d, zero_past, keep_passes}
 use Rattle.text.specs.declared.Blanks.TheVariants as blanks
-use Rattle.text.specs.declared.Found.{Found}
-use Rattle.text.specs.declared.Found.TheVariants.{At, Nothing}
 use Rattle.table.specs.Table.{is_text, Token, Entry, of_mark, tokens, ruling}
 use Rattle.table.specs.Laws.{Texts, EntryTexts, mark_texts, text_some, good_tokens}
 use Rattle.table.specs.declared.Mark.{Mark}
@@ -23,11 +21,10 @@ use Rattle.lines.specs.declared.Fixed.TheVariants as fixed
 use Rattle.parser.specs.Parser.{custom_prompt, wrapped}
 use Rattle.findings.specs.Findings.{not_lf}
 use Rattle.answers.specs.Answer.{nothing}
-use Rattle.items.specs.declared.Tried.TheVariants as tries
 use Rattle.items.specs.Rules.{skipped, custom_prompts, heads}
 use Rattle.items.specs.Laws.{wrapped_length}
 use Rattle.digest.specs.Digest.{digest_in, digest_unchecked}
-use Rattle.digest.specs.Finished.{Some, LineStart, NumericEnded, NoticeEnded, FirstAlone, EndsIn, nine, Line, TextLine, Item, NothingFinished}
+use Rattle.digest.specs.Finished.{AnyOf, LineStart, NumericEnded, NoticeEnded, FirstAlone, EndsIn, nine, Line, TextLine, Item, NothingFinished}
 use Rattle.digest.specs.Finished as items
 use Rattle.digest.specs.Position.{ends_is}
 use Rattle.digest.specs.Items.{some_map, some_any, some_texts, ending_lf, crlf_lf, opens, wrapped_last, stands_here, notice_lf}
@@ -44,7 +41,7 @@ Each P (x ∷ l) = P x × Each P l
 
 -- behind the text t, where it stands first, there is no LF: the last one ends at `keep not_lf s`
 abbrev pub Unended : List ℕ → List ℕ → Type 0
-Unended t s = (k : ℕ) → find_in t s 0 ≡ At k → keep not_lf s ≤ k + length t
+Unended t s = (k : ℕ) → find_in t s 0 ≡ Some k → keep not_lf s ≤ k + length t
 
 -- With no record in the table, wherever lines end: no fixed line stands in s, no numeric error ends, and no CONNECT line with text begins that the digester would hear.
 pub record NoLine (d : Digester) (ts : List Token) (s : List ℕ) : Type 0 where
@@ -57,10 +54,10 @@ pub record NoLine (d : Digester) (ts : List Token) (s : List ℕ) : Type 0 where
 pub record Quiet (d : Digester) (ts : List Token) (s : List ℕ) : Type 0 where
   pub greater : counts (bytes ">") s (keep (is_blank blanks.Run) s) ≡ false
   pub at_sign : counts (bytes "@") s (keep (is_blank blanks.Run) s) ≡ false
-  pub customs : custom_prompts (of_mark mark.Prompt 0 ts) s 0 ≡ tries.Next
+  pub customs : custom_prompts (of_mark mark.Prompt 0 ts) s 0 ≡ None
   pub lines : (keep not_lf s ≤ skipped s + 3) ⊎ NoLine d ts s
 
-each_some : {A : Type 0} (P Q : A → Type 0) (R : Type 0) → ((x : A) → P x → Q x → R) → (l : List A) → Each P l → Some Q l → R
+each_some : {A : Type 0} (P Q : A → Type 0) (R : Type 0) → ((x : A) → P x → Q x → R) → (l : List A) → Each P l → AnyOf Q l → R
 each_some P Q R f [] w h = absurd h
 each_some P Q R f (x ∷ l) w (inl h) = f x w.0 h
 each_some P Q R f (x ∷ l) w (inr h) = each_some P Q R f l w.1 h
@@ -90,10 +87,10 @@ line_ended t u n e w =
 nine_ended : Each (λ l. Ended (fixed_text l) (length (fixed_text l))) nine
 nine_ended = ((omega arith, refl), ((omega arith, refl), ((omega arith, refl), ((omega arith, refl), ((omega arith, refl), ((omega arith, refl), ((omega arith, refl), ((omega arith, refl), ((omega arith, refl), tt)))))))))
 
-custom_ended : (l : List Entry) (u : List ℕ) (n : ℕ) → Some (λ x. Line (wrapped x.text) u n) l → Ended u n
+custom_ended : (l : List Entry) (u : List ℕ) (n : ℕ) → AnyOf (λ x. Line (wrapped x.text) u n) l → Ended u n
 custom_ended l u n h = some_any (λ x. Line (wrapped x.text) u n) (Ended u n) (λ x. line_ended (wrapped x.text) u n (omega (arith, wrapped_length x.text), wrapped_last x.text)) l h
 
-notice_ended : (l : List Entry) → EntryTexts l → (u : List ℕ) (n : ℕ) → Some (λ x. NoticeEnded x.text u n) l → Ended u n
+notice_ended : (l : List Entry) → EntryTexts l → (u : List ℕ) (n : ℕ) → AnyOf (λ x. NoticeEnded x.text u n) l → Ended u n
 notice_ended l w u n h =
     some_texts (λ x. NoticeEnded x.text u n) (Ended u n)
     (λ x t v. let b = notice_lf x.text u n v in (omega (arith, b.1.0, text_some x.text t), b.1.1))
@@ -109,7 +106,7 @@ number_ended h u n w =
     (omega (arith, w.ended, w.digits.0, w.spaces.0, (opens h).long), ap (λ (k : ℕ). get_or u (k - 1) 0) w.ended.1 ∙ ending_lf u w.b w.ended.0)
 
 -- a table with no record has none of any mark
-no_records : (ts : List Token) (m : Mark) (P : Entry → Type 0) → ts ≡ [] → Some P (of_mark m 0 ts) → ⊥
+no_records : (ts : List Token) (m : Mark) (P : Entry → Type 0) → ts ≡ [] → AnyOf P (of_mark m 0 ts) → ⊥
 unfolding of_mark
 no_records ts m P e h = rw e at h
 
@@ -134,13 +131,13 @@ module _ (d : Digester) (ts : List Token) (good : Texts ts) (s : List ℕ) (w : 
       here : stands (fixed_text h) s p ≡ true
       here = stands_here (fixed_text h) s p ∙ g.head
 
-      go : (r : Found) → find_in (fixed_text h) s 0 ≡ r → ⊥
-      go (At k) e =
+      go : (r : Option ℕ) → find_in (fixed_text h) s 0 ≡ r → ⊥
+      go (Some k) e =
           ⊎_elim
           (λ (l : p < k). false_true here ((found_at (fixed_text h) s 0 k e).first p (omega arith) l))
           (λ (l : k ≤ p). omega (arith, f k e, kept n (number_ended h (drop p s) n g), g.ended, g.digits.0, g.spaces.0))
           (order p k)
-      go Nothing e = false_true here (found_none (fixed_text h) s 0 e p (omega arith))
+      go None e = false_true here (found_none (fixed_text h) s 0 e p (omega arith))
 
   no_alone : (c : ℕ) → is_text (c ∷ []) ≡ true → counts (c ∷ []) s (keep (is_blank blanks.Run) s) ≡ false → FirstAlone c (drop p s) → ⊥
   unfolding custom_prompt counts

@@ -1,11 +1,9 @@
 -- R-14: that the buffer is still, by what was found in it and by few of its bytes: a digest would find nothing and consume nothing (`Genuine`).
 -- The findings may be anyone's: a text that they say was found counts only where it stands.
-use Rattle.std.specs.Prelude.{◌≡◌, Bool, true, false, not, ◌&&◌, ◌||◌, ℕ, ◌-◌, length, get_or, eqb, leb}
+use Rattle.std.specs.Prelude.{Option, Some, None, ◌≡◌, Bool, true, false, not, ◌&&◌, ◌||◌, ℕ, ◌-◌, length, get_or, eqb, leb}
 use mathlib.Core.List.{List, foldl}
 use Rattle.text.specs.Bytes.{bytes}
 use Rattle.text.specs.Text.{stands, find_in}
-use Rattle.text.specs.declared.Found.{Found}
-use Rattle.text.specs.declared.Found.TheVariants.{At, Nothing}
 use Rattle.table.specs.Table.{entries}
 use Rattle.table.specs.declared.Mark.TheVariants as mark
 use Rattle.lines.specs.Lines.{hears_text, fixed_text}
@@ -14,8 +12,6 @@ use Rattle.lines.specs.declared.Fixed.{Fixed}
 use Rattle.lines.specs.declared.Fixed.TheVariants as fixed
 use Rattle.findings.specs.declared.Findings.{Findings}
 use Rattle.items.specs.Rules.{skipped, custom_prompts, heads}
-use Rattle.items.specs.declared.Tried.{Tried}
-use Rattle.items.specs.declared.Tried.TheVariants.{Done, Next}
 use Rattle.digest.specs.Finished.{nine}
 use Rattle.selector.specs.declared.Selector.{Selector}
 use Rattle.selector.specs.declared.Selector.TheVariants.{Verbal, Numeric}
@@ -60,9 +56,9 @@ unended t s lf end = leb lf end || not (counts t s end)
 unfoldable pub no_number : Findings → List ℕ → Bool
 no_number f s = every (λ h. unended (fixed_text h) s f.lf (told_end f h)) heads
 
-abbrev pub is_nothing : Found → Bool
-is_nothing (At k) = false
-is_nothing Nothing = true
+abbrev pub is_nothing : Option ℕ → Bool
+is_nothing (Some k) = false
+is_nothing None = true
 
 -- no CONNECT line with text begins that the digester would hear (R-3)
 unfoldable pub no_text : Digester → List ℕ → Bool
@@ -72,9 +68,9 @@ no_text d s = not (hears_text d) || is_nothing (find_in (fixed_text fixed.Connec
 unfoldable pub no_line : Digester → List ℕ → Findings → List ℕ → Bool
 no_line d t f s = leb f.lf 3 || (eqb (length t) 0 && (no_fixed f s && no_number f s && no_text d s))
 
-abbrev pub is_next : Tried → Bool
-is_next (Done a) = false
-is_next Next = true
+abbrev pub is_next : Option Answer → Bool
+is_next (Some a) = false
+is_next None = true
 
 -- s ends in no custom prompt
 unfoldable pub no_custom : List ℕ → List ℕ → Bool

@@ -1,12 +1,11 @@
 -- The ways out of the functions, as the code takes them.
-use Rattle.std.specs.Prelude.{◌≡◌, Bool, true, false, not, ◌&&◌, ℕ, ◌-◌, ◌≤◌, ◌<◌, length, get_or, eqb}
+use Rattle.std.specs.Prelude.{Option, ◌≡◌, Bool, true, false, not, ◌&&◌, ℕ, ◌-◌, ◌≤◌, ◌<◌, length, get_or, eqb}
 use Rattle.std.proofs.Math.Path.{sym, ap}
 use Rattle.std.proofs.Common.{◌∙◌, arith}
 use mathlib.Core.List.{List}
 use borrow.Author.Tests.{le-leb, lt-leb, eq-eqb, ne_eqb}
 use Rattle.text.specs.Bytes.{bytes}
 use Rattle.text.specs.Text.{find_in}
-use Rattle.text.specs.declared.Found.{Found}
 use Rattle.table.specs.Table.{Entry, entries}
 use Rattle.table.specs.declared.Mark.TheVariants as mark
 use Rattle.lines.specs.Lines.{hears_text, fixed_text}
@@ -14,7 +13,6 @@ use Rattle.lines.specs.declared.Digester.{Digester}
 use Rattle.lines.specs.declared.Fixed.TheVariants as fixed
 use Rattle.findings.specs.declared.Findings.{Findings}
 use Rattle.items.specs.Rules.{skipped, custom_prompts}
-use Rattle.items.specs.declared.Tried.{Tried}
 use Rattle.selector.specs.declared.Selector.{Selector}
 use Rattle.selector.specs.declared.Selector.TheVariants.{Verbal, Numeric}
 use Rattle.quiet.specs.Quiet.{no_fixed, no_number, is_nothing, no_text, no_line, is_next, no_custom, no_byte, still}
@@ -27,7 +25,7 @@ module _ (d : Digester) (s : List ℕ) where
   unfolding no_text
   text_deaf h = rw h
 
-  pub text_sought : hears_text d ≡ true → (r v : Found) → r ≡ find_in (fixed_text fixed.ConnectText) s 0 → r ≡ v → is_nothing v ≡ no_text d s
+  pub text_sought : hears_text d ≡ true → (r v : Option ℕ) → r ≡ find_in (fixed_text fixed.ConnectText) s 0 → r ≡ v → is_nothing v ≡ no_text d s
   unfolding no_text
   text_sought h r v p q = rw h (ap is_nothing (sym q ∙ p))
 
@@ -71,7 +69,7 @@ module _ (t s : List ℕ) where
   unfolding no_custom custom_prompts
   custom_none b w q = sym (ap (λ (l : List Entry). is_next (custom_prompts l s 0)) (rw q at w))
 
-  pub custom_tried : (r v : Tried) → r ≡ custom_prompts (entries mark.Prompt t 0 0) s 0 → r ≡ v → is_next v ≡ no_custom t s
+  pub custom_tried : (r v : Option Answer) → r ≡ custom_prompts (entries mark.Prompt t 0 0) s 0 → r ≡ v → is_next v ≡ no_custom t s
   unfolding no_custom
   custom_tried r v p q = ap is_next (sym q ∙ p)
 

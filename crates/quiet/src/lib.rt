@@ -8,10 +8,8 @@ ghost use Rattle.quiet.specs.Quiet.{counts, no_fixed, unended, no_number, no_tex
 ghost use Rattle.quiet.specs.Customs.{OnlyNotices};
 
 use findings::Findings;
-use items::Tried;
 use lines::{Digester, Fixed};
 use selector::Selector;
-use text::Found;
 
 // Does the text end at `end` in s?
 fn counts(s: &[u8], end: usize, text: Fixed) -> bool
@@ -65,8 +63,8 @@ fn no_text(digester: Digester, s: &[u8]) -> bool
         return true;
     }
     match lines::find_fixed(s, 0, Fixed::ConnectText) {
-        Found::At(_) => false,
-        Found::Nothing => true,
+        Some(_) => false,
+        None => true,
     }
 }
 
@@ -129,8 +127,8 @@ fn no_custom(table: &[u8], s: &[u8]) -> bool
         return true;
     }
     match items::custom_prompts(table, s, 0) {
-        Tried::Done(_) => false,
-        Tried::Next => true,
+        Some(_) => false,
+        None => true,
     }
 }
 

@@ -1,25 +1,26 @@
 -- Any two results that the contract of `report` allows are equal, every byte of the lent memory too: both can be read off what `reported` makes of them.
+use Rattle.std.specs.Prelude.{Result, Ok, Err}
 use mathlib.Core.Path.{◌≡◌, refl, sym, ap, ◌∙◌}
 use mathlib.Core.List.{List}
 use Prim.Native.Nat.{ℕ}
 use Rattle.outcome.specs.One.{Alike}
 use Rattle.text.specs.Logic.{determined}
-use Rattle.report.specs.declared.Reported.{Reported}
-use Rattle.report.specs.declared.Reported.TheVariants as saying
+use Rattle.report.specs.declared.ReportError.{ReportError}
+use Rattle.report.specs.declared.ReportError.TheVariants as saying
 use Rattle.report.specs.Report.{Reporting, is, short, reported}
 use Rattle.report.proofs as calls
 
-abbrev reported_of : Reporting → Reported
-reported_of (is x) = saying.Is x.at
-reported_of (short o) = saying.Short
+abbrev reported_of : Reporting → Result ℕ ReportError
+reported_of (is x) = Ok x.at
+reported_of (short o) = (Err saying.Short)
 
 abbrev memory_of : Reporting → List ℕ
 memory_of (is x) = x.out
 memory_of (short o) = o
 
-reported_back : (r : Reported) (o : List ℕ) → (reported_of (reported r o) ≡ r) × (memory_of (reported r o) ≡ o)
-reported_back (saying.Is n) o = (refl, refl)
-reported_back saying.Short o = (refl, refl)
+reported_back : (r : Result ℕ ReportError) (o : List ℕ) → (reported_of (reported r o) ≡ r) × (memory_of (reported r o) ≡ o)
+reported_back (Ok n) o = (refl, refl)
+reported_back (Err saying.Short) o = (refl, refl)
 
 pub report_one : Alike calls.report.Reads.Post (λ κs x y s t. (x ≡ y) × (s.1.0.now ≡ t.1.0.now))
 report_one κs a x y s t h g =

@@ -1,5 +1,5 @@
 -- Laws of the report: how long its texts are, and the loop over steps.
-use Rattle.std.specs.Prelude.{◌≡◌, refl, Bool, true, false, ℕ, ◌+◌, ◌-◌, ◌*◌, ◌≤◌, ◌<◌, leb}
+use Rattle.std.specs.Prelude.{Some, None, ◌≡◌, refl, Bool, true, false, ℕ, ◌+◌, ◌-◌, ◌*◌, ◌≤◌, ◌<◌, leb}
 use Rattle.std.proofs.Math.Path.{sym, ap}
 use Rattle.std.proofs.Common.{◌∙◌, arith, length-append, length-drop, length-take-le, lt-ltb, le-ltb, leb-true, leb-false}
 use mathlib.Core.List.{List, [], ◌∷◌, ◌++◌, append-nil, append_assoc}
@@ -17,7 +17,6 @@ use Rattle.answers.specs.declared.Answer.{Answer}
 use Rattle.answers.specs.Answer.{Number, none, number, number_of, is_found, is_numeric, carried}
 use Rattle.answers.specs.Laws.{carried_within}
 use Rattle.steps.specs.declared.Step.{Step}
-use Rattle.steps.specs.declared.Stepped.TheVariants.{Is, End}
 use Rattle.steps.specs.Steps.{steps_from, steps, first_of, eaten}
 use Rattle.steps.specs.Laws.{step_lies, Begins, Run, steps_run, steps_more, at_end, at_step, step_within, eaten_within}
 use Rattle.report.specs.declared.Drawn.{Drawn}
@@ -160,7 +159,7 @@ pub draw_start : (s o : List ℕ) (from : ℕ) → from + 55 * length s ≤ leng
 draw_start s o from h = record { sofar = []; same = refl; gone = omega arith; inks = ink_none o from; within = omega arith; bound = omega arith; room = h; long = refl }
 
 module _ (s o₀ : List ℕ) (from : ℕ) (o : List ℕ) (at n : ℕ) (g : Lining s o₀ from o at n) where
-  pub draw_end : End ≡ first_of (steps_from [] s at) → ◌≡◌ {A = Drawing} (record { ink = inked o n; left = length s - at }) (draw o₀ from s)
+  pub draw_end : None ≡ first_of (steps_from [] s at) → ◌≡◌ {A = Drawing} (record { ink = inked o n; left = length s - at }) (draw o₀ from s)
   unfolding lines eaten
   draw_end e =
       let l = at_end [] s at e in
@@ -168,7 +167,7 @@ module _ (s o₀ : List ℕ) (from : ℕ) (o : List ℕ) (at n : ℕ) (g : Linin
       let k : length s - at ≡ length s - eaten (steps [] s) = omega (arith, g.gone, ap eaten l) in
       λ i. record { ink = (g.inks ∙ ap (ink o₀ from) t) i; left = k i }
 
-  module _ (x : Step) (e : Is x ≡ first_of (steps_from [] s at)) where
+  module _ (x : Step) (e : Some x ≡ first_of (steps_from [] s at)) where
     begins : Begins [] s at x
     begins = at_step [] s at x e
 

@@ -1,5 +1,5 @@
 -- What atread prints, in document 01's words.
-use Rattle.std.specs.Prelude.{List, [], ◌∷◌, ◌++◌, ℕ, ◌-◌, length, drop, ltb, if◌then◌else◌}
+use Rattle.std.specs.Prelude.{None, Result, Ok, Err, List, [], ◌∷◌, ◌++◌, ℕ, ◌-◌, length, drop, ltb, if◌then◌else◌}
 use Rattle.text.specs.Bytes.{bytes}
 use Rattle.text.specs.Text.{part_of}
 use Rattle.ink.specs.Ink.{Ink, inked, ink, decimal, hex}
@@ -10,8 +10,8 @@ use Rattle.answers.specs.Answer.{Number, none, number, number_of, is_found, is_n
 use Rattle.steps.specs.declared.Step.{Step}
 use Rattle.steps.specs.Steps.{steps, eaten}
 use Rattle.report.specs.declared.Drawn.{Drawn}
-use Rattle.report.specs.declared.Reported.{Reported}
-use Rattle.report.specs.declared.Reported.TheVariants as says
+use Rattle.report.specs.declared.ReportError.{ReportError}
+use Rattle.report.specs.declared.ReportError.TheVariants as says
 
 -- a space and the kind
 abbrev pub name_of : Kind → List ℕ
@@ -86,6 +86,6 @@ unfoldable pub report : List ℕ → List ℕ → Reporting
 unfolding text_of
 report s o = if ltb (length o) 229376 then short o else is (ink o 0 (text_of s))
 
-abbrev pub reported : Reported → List ℕ → Reporting
-reported (says.Is n) o = is (inked o n)
-reported says.Short o = short o
+abbrev pub reported : Result ℕ ReportError → List ℕ → Reporting
+reported (Ok n) o = is (inked o n)
+reported (Err says.Short) o = short o

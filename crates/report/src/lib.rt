@@ -8,7 +8,6 @@ ghost use Rattle.ink.specs.Ink.{inked, ink};
 ghost use Rattle.report.specs.Report.{name_of, payload_text, number_text, digits_text, value_of, line_of, drawn, draw, reported, report};
 
 use answers::{Answer, Kind};
-use steps::Stepped;
 
 // A number in decimal, a space before it.
 fn number(out: &mut [u8], at: usize, n: u64) -> usize
@@ -109,7 +108,7 @@ fn draw(out: &mut [u8], from: usize, s: &[u8]) -> Drawn
     let mut at = 0;
     let mut n = from;
     loop {
-        let Stepped::Is(x) = steps::next(none, s, at) else {
+        let Some(x) = steps::next(none, s, at) else {
             return Drawn {
                 at: n,
                 left: s.len() - at,
@@ -124,26 +123,25 @@ fn draw(out: &mut [u8], from: usize, s: &[u8]) -> Drawn
 // The memory that a report needs at most.
 pub const ROOM: usize = 229376;
 
-// How many bytes a report takes, or that the memory is shorter than ROOM.
+// Why no report is made: the memory is shorter than ROOM.
 #[derive(Clone, Copy)]
-pub enum Reported {
-    Is(usize),
+pub enum ReportError {
     Short,
 }
 
 // What atread prints of the input, at the front of the memory.
-pub fn report(input: &[u8], out: &mut [u8]) -> Reported
+pub fn report(input: &[u8], out: &mut [u8]) -> Result<usize, ReportError>
     ensures { reported result out.new ≡ report input.now out.old }
 {
     if out.len() < ROOM {
-        return Reported::Short;
+        return Err(ReportError::Short);
     }
     if digest::LONGEST < input.len() {
-        return Reported::Is(ink::words(out, 0, b"refused 1\n"));
+        return Ok(ink::words(out, 0, b"refused 1\n"));
     }
     let from = ink::words(out, 0, b"records 0\n");
     let d = draw(out, from, input);
     let worded = ink::words(out, d.at, b"left");
     let counted = number(out, worded, d.left as u64);
-    Reported::Is(ink::words(out, counted, b"\n"))
+    Ok(ink::words(out, counted, b"\n"))
 }

@@ -1,6 +1,6 @@
 -- A code under the empty table: every one up to 65,535 is read back (`cme_back`, `cms_back`).
 -- Rests on the digits' being no byte of any other line, so that the head's first occurrence is where the input begins and decides; the head itself is by computation.
-use Rattle.std.specs.Prelude.{◌≡◌, ◌⊎◌, true, List, [], ◌∷◌, ◌++◌, ℕ, zero, suc, ◌+◌, ◌-◌, ◌^◌, ◌≤◌, ◌<◌, get_or, take, drop}
+use Rattle.std.specs.Prelude.{Some, None, ◌≡◌, ◌⊎◌, true, List, [], ◌∷◌, ◌++◌, ℕ, zero, suc, ◌+◌, ◌-◌, ◌^◌, ◌≤◌, ◌<◌, get_or, take, drop}
 use Rattle.std.proofs.Math.Path.{refl, ap}
 use Rattle.std.proofs.Common.{sym, ◌∙◌, inl, inr, ⊎_elim, length-append, drop-drop, take_at, get_or-drop, get_or-append-add, eq-eqb}
 use native.Mathlib.Omega.{arith}
@@ -12,14 +12,12 @@ use Rattle.text.specs.Text.{is_blank, past, begins, stands, find_in, part_of}
 use Rattle.text.specs.Laws.{find_is, stands_get_d, part_is}
 use Rattle.text.specs.declared.Blanks.TheVariants as sets
 use Rattle.text.specs.declared.Span.{Span}
-use Rattle.text.specs.declared.Found.TheVariants.{Nothing}
 use Rattle.table.specs.Table.{of_mark}
 use Rattle.lines.specs.Lines.{crlf, fixed_text}
 use Rattle.lines.specs.declared.Digester.TheVariants.{Verbose}
 use Rattle.lines.specs.declared.Fixed.TheVariants as fixed
 use Rattle.parser.specs.Parser.{line_ending, is_digit, value, prompt_from, numeric_at, numeric_error}
 use Rattle.parser.specs.Laws.{ending_crlf, digit_bounds}
-use Rattle.parser.specs.declared.Numeric.TheVariants as numeric
 use Rattle.ink.specs.Ink.{decimal}
 use Rattle.ink.specs.Laws.{decimal_length}
 use Rattle.answers.specs.Answer.{has_number, kind_found, is_found, with_digits}
@@ -27,11 +25,9 @@ use Rattle.answers.specs.declared.Kind.{Kind}
 use Rattle.answers.specs.declared.Kind.TheVariants as kind
 use Rattle.answers.specs.declared.Answer.{Answer}
 use Rattle.items.specs.Rules.{skipped, numeric_errors, tried}
-use Rattle.items.specs.declared.Tried.TheVariants as tries
 use Rattle.digest.specs.Position.{numeric_is}
 use Rattle.digest.specs.Finished.{All, NumericEnded}
 use Rattle.writer.specs.Writer.{written, gives}
-use Rattle.writer.specs.declared.Given.TheVariants.{Is}
 use Rattle.sayable.specs.Empty.{heard_of, HeardBack, done_heard}
 use Rattle.sayable.specs.Decimal.{decimal_digits, decimal_some, decimal_value, decimal_read}
 
@@ -69,9 +65,9 @@ module _ (h : List ℕ) (n : ℕ) where
       (order j (length (decimal n)))
 
   -- so a text with another byte stands nowhere from there on
-  absent : (t : List ℕ) (j : ℕ) → j < length t → ((13 < get_or t j 0) × (get_or t j 0 < 48)) ⊎ (57 < get_or t j 0) → find_in t text (length h + 1) ≡ Nothing
+  absent : (t : List ℕ) (j : ℕ) → j < length t → ((13 < get_or t j 0) × (get_or t j 0 < 48)) ⊎ (57 < get_or t j 0) → find_in t text (length h + 1) ≡ None
   absent t j l c =
-      find_is t text (length h + 1) Nothing (λ m g. not_true_false (stands t text m) (λ p.
+      find_is t text (length h + 1) None (λ m g. not_true_false (stands t text m) (λ p.
       let i = m + j - (length h + 1) in
       let z : m + j ≡ length h + 1 + i = omega arith in
       let e : get_or (decimal n ++ crlf) i 0 ≡ get_or t j 0 = sym (byte_behind i) ∙ ap (λ (k : ℕ). get_or text k 0) (sym z) ∙ stands_get_d t text m j p l in
@@ -116,21 +112,21 @@ module _ (h : List ℕ) (n : ℕ) where
           ended = (omega (arith, code_ends), omega (arith, code_ends, text_length));
         }
 
-    code_read : numeric_at h text 0 ≡ numeric.Is (record { code = n; start = length h + 1; stop = length h + 1 + length (decimal n); end = length text })
+    code_read : numeric_at h text 0 ≡ Some (record { code = n; start = length h + 1; stop = length h + 1 + length (decimal n); end = length text })
     unfolding code_ended
     code_read =
         numeric_is h text (length text) code_ended
-        ∙ ap (λ (c : ℕ). numeric.Is (record { code = c; start = length h + 1; stop = length h + 1 + length (decimal n); end = length text })) (ap (value 0) code_behind ∙ decimal_read n below)
+        ∙ ap (λ (c : ℕ). Some (record { code = c; start = length h + 1; stop = length h + 1 + length (decimal n); end = length text })) (ap (value 0) code_behind ∙ decimal_read n below)
 
 -- Rules 1 to 4 pass over a code; what rule 5's numeric errors give is the answer.
 record Passed (s : List ℕ) : Type 0 where
   skips : skipped s ≡ 0
-  ok : find_in (fixed_text fixed.Ok) s 0 ≡ Nothing
-  connect : find_in (fixed_text fixed.Connect) s 0 ≡ Nothing
-  greater : find_in (bytes ">") s 0 ≡ Nothing
-  sign : find_in (bytes "@") s 0 ≡ Nothing
+  ok : find_in (fixed_text fixed.Ok) s 0 ≡ None
+  connect : find_in (fixed_text fixed.Connect) s 0 ≡ None
+  greater : find_in (bytes ">") s 0 ≡ None
+  sign : find_in (bytes "@") s 0 ≡ None
 
-passed_tried : (s : List ℕ) → Passed s → (a : Answer) → numeric_errors s 0 ≡ tries.Done a → tried Verbose [] s 0 ≡ tries.Done a
+passed_tried : (s : List ℕ) → Passed s → (a : Answer) → numeric_errors s 0 ≡ Some a → tried Verbose [] s 0 ≡ Some a
 unfolding tried of_mark prompt_from
 passed_tried s w a e = rw (w.ok, w.connect, w.greater, w.sign, e)
 
@@ -157,21 +153,21 @@ module _ (n : ℕ) where
         sign = absent (fixed_text fixed.Cms) n (bytes "@") 0 (omega arith) (inr (omega arith));
       }
 
-  no_cme : find_in (fixed_text fixed.Cme) (text (fixed_text fixed.Cms) n) 0 ≡ Nothing
+  no_cme : find_in (fixed_text fixed.Cme) (text (fixed_text fixed.Cms) n) 0 ≡ None
   unfolding find_in
   no_cme = absent (fixed_text fixed.Cms) n (fixed_text fixed.Cme) 2 (omega arith) (inl (omega arith, omega arith))
 
 -- a kind with a number that is heard as such is read back
-code_back : (k : Kind) (n : ℕ) (q : Span) → kind_found k ≡ true → has_number k ≡ true → length (written k (Is n) []) ≤ 4096 → heard_of k (Is n) [] ≡ with_digits k n q (length (written k (Is n) [])) → HeardBack k (Is n) []
+code_back : (k : Kind) (n : ℕ) (q : Span) → kind_found k ≡ true → has_number k ≡ true → length (written k (Some n) []) ≤ 4096 → heard_of k (Some n) [] ≡ with_digits k n q (length (written k (Some n) [])) → HeardBack k (Some n) []
 unfolding gives
 code_back k n q f h l e =
-    let s = written k (Is n) [] in
+    let s = written k (Some n) [] in
     record {
       short = l;
       found = ap is_found e ∙ f;
       kind = ap (λ (a : Answer). a.kind) e;
-      number = ap (gives (Is n)) e ∙ rw (h, eq-eqb n n refl);
-      payload = part_is s 0 0 (omega arith) ∙ ap (λ (a : Answer). part_of s a.place a.len) (sym e);
+      number = ap (gives (Some n)) e ∙ rw (h, eq-eqb n n refl);
+      payload = part_is s 0 0 (omega arith) ∙ ap (λ (a : Answer). part_of s a.payload.start a.payload.len) (sym e);
       whole = ap (λ (a : Answer). a.consumed) e;
     }
 
@@ -179,18 +175,18 @@ module _ (n : ℕ) (small : n ≤ 65535) where
   abbrev digits : Span
   digits = record { start = 14; len = 14 + length (decimal n) - 14 }
 
-  cme_errors : numeric_errors (text (fixed_text fixed.Cme) n) 0 ≡ tries.Done (with_digits kind.Cme n digits (length (text (fixed_text fixed.Cme) n)))
+  cme_errors : numeric_errors (text (fixed_text fixed.Cme) n) 0 ≡ Some (with_digits kind.Cme n digits (length (text (fixed_text fixed.Cme) n)))
   unfolding numeric_errors numeric_error find_in stands
   cme_errors = rw (code_read (fixed_text fixed.Cme) n refl small)
 
-  cms_errors : numeric_errors (text (fixed_text fixed.Cms) n) 0 ≡ tries.Done (with_digits kind.Cms n digits (length (text (fixed_text fixed.Cms) n)))
+  cms_errors : numeric_errors (text (fixed_text fixed.Cms) n) 0 ≡ Some (with_digits kind.Cms n digits (length (text (fixed_text fixed.Cms) n)))
   unfolding numeric_errors numeric_error find_in stands
   cms_errors = rw (no_cme n, code_read (fixed_text fixed.Cms) n refl small)
 
-  pub cme_back : HeardBack kind.Cme (Is n) []
+  pub cme_back : HeardBack kind.Cme (Some n) []
   unfolding written
   cme_back = code_back kind.Cme n digits refl refl (omega (arith, text_length (fixed_text fixed.Cme) n, decimal_length n)) (done_heard (text (fixed_text fixed.Cme) n) (cme_passed n).skips _ (passed_tried (text (fixed_text fixed.Cme) n) (cme_passed n) _ cme_errors))
 
-  pub cms_back : HeardBack kind.Cms (Is n) []
+  pub cms_back : HeardBack kind.Cms (Some n) []
   unfolding written
   cms_back = code_back kind.Cms n digits refl refl (omega (arith, text_length (fixed_text fixed.Cms) n, decimal_length n)) (done_heard (text (fixed_text fixed.Cms) n) (cms_passed n).skips _ (passed_tried (text (fixed_text fixed.Cms) n) (cms_passed n) _ cms_errors))

@@ -1,6 +1,6 @@
 -- To be read back under the empty table, taken apart (`heard_back`) and put together (`back_heard`), by what the digester hears in what is written.
 -- Rests on the empty table's having no records, by computation.
-use Rattle.std.specs.Prelude.{◌≡◌, Bool, ℕ, ◌≤◌, length, ltb, if◌then◌else◌}
+use Rattle.std.specs.Prelude.{Option, Some, ◌≡◌, Bool, ℕ, ◌≤◌, length, ltb, if◌then◌else◌}
 use Rattle.std.proofs.Math.Path.{refl}
 use Rattle.std.proofs.Common.{sym, ap, ◌∙◌, le-ltb, ltb-false}
 use Rattle.std.proofs.Math.Bool.{true, false}
@@ -15,20 +15,18 @@ use Rattle.answers.specs.Laws.{kind_one}
 use Rattle.answers.specs.declared.Kind.{Kind}
 use Rattle.answers.specs.declared.Answer.{Answer}
 use Rattle.items.specs.Rules.{skipped, tried}
-use Rattle.items.specs.declared.Tried.TheVariants as tries
 use Rattle.digest.specs.Digest.{digest_in, digest}
 use Rattle.digest.specs.Step.{done_is}
 use Rattle.writer.specs.Writer.{written, gives, heard_as, heard_in, reads_back}
 use Rattle.writer.specs.Laws.{read_found, read_kind, read_number, read_same, read_whole}
-use Rattle.writer.specs.declared.Given.{Given}
 use Rattle.sayable.specs.Said.{same_is, heard_so}
 
 -- what the digester hears in what is written
-abbrev pub heard_of : Kind → Given → List ℕ → Answer
+abbrev pub heard_of : Kind → Option ℕ → List ℕ → Answer
 heard_of k g p = digest_in Verbose [] (written k g p)
 
 -- it is read back
-pub record HeardBack (k : Kind) (g : Given) (p : List ℕ) : Type 0 where
+pub record HeardBack (k : Kind) (g : Option ℕ) (p : List ℕ) : Type 0 where
   pub short : length (written k g p) ≤ 4096
   pub found : is_found (heard_of k g p) ≡ true
   pub kind : (heard_of k g p).kind ≡ k
@@ -37,10 +35,10 @@ pub record HeardBack (k : Kind) (g : Given) (p : List ℕ) : Type 0 where
   pub whole : (heard_of k g p).consumed ≡ length (written k g p)
 
 -- where nothing is skipped, what rules 2 to 5 answer is what is heard
-pub done_heard : (s : List ℕ) → skipped s ≡ 0 → (a : Answer) → tried Verbose [] s 0 ≡ tries.Done a → digest_in Verbose [] s ≡ a
+pub done_heard : (s : List ℕ) → skipped s ≡ 0 → (a : Answer) → tried Verbose [] s 0 ≡ Some a → digest_in Verbose [] s ≡ a
 done_heard s z a e = done_is Verbose [] s a (ap (tried Verbose [] s) z ∙ e)
 
-module _ (k : Kind) (g : Given) (p : List ℕ) where
+module _ (k : Kind) (g : Option ℕ) (p : List ℕ) where
   at_digest : (if ltb 4096 (length (written k g p)) then false else heard_as k g p (written k g p) (heard_of k g p)) ≡ reads_back [] k g p
   unfolding reads_back digest ruling tokens
   at_digest = go (ltb 4096 (length (written k g p)))
@@ -62,7 +60,7 @@ module _ (k : Kind) (g : Given) (p : List ℕ) where
             found = read_found k g p b a q;
             kind = kind_one a.kind k (read_kind k g p b a q);
             number = read_number k g p b a q;
-            payload = sym (same_is p (part_of b a.place a.len) (read_same k g p b a q));
+            payload = sym (same_is p (part_of b a.payload.start a.payload.len) (read_same k g p b a q));
             whole = read_whole k g p b a q;
           }
 

@@ -1,6 +1,6 @@
 -- An Ok under the empty table is read back exactly with a payload as `Payload` says (`ok_back`, `payload_back`).
 -- Rests on the first OK line's deciding: what stands before it, trimmed, is the payload, and its end the consumed count.
-use Rattle.std.specs.Prelude.{◌≡◌, refl, Bool, true, false, ℕ, zero, suc, ◌+◌, ◌-◌, ◌≤◌, ◌<◌, drop}
+use Rattle.std.specs.Prelude.{Option, Some, None, Ok, ◌≡◌, refl, Bool, true, false, ℕ, zero, suc, ◌+◌, ◌-◌, ◌≤◌, ◌<◌, drop}
 use Rattle.std.proofs.Math.Path.{sym, ap}
 use Rattle.std.proofs.Common.{◌∙◌, ⊎_elim, length-drop, take_at, length-take-le, get_or-take, get_or-drop}
 use mathlib.Core.List.{List, [], ◌∷◌, ◌++◌, append_assoc}
@@ -13,8 +13,6 @@ use Rattle.text.specs.Text.{is_blank, lead, past, keep, trimmed, trimmed_part, b
 use Rattle.text.specs.Laws.{found_at, found_none, stands_fits, past_stops, past_is, keep_stops, keep_is, trimmed_fits, trim_is, part_is, rest}
 use Rattle.text.specs.declared.Blanks.TheVariants as sets
 use Rattle.text.specs.declared.Span.{Span}
-use Rattle.text.specs.declared.Found.{Found}
-use Rattle.text.specs.declared.Found.TheVariants.{At, Nothing}
 use Rattle.table.specs.Table.{of_mark}
 use Rattle.lines.specs.Lines.{crlf, fixed_text}
 use Rattle.lines.specs.declared.Digester.TheVariants.{Verbose}
@@ -24,9 +22,7 @@ use Rattle.answers.specs.Laws.{placed_some}
 use Rattle.answers.specs.declared.Kind.TheVariants as kind
 use Rattle.answers.specs.declared.Answer.{Answer}
 use Rattle.items.specs.Rules.{skipped, tried}
-use Rattle.items.specs.declared.Tried.TheVariants as tries
 use Rattle.writer.specs.Writer.{line, written, gives}
-use Rattle.writer.specs.declared.Given.TheVariants.{None}
 use Rattle.sayable.specs.Sayable.{Payload}
 use Rattle.sayable.specs.Empty.{heard_of, HeardBack, done_heard}
 
@@ -39,9 +35,9 @@ unfolding trimmed_part
 before_is s k = rw (sub-zero, zero-add)
 
 -- where nothing is skipped, the first OK line decides
-ok_tried : (s : List ℕ) (k : ℕ) → find_in (fixed_text fixed.Ok) s 0 ≡ At k → tried Verbose [] s 0 ≡ tries.Done (with_payload kind.Ok 0 (before s k) (k + 6))
+ok_tried : (s : List ℕ) (k : ℕ) → find_in (fixed_text fixed.Ok) s 0 ≡ Some k → tried Verbose [] s 0 ≡ Some (with_payload kind.Ok 0 (before s k) (k + 6))
 unfolding tried of_mark
-ok_tried s k f = rw f (ap (λ (t : Span). tries.Done (with_payload kind.Ok 0 t (k + 6))) (before_is s k))
+ok_tried s k f = rw f (ap (λ (t : Span). Some (with_payload kind.Ok 0 t (k + 6))) (before_is s k))
 
 -- what is left when bytes are trimmed off has none of them at its ends
 module _ (f : ℕ → Bool) (m : List ℕ) (h : 0 < (trimmed f m).len) where
@@ -86,18 +82,18 @@ ok_last (x ∷ p) = record { k = length (line (x ∷ p)); here = ap (begins (fix
 -- the first, and what is heard by it
 record FirstOk (p : List ℕ) : Type 0 where
   k : ℕ
-  found : find_in (fixed_text fixed.Ok) (written kind.Ok None p) 0 ≡ At k
+  found : find_in (fixed_text fixed.Ok) (written kind.Ok None p) 0 ≡ Some k
   heard : heard_of kind.Ok None p ≡ with_payload kind.Ok 0 (before (written kind.Ok None p) k) (k + 6)
   fits : k + 6 ≤ length (written kind.Ok None p)
 
 first_ok : (p : List ℕ) → FirstOk p
 first_ok p = go (find_in (fixed_text fixed.Ok) (written kind.Ok None p) 0) refl
   where
-    go : (r : Found) → find_in (fixed_text fixed.Ok) (written kind.Ok None p) 0 ≡ r → FirstOk p
-    go (At k) f =
+    go : (r : Option ℕ) → find_in (fixed_text fixed.Ok) (written kind.Ok None p) 0 ≡ r → FirstOk p
+    go (Some k) f =
         let s = written kind.Ok None p in
         record { k = k; found = f; heard = done_heard s (ok_skips p) _ (ok_tried s k f); fits = stands_fits (fixed_text fixed.Ok) s k (omega arith) (found_at (fixed_text fixed.Ok) s 0 k f).here }
-    go Nothing f = let w = ok_last p in absurd (false_true w.here (found_none (fixed_text fixed.Ok) (written kind.Ok None p) 0 f w.k (omega arith)))
+    go None f = let w = ok_last p in absurd (false_true w.here (found_none (fixed_text fixed.Ok) (written kind.Ok None p) 0 f w.k (omega arith)))
 
 -- A part that is trimmed has no blank at its ends, whatever stands around it.
 module _ (s : List ℕ) (k : ℕ) (l : k ≤ length s) (p : List ℕ) (some : 0 < length p) (q : p ≡ part_of s (placed (before s k).len (before s k).start) (before s k).len) where
@@ -149,7 +145,7 @@ ok_back p w =
     let v = first_ok p in
     let s = written kind.Ok None p in
     let z : v.k + 6 ≡ length s = sym (ap (λ (a : Answer). a.consumed) v.heard) ∙ w.whole in
-    let q : p ≡ part_of s (placed (before s v.k).len (before s v.k).start) (before s v.k).len = w.payload ∙ ap (λ (a : Answer). part_of s a.place a.len) v.heard in
+    let q : p ≡ part_of s (placed (before s v.k).len (before s v.k).start) (before s v.k).len = w.payload ∙ ap (λ (a : Answer). part_of s a.payload.start a.payload.len) v.heard in
     record {
       short = ⊎_elim (λ (h : 0 < length p). omega (arith, ok_length p h, w.short)) (λ (h : length p ≤ 0). omega arith) (order 0 (length p));
       front = λ h. part_front s v.k (omega (arith, v.fits)) p h q;
@@ -213,6 +209,6 @@ module _ (p : List ℕ) (w : Payload p) (some : 0 < length p) where
         found = ap is_found h;
         kind = ap (λ (a : Answer). a.kind) h;
         number = ap (gives None) h;
-        payload = line_part ∙ ap (λ (a : Answer). part_of (written kind.Ok None p) a.place a.len) (sym h);
+        payload = line_part ∙ ap (λ (a : Answer). part_of (written kind.Ok None p) a.payload.start a.payload.len) (sym h);
         whole = ap (λ (a : Answer). a.consumed) h;
       }

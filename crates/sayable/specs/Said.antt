@@ -1,7 +1,7 @@
 -- R-12 in its user's words. What is written is read back: its digest is that kind, number and payload, and consumes all of it; the output memory holds those bytes and is else as it was
 -- (`said_back`). Under a good table refusal 16 is given where it would not be (`unread`), else 17 where the bytes don't fit (`short`), else they are written (`wrote`).
 use Rattle.std.proofs.Math.Path.{◌≡◌, refl}
-use Rattle.std.proofs.Common.{sym, ap, ◌∙◌, zero-add, arith, eqb-true, eq-eqb, ltb-false, lt-ltb, le-ltb}
+use Rattle.std.proofs.Common.{Option, Some, None, sym, ap, ◌∙◌, zero-add, arith, eqb-true, eq-eqb, ltb-false, lt-ltb, le-ltb}
 use Rattle.std.specs.Prelude.{Bool, ◌&&◌, List, [], ℕ, ◌+◌, ◌≤◌, ◌<◌, length, take, drop, eqb, ltb, if◌then◌else◌}
 use Rattle.std.proofs.Math.Bool.{true, false, not}
 use Rattle.std.proofs.Math.Seq.{drop-append_seam}
@@ -19,18 +19,16 @@ use Rattle.answers.specs.Laws.{kind_one}
 use Rattle.answers.specs.declared.Kind.{Kind}
 use Rattle.answers.specs.declared.Answer.{Answer}
 use Rattle.digest.specs.Digest.{digest}
-use Rattle.writer.specs.declared.Given.{Given}
-use Rattle.writer.specs.declared.Given.TheVariants.{None, Is}
 use Rattle.writer.specs.Writer.{written, gives, same, heard_as, heard_in, reads_back, Saying, laid_out, say_under, say}
 use Rattle.writer.specs.Laws.{read_found, read_kind, read_number, read_same, read_whole}
 
 -- the number given, in document 01's terms
-abbrev pub given : Given → Number
+abbrev pub given : Option ℕ → Number
 given None = none
-given (Is n) = number n
+given (Some n) = number n
 
 -- The bytes b, digested under the table t by document 01's digester, are an answer of this kind, number and payload, and are consumed whole.
-pub record Back (t : List ℕ) (k : Kind) (g : Given) (p b : List ℕ) : Type 0 where
+pub record Back (t : List ℕ) (k : Kind) (g : Option ℕ) (p b : List ℕ) : Type 0 where
   pub answer : Answer
   pub digested : digest Verbose t b ≡ answered answer
   pub found : is_found answer ≡ true
@@ -51,10 +49,10 @@ unfolding same stands
 is_same p q e = rw (e, eq-eqb (length p) (length p) refl) (begins_self p)
 
 -- the number of an answer is the one given
-gives_number : (g : Given) (a : Answer) → gives g a ≡ true → number_of a ≡ given g
+gives_number : (g : Option ℕ) (a : Answer) → gives g a ≡ true → number_of a ≡ given g
 unfolding gives
 gives_number None a e = rw (not-true (has_number a.kind) e)
-gives_number (Is n) a e =
+gives_number (Some n) a e =
     let h = and_both (has_number a.kind) _ e in
     rw h.0 (ap number (eqb-true a.number n h.1))
 
@@ -66,30 +64,30 @@ abbrev or_zero : Number → ℕ
 or_zero none = 0
 or_zero (number n) = n
 
-number_gives : (g : Given) (a : Answer) → number_of a ≡ given g → gives g a ≡ true
+number_gives : (g : Option ℕ) (a : Answer) → number_of a ≡ given g → gives g a ≡ true
 unfolding gives
 number_gives None a e = go (has_number a.kind) refl
   where
     go : (b : Bool) → has_number a.kind ≡ b → not (has_number a.kind) ≡ true
     go true q = absurd (false_true (ap is_none e) (ap (λ (b : Bool). is_none (if b then number a.number else none)) q))
     go false q = rw q
-number_gives (Is n) a e = go (has_number a.kind) refl
+number_gives (Some n) a e = go (has_number a.kind) refl
   where
     go : (b : Bool) → has_number a.kind ≡ b → has_number a.kind && eqb a.number n ≡ true
     go true q = rw (q, eq-eqb a.number n (sym (ap (λ (b : Bool). or_zero (if b then number a.number else none)) q) ∙ ap or_zero e))
     go false q = absurd (false_true (ap (λ (b : Bool). is_none (if b then number a.number else none)) q) (ap is_none e))
 
 -- an answer that passes each test is heard so
-pub heard_so : (k : Kind) (g : Given) (p b : List ℕ) (a : Answer) → is_found a ≡ true → a.kind ≡ k → gives g a ≡ true → part_of b a.place a.len ≡ p → a.consumed ≡ length b → heard_as k g p b a ≡ true
+pub heard_so : (k : Kind) (g : Option ℕ) (p b : List ℕ) (a : Answer) → is_found a ≡ true → a.kind ≡ k → gives g a ≡ true → part_of b a.payload.start a.payload.len ≡ p → a.consumed ≡ length b → heard_as k g p b a ≡ true
 unfolding heard_as
-heard_so k g p b a f e n q c = rw (f, eq-eqb (kind_number a.kind) (kind_number k) (ap kind_number e), n, is_same p (part_of b a.place a.len) q, eq-eqb a.consumed (length b) c)
+heard_so k g p b a f e n q c = rw (f, eq-eqb (kind_number a.kind) (kind_number k) (ap kind_number e), n, is_same p (part_of b a.payload.start a.payload.len) q, eq-eqb a.consumed (length b) c)
 
 -- behind what is put at the front, the memory is as it was
 put_behind : (o b : List ℕ) → 0 + length b ≤ length o → drop (length b) (put o 0 b) ≡ drop (length b) o
 put_behind o b l = ap (drop (length b)) (sym (put_is o 0 b l)) ∙ drop-append_seam b (drop (0 + length b) o) ∙ ap (λ (n : ℕ). drop n o) (zero-add (length b))
 
 -- `reads_back` is that
-module _ (t : List ℕ) (k : Kind) (g : Given) (p : List ℕ) where
+module _ (t : List ℕ) (k : Kind) (g : Option ℕ) (p : List ℕ) where
   abbrev bytes : List ℕ
   bytes = written k g p
 
@@ -105,7 +103,7 @@ module _ (t : List ℕ) (k : Kind) (g : Given) (p : List ℕ) where
             found = read_found k g p bytes a q;
             kind = kind_one a.kind k (read_kind k g p bytes a q);
             number = gives_number g a (read_number k g p bytes a q);
-            payload = same_is p (part_of bytes a.place a.len) (read_same k g p bytes a q);
+            payload = same_is p (part_of bytes a.payload.start a.payload.len) (read_same k g p bytes a q);
             whole = read_whole k g p bytes a q;
           }
       go (refused m v) e q = absurd (false_true q refl)

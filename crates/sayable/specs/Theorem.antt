@@ -1,6 +1,6 @@
 -- R-12 in closed form: under the empty table an answer is read back exactly when it is `Sayable` (`sayable`, `writes`).
 -- The fixed lines and prompts are written by computation; Oks and codes by their own files; that nothing else is heard, by what the digester can say at all.
-use Rattle.std.specs.Prelude.{◌≡◌, true, false, List, [], ◌∷◌, ℕ, ◌+◌, length, eqb, leb}
+use Rattle.std.specs.Prelude.{Option, Some, None, ◌≡◌, true, false, List, [], ◌∷◌, ℕ, ◌+◌, length, eqb, leb}
 use Rattle.std.proofs.Math.Path.{refl}
 use Rattle.std.proofs.Common.{sym, ap, subst, ◌∙◌, arith, eqb-true}
 use Rattle.std.proofs.lemmas.Bool.{not-true}
@@ -16,8 +16,6 @@ use Rattle.answers.specs.declared.Kind.TheVariants as kind
 use Rattle.answers.specs.declared.Answer.{Answer}
 use Rattle.digest.specs.Digest.{digest_in, digest}
 use Rattle.writer.specs.Writer.{written, gives, reads_back}
-use Rattle.writer.specs.declared.Given.{Given}
-use Rattle.writer.specs.declared.Given.TheVariants.{None, Is}
 use Rattle.sayable.specs.Sayable.{Payload, Sayable, ok, cme, cms, error, no_carrier, busy, no_answer, no_dialtone, greater, sign}
 use Rattle.sayable.specs.Empty.{heard_of, HeardBack, heard_back, back_heard}
 use Rattle.sayable.specs.Told.{is_other, given_of, digest_told}
@@ -30,31 +28,31 @@ unfolding digest_in of_mark past stands find_in numeric_error prompt_from
 unwritten = refl
 
 -- the number that was given is the answer's
-given_back : (g : Given) (a : Answer) → gives g a ≡ true → given_of a.kind a.number ≡ g
+given_back : (g : Option ℕ) (a : Answer) → gives g a ≡ true → given_of a.kind a.number ≡ g
 unfolding gives
 given_back None a h = rw (not-true (has_number a.kind) h)
-given_back (Is n) a h = let w = and_both (has_number a.kind) (eqb a.number n) h in rw (w.0, eqb-true a.number n w.1)
+given_back (Some n) a h = let w = and_both (has_number a.kind) (eqb a.number n) h in rw (w.0, eqb-true a.number n w.1)
 
 part_empty : (s : List ℕ) (p : ℕ) → part_of s p 0 ≡ []
 unfolding part_of
 part_empty s p = ways (λ (l : List ℕ). l ≡ []) (leb (p + 0) (length s)) (λ q. refl) (λ q. refl)
 
 -- of these kinds what is heard can be said
-others : (k : Kind) (g : Given) (p : List ℕ) → is_other k ≡ true → HeardBack k g p → Sayable k g p
+others : (k : Kind) (g : Option ℕ) (p : List ℕ) → is_other k ≡ true → HeardBack k g p → Sayable k g p
 others k g p o w =
     let a = heard_of k g p in
     let t = digest_told Verbose (written k g p) (ap is_other w.kind ∙ o) in
-    let e : [] ≡ p = sym (w.payload ∙ ap (part_of (written k g p) a.place) t.0 ∙ part_empty (written k g p) a.place) in
-    subst (λ (j : Kind). Sayable j g p) w.kind (subst (λ (x : Given). Sayable a.kind x p) (given_back g a w.number) (subst (λ (l : List ℕ). Sayable a.kind (given_of a.kind a.number) l) e t.1))
+    let e : [] ≡ p = sym (w.payload ∙ ap (part_of (written k g p) a.payload.start) t.0 ∙ part_empty (written k g p) a.payload.start) in
+    subst (λ (j : Kind). Sayable j g p) w.kind (subst (λ (x : Option ℕ). Sayable a.kind x p) (given_back g a w.number) (subst (λ (l : List ℕ). Sayable a.kind (given_of a.kind a.number) l) e t.1))
 
 -- What is read back under the empty table can be said;
-pub sayable : (k : Kind) (g : Given) (p : List ℕ) → reads_back [] k g p ≡ true → Sayable k g p
+pub sayable : (k : Kind) (g : Option ℕ) (p : List ℕ) → reads_back [] k g p ≡ true → Sayable k g p
 sayable k g p h = go k g p (heard_back k g p h)
   where
-    go : (k : Kind) (g : Given) (p : List ℕ) → HeardBack k g p → Sayable k g p
+    go : (k : Kind) (g : Option ℕ) (p : List ℕ) → HeardBack k g p → Sayable k g p
     go kind.None g p w = unfold written in absurd (false_true w.found unwritten)
     go kind.Ok None p w = ok (ok_back p w)
-    go kind.Ok (Is n) p w = unfold gives in absurd (false_true w.number (rw w.kind))
+    go kind.Ok (Some n) p w = unfold gives in absurd (false_true w.number (rw w.kind))
     go kind.Prompt g p w = others kind.Prompt g p refl w
     go kind.Cme g p w = others kind.Cme g p refl w
     go kind.Cms g p w = others kind.Cms g p refl w
@@ -74,11 +72,11 @@ ok_writes [] w = refl
 ok_writes (x ∷ p) w = back_heard kind.Ok None (x ∷ p) (payload_back (x ∷ p) w (omega arith))
 
 -- what can be said is read back.
-pub writes : {k : Kind} {g : Given} {p : List ℕ} → Sayable k g p → reads_back [] k g p ≡ true
+pub writes : {k : Kind} {g : Option ℕ} {p : List ℕ} → Sayable k g p → reads_back [] k g p ≡ true
 unfolding reads_back digest ruling tokens of_mark is_blank past stands find_in part_of numeric_error prompt_from
 writes {p = p} (ok w) = ok_writes p w
-writes (cme {n} h) = back_heard kind.Cme (Is n) [] (cme_back n h)
-writes (cms {n} h) = back_heard kind.Cms (Is n) [] (cms_back n h)
+writes (cme {n} h) = back_heard kind.Cme (Some n) [] (cme_back n h)
+writes (cms {n} h) = back_heard kind.Cms (Some n) [] (cms_back n h)
 writes error = refl
 writes no_carrier = refl
 writes busy = refl

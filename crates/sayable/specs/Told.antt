@@ -1,34 +1,25 @@
 -- Under no records whatever the digester says can be said, and has no payload, unless it is None, an Ok, unknown or not allowed (`digest_told`).
 -- Rests on the rules of items one by one, and on the retry's answer being of the same kind, number and payload's length.
-use Rattle.std.specs.Prelude.{◌≡◌, refl, Bool, true, false, ◌&&◌, List, [], ℕ, ◌+◌, ◌≤◌, ◌<◌, length, drop, leb, ltb, if◌then◌else◌}
+use Rattle.std.specs.Prelude.{Option, Some, None, Ok, ◌≡◌, refl, Bool, true, false, ◌&&◌, List, [], ℕ, ◌+◌, ◌≤◌, ◌<◌, length, drop, leb, ltb, if◌then◌else◌}
 use Rattle.std.proofs.Math.Path.{subst}
 use Rattle.std.proofs.Common.{arith, leb-true}
 use Rattle.outcome.specs.Laws.{ways}
 use Rattle.text.specs.Logic.{false_true}
 use Rattle.text.specs.Text.{is_blank, past, stands, find_in}
 use Rattle.text.specs.declared.Blanks.TheVariants as blanks
-use Rattle.text.specs.declared.Found.{Found}
-use Rattle.text.specs.declared.Found.TheVariants.{At, Nothing}
 use Rattle.table.specs.Table.{of_mark}
 use Rattle.lines.specs.Lines.{fixed_text}
 use Rattle.lines.specs.declared.Digester.{Digester}
 use Rattle.lines.specs.declared.Fixed.{Fixed}
 use Rattle.lines.specs.declared.Fixed.TheVariants as fixed
 use Rattle.parser.specs.Parser.{is_digit, value, run_at, digits_at, line_ending, ended_run, at_found, numeric_error, prompt_from}
-use Rattle.parser.specs.declared.Run.{Run}
-use Rattle.parser.specs.declared.Numeric.{Numeric}
-use Rattle.parser.specs.declared.Numeric.TheVariants as numeric
 use Rattle.answers.specs.declared.Kind.{Kind}
 use Rattle.answers.specs.declared.Kind.TheVariants as kind
 use Rattle.answers.specs.declared.Answer.{Answer}
 use Rattle.answers.specs.Answer.{none, number, has_number, numbered, stored, is_found}
-use Rattle.items.specs.declared.Tried.{Tried}
-use Rattle.items.specs.declared.Tried.TheVariants as tries
 use Rattle.items.specs.Rules.{or_else, skipped, kind_of, line_success, connect_at, first_connect, connected, connect_success, prompt_tried, heads, numeric_tried, numeric_errors, error_lines, line_tried, line_errors, not_allowed, tried}
 use Rattle.digest.specs.Digest.{retries, again, after, digest_in}
 use Rattle.digest.specs.Step.{TriedHas, either_has, first_has, by_length, rest_shorter, digest_step}
-use Rattle.writer.specs.declared.Given.{Given}
-use Rattle.writer.specs.declared.Given.TheVariants.{None, Is}
 use Rattle.sayable.specs.Sayable.{Sayable, cme, cms, error, no_carrier, busy, no_answer, no_dialtone, greater, sign}
 
 -- all kinds but None, Ok, unknown and not allowed
@@ -49,16 +40,16 @@ is_other kind.Custom = true
 is_other kind.Notice = true
 
 -- a kind's number as it is handed in
-abbrev pub given_of : Kind → ℕ → Given
-given_of k n = if has_number k then Is n else None
+abbrev pub given_of : Kind → ℕ → Option ℕ
+given_of k n = if has_number k then Some n else None
 
 abbrev pub Told : Answer → Type 0
-Told a = is_other a.kind ≡ true → (a.len ≡ 0) × Sayable a.kind (given_of a.kind a.number) []
+Told a = is_other a.kind ≡ true → (a.payload.len ≡ 0) × Sayable a.kind (given_of a.kind a.number) []
 
 given_stored : (k : Kind) (n : ℕ) → given_of k n ≡ given_of k (stored (numbered k n))
 given_stored k n = go (has_number k)
   where
-    go : (b : Bool) → (if b then Is n else None) ≡ (if b then Is (stored (if b then number n else none)) else None)
+    go : (b : Bool) → (if b then Some n else None) ≡ (if b then Some (stored (if b then number n else none)) else None)
     go true = refl
     go false = refl
 
@@ -66,21 +57,21 @@ silent : {A : Type 0} → ◌≡◌ {A = Bool} false true → A
 silent h = absurd (false_true h refl)
 
 -- a code is at most 65,535
-abbrev Small : Numeric → Type 0
-Small (numeric.Is d) = d.code ≤ 65535
-Small numeric.Nothing = Unit {0}
+abbrev Small : Option Digits → Type 0
+Small (Some d) = d.code ≤ 65535
+Small None = Unit {0}
 
 run_small : (s : List ℕ) (a : ℕ) → Small (ended_run s a (digits_at s a))
 unfolding ended_run run_at
 run_small s a =
-    ways (λ (r : Run). Small (ended_run s a r)) (leb (value 0 (drop a s)) 65535)
+    ways (λ (r : Option (ℕ × ℕ)). Small (ended_run s a r)) (leb (value 0 (drop a s)) 65535)
     (λ q. ways Small (ltb a (past is_digit s a) && ltb 0 (line_ending s (past is_digit s a))) (λ _. leb-true (value 0 (drop a s)) 65535 q) (λ _. tt))
     (λ q. tt)
 
-found_small : (h s : List ℕ) (r : Found) → Small (at_found h s r)
+found_small : (h s : List ℕ) (r : Option ℕ) → Small (at_found h s r)
 unfolding at_found
-found_small h s (At p) = ways Small (stands h s p) (λ q. run_small s (past (is_blank blanks.Run) s (p + length h))) (λ q. tt)
-found_small h s Nothing = tt
+found_small h s (Some p) = ways Small (stands h s p) (λ q. run_small s (past (is_blank blanks.Run) s (p + length h))) (λ q. tt)
+found_small h s None = tt
 
 -- a line or a head, with the number n where its kind has one
 fixed_told : (l : Fixed) (n : ℕ) → n ≤ 65535 → is_other (kind_of l) ≡ true → Sayable (kind_of l) (given_of (kind_of l) n) []
@@ -100,34 +91,34 @@ fixed_told fixed.ConnectText n h q = silent q
 
 -- the rules, one by one
 module _ (s : List ℕ) (e : ℕ) where
-  ok_told : (r : Found) → TriedHas Told (line_success s e fixed.Ok r)
+  ok_told : (r : Option ℕ) → TriedHas Told (line_success s e fixed.Ok r)
   unfolding line_success
-  ok_told (At p) = silent
-  ok_told Nothing = tt
+  ok_told (Some p) = silent
+  ok_told None = tt
 
-  connected_told : (p : ℕ) (r : Found) → TriedHas Told (connected s e p r)
+  connected_told : (p : ℕ) (r : Option ℕ) → TriedHas Told (connected s e p r)
   unfolding connected
-  connected_told p (At end) = silent
-  connected_told p Nothing = tt
+  connected_told p (Some end) = silent
+  connected_told p None = tt
 
-  connect_told : (d : Digester) (r : Found) → TriedHas Told (connect_success d s e r)
+  connect_told : (d : Digester) (r : Option ℕ) → TriedHas Told (connect_success d s e r)
   unfolding connect_success
-  connect_told d (At p) = connected_told p (connect_at d s p)
-  connect_told d Nothing = tt
+  connect_told d (Some p) = connected_told p (connect_at d s p)
+  connect_told d None = tt
 
-  prompt_told : (b : Bool) (c : ℕ) → Sayable kind.Prompt (Is c) [] → TriedHas Told (prompt_tried b c s)
+  prompt_told : (b : Bool) (c : ℕ) → Sayable kind.Prompt (Some c) [] → TriedHas Told (prompt_tried b c s)
   unfolding prompt_tried
   prompt_told b c w = ways (TriedHas Told) b (λ q h. (refl, w)) (λ q. tt)
 
-  numeric_told : (h : Fixed) (r : Numeric) → Small r → TriedHas Told (numeric_tried h r)
+  numeric_told : (h : Fixed) (r : Option Digits) → Small r → TriedHas Told (numeric_tried h r)
   unfolding numeric_tried
-  numeric_told h (numeric.Is d) w = λ q. (refl, subst (λ (g : Given). Sayable (kind_of h) g []) (given_stored (kind_of h) d.code) (fixed_told h d.code w q))
-  numeric_told h numeric.Nothing w = tt
+  numeric_told h (Some d) w = λ q. (refl, subst (λ (g : Option ℕ). Sayable (kind_of h) g []) (given_stored (kind_of h) d.code) (fixed_told h d.code w q))
+  numeric_told h None w = tt
 
-  line_told : (l : Fixed) (r : Found) → TriedHas Told (line_tried l r)
+  line_told : (l : Fixed) (r : Option ℕ) → TriedHas Told (line_tried l r)
   unfolding line_tried
-  line_told l (At p) = λ q. (refl, fixed_told l 0 (omega arith) q)
-  line_told l Nothing = tt
+  line_told l (Some p) = λ q. (refl, fixed_told l 0 (omega arith) q)
+  line_told l None = tt
 
   na_told : TriedHas Told (not_allowed s e)
   unfolding not_allowed
@@ -148,10 +139,10 @@ again_told : (e : ℕ) (r : Answer) → Told r → Told (again e r)
 unfolding again
 again_told e r h = ways Told (is_found r) (λ q. h) (λ q. silent)
 
-after_told : (s : List ℕ) (f : List ℕ → Answer) (e : ℕ) (t : Tried) → TriedHas Told t → (retries s e ≡ true → Told (f (drop (e + 2) s))) → Told (after s f e t)
+after_told : (s : List ℕ) (f : List ℕ → Answer) (e : ℕ) (t : Option Answer) → TriedHas Told t → (retries s e ≡ true → Told (f (drop (e + 2) s))) → Told (after s f e t)
 unfolding after
-after_told s f e (tries.Done a) w g = w
-after_told s f e tries.Next w g = ways Told (retries s e) (λ q. again_told e (f (drop (e + 2) s)) (g q)) (λ q. silent)
+after_told s f e (Some a) w g = w
+after_told s f e None w g = ways Told (retries s e) (λ q. again_told e (f (drop (e + 2) s)) (g q)) (λ q. silent)
 
 pub digest_told : (d : Digester) (s : List ℕ) → Told (digest_in d [] s)
 digest_told d = by_length (λ s. Told (digest_in d [] s)) one

@@ -3,16 +3,14 @@
 #![tactic(auto)]
 
 use answers::Kind;
-use data::Filled;
-use fields::{Amount, LENGTH, Memory};
+use fields::{LENGTH, Memory};
 use std::io;
-use words::Named;
-use writer::{Given, Said};
+use writer::SayError;
 
 // The kind and the number of a line, or what isn't one.
 #[derive(Clone, Copy)]
 enum Asked {
-    For(Kind, Given),
+    For(Kind, Option<u32>),
     Bad,
 }
 
@@ -21,17 +19,17 @@ fn asked_of(line: &[u8]) -> Asked {
     if line.len() == LENGTH || fields::parts(line, b' ') != 6 {
         return Asked::Bad;
     }
-    let Named::Is(kind) = words::kind_named(fields::part_of(line, 2, b' ')) else {
+    let Some(kind) = words::kind_named(fields::part_of(line, 2, b' ')) else {
         return Asked::Bad;
     };
     let s = fields::part_of(line, 3, b' ');
     if fields::is_none(s) {
-        return Asked::For(kind, Given::None);
+        return Asked::For(kind, None);
     }
-    let Amount::Is(n) = fields::number(s, fields::MOST) else {
+    let Some(n) = fields::number(s, fields::MOST) else {
         return Asked::Bad;
     };
-    Asked::For(kind, Given::Is(n))
+    Asked::For(kind, Some(n))
 }
 
 // Writes the answer, and says how many bytes it has with all of the output memory, or the refusal.
@@ -39,25 +37,25 @@ fn do_say(
     rt: &impl Print,
     table: &[u8],
     kind: Kind,
-    number: Given,
+    number: Option<u32>,
     payload: &[u8],
     mem: &mut [u8],
     out: &mut Memory,
     at: usize,
 ) -> io::Result<usize> {
     match writer::say(table, kind, number, payload, mem) {
-        Said::Is(n) => {
+        Ok(n) => {
             let head = say::words(rt, out, at, b"said")?;
             let long = say::and_number(rt, out, head, n as u64)?;
             let used = say::memory(rt, out, long, mem)?;
             say::words(rt, out, used, b"\n")
         }
-        Said::BadTable(k) => {
+        Err(SayError::BadTable(k)) => {
             let used = say::refusal_of_record(rt, out, at, k)?;
             say::words(rt, out, used, b"\n")
         }
-        Said::Unread => say::words(rt, out, at, b"refused 16\n"),
-        Said::Short => say::words(rt, out, at, b"refused 17\n"),
+        Err(SayError::Unread) => say::words(rt, out, at, b"refused 16\n"),
+        Err(SayError::Short) => say::words(rt, out, at, b"refused 17\n"),
     }
 }
 
@@ -66,7 +64,7 @@ fn cut_say(
     rt: &impl Print,
     table: &[u8],
     kind: Kind,
-    number: Given,
+    number: Option<u32>,
     payload: &[u8],
     mem: &mut [u8],
     n: usize,
@@ -92,13 +90,13 @@ pub fn say_case(
     let Asked::For(kind, number) = asked_of(line) else {
         return say::bad_line(rt, out, at);
     };
-    let Filled::Is(t) = data::data(fields::part_of(line, 1, b' '), table) else {
+    let Some(t) = data::data(fields::part_of(line, 1, b' '), table) else {
         return say::bad_line(rt, out, at);
     };
-    let Filled::Is(p) = data::data(fields::part_of(line, 4, b' '), payload) else {
+    let Some(p) = data::data(fields::part_of(line, 4, b' '), payload) else {
         return say::bad_line(rt, out, at);
     };
-    let Filled::Is(n) = data::data(fields::part_of(line, 5, b' '), mem) else {
+    let Some(n) = data::data(fields::part_of(line, 5, b' '), mem) else {
         return say::bad_line(rt, out, at);
     };
     cut_say(

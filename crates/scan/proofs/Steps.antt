@@ -1,5 +1,5 @@
 -- The steps of the pass as the code takes them. Rests on the table's rule and on the theorem.
-use Rattle.std.specs.Prelude.{◌≡◌, refl, ◌⊎◌, true, List, [], ℕ, zero, suc, ◌+◌, ◌-◌, ◌≤◌, ◌<◌, length, get_or, drop, set, replicate, ltb}
+use Rattle.std.specs.Prelude.{Some, None, ◌≡◌, refl, ◌⊎◌, true, List, [], ℕ, zero, suc, ◌+◌, ◌-◌, ◌≤◌, ◌<◌, length, get_or, drop, set, replicate, ltb}
 use Rattle.std.proofs.Math.Path.{sym, ap}
 use Rattle.std.proofs.Common.{ap₂, ◌∙◌, inl, inr, add-one, add-zero, eq-or-lt_of_le, arith, drop_of_length-le, drop-cons}
 use Rattle.std.proofs.Math.Bool.{and-false}
@@ -9,7 +9,6 @@ use Rattle.text.specs.Bytes.{bytes}
 use Rattle.text.specs.Logic.{false_true}
 use Rattle.text.specs.Text.{begins, stands, find_in}
 use Rattle.text.specs.Laws.{stands_byte, found_at, found_none}
-use Rattle.text.specs.declared.Found.TheVariants.{At, Nothing}
 use Rattle.scan.specs.Table.{class_of, table, next, last_of, finished}
 use Rattle.scan.proofs.Rule.{next_state, start_stays}
 use Rattle.scan.specs.Scan.{noted, read, run, state_of, extended, fresh, scanned, first_ends, Ahead}
@@ -61,14 +60,14 @@ cr_stands : (s : List ℕ) (j : ℕ) → j < length s → get_or s j 0 ≡ 13 �
 unfolding stands begins
 cr_stands s j h e = rw (drop-cons s j 0 h, eq-eqb (get_or s j 0) 13 e)
 
-pub cr_within : (s : List ℕ) (i p : ℕ) → find_in (bytes "\r") s i ≡ At p → p < length s
+pub cr_within : (s : List ℕ) (i p : ℕ) → find_in (bytes "\r") s i ≡ Some p → p < length s
 cr_within s i p e = (stands_byte 13 [] s p (found_at (bytes "\r") s i p e).here).0
 
 module _ (q : ℕ) (s : List ℕ) (i : ℕ) where
   pub ahead_here : i ≤ length s → Ahead q s i i
   ahead_here h = record { after = omega arith; within = h; plain = λ j a b e. absurd (omega arith); start = λ g. absurd (omega arith) }
 
-  pub ahead_at : q ≡ 0 → (p r : ℕ) → find_in (bytes "\r") s i ≡ At p → r ≡ p → Ahead q s i r
+  pub ahead_at : q ≡ 0 → (p r : ℕ) → find_in (bytes "\r") s i ≡ Some p → r ≡ p → Ahead q s i r
   ahead_at z p r e w =
       let f = found_at (bytes "\r") s i p e in
       let l = cr_within s i p e in
@@ -79,7 +78,7 @@ module _ (q : ℕ) (s : List ℕ) (i : ℕ) where
         start = λ g. z;
       }
 
-  pub ahead_end : q ≡ 0 → i ≤ length s → find_in (bytes "\r") s i ≡ Nothing → Ahead q s i (length s)
+  pub ahead_end : q ≡ 0 → i ≤ length s → find_in (bytes "\r") s i ≡ None → Ahead q s i (length s)
   ahead_end z h e =
       record {
         after = h;

@@ -1,6 +1,6 @@
 -- What the findings say: after any bytes, the state is the longest beginning still open, and each end is that of the text's first occurrence.
 -- Rests on the table's rule, on what the beginnings say, and on text's laws of `find_in`.
-use Rattle.std.specs.Prelude.{◌≡◌, ◌⊎◌, Bool, ◌&&◌, ℕ, zero, suc, ◌+◌, ◌<◌, take, drop, ltb}
+use Rattle.std.specs.Prelude.{Option, Some, None, ◌≡◌, ◌⊎◌, Bool, ◌&&◌, ℕ, zero, suc, ◌+◌, ◌<◌, take, drop, ltb}
 use Rattle.std.proofs.Math.Path.{refl, sym, ap}
 use Rattle.std.proofs.Common.{◌∙◌, inl, inr, add-zero, eq-or-lt_of_le, le_of_suc-le-suc, not-suc-le-zero, length-drop, take-append-drop, ext_get_or, get_or-set_same}
 use Rattle.std.proofs.Math.Bool.{true, false, and-false}
@@ -15,8 +15,6 @@ use Rattle.outcome.specs.Laws.{ways}
 use Rattle.text.specs.Logic.{false_true, not_true_false}
 use Rattle.text.specs.Text.{begins, stands, find_in}
 use Rattle.text.specs.Laws.{found_at, found_none, find_is, find_drop, find_late, find_behind, moved, stands_fits, stands_behind, begins_self, begins_whole}
-use Rattle.text.specs.declared.Found.{Found}
-use Rattle.text.specs.declared.Found.TheVariants.{At, Nothing}
 use Rattle.scan.specs.Words.{word, words, texts, longest, longest_of, text_of}
 use Rattle.scan.specs.Table.{finished}
 use Rattle.scan.proofs.Rule.{rule, next_state}
@@ -54,26 +52,26 @@ module _ (t w : List ℕ) (b d : ℕ) (pos : 0 < length t) where
   longer : length (w ++ (b ∷ [])) ≡ length w + 1
   longer = length-append w (b ∷ [])
 
-  had : (p : ℕ) → find_in t w 0 ≡ At p → end_in d t (w ++ (b ∷ [])) ≡ end_in d t w
+  had : (p : ℕ) → find_in t w 0 ≡ Some p → end_in d t (w ++ (b ∷ [])) ≡ end_in d t w
   unfolding end_in
-  had p e = ap (λ (r : Found). end_of t (moved d r)) (find_behind t w (b ∷ []) 0 p (stands_fits t w p pos (found_at t w 0 p e).here) e ∙ sym e)
+  had p e = ap (λ (r : Option ℕ). end_of t (moved d r)) (find_behind t w (b ∷ []) 0 p (stands_fits t w p pos (found_at t w 0 p e).here) e ∙ sym e)
 
-  comes : find_in t w 0 ≡ Nothing → EndsIn (w ++ (b ∷ [])) t → end_in d t (w ++ (b ∷ [])) ≡ d + length w + 1
+  comes : find_in t w 0 ≡ None → EndsIn (w ++ (b ∷ [])) t → end_in d t (w ++ (b ∷ [])) ≡ d + length w + 1
   unfolding end_in end_of moved
   comes e r =
       let l : length r.front + length t ≡ length w + 1 = sym (length-append r.front t) ∙ sym (ap length r.is) ∙ longer in
-      let f = find_is t (w ++ (b ∷ [])) 0 (At (length r.front))
+      let f = find_is t (w ++ (b ∷ [])) 0 (Some (length r.front))
       (record {
         after = omega arith;
         here = ends_stands t (w ++ (b ∷ [])) r.front r.is;
         first = λ j g h. stands_behind t w (b ∷ []) j (omega arith) ∙ found_none t w 0 e j g;
       }) in
-      ap (λ (r : Found). end_of t (moved d r)) f ∙ omega arith
+      ap (λ (r : Option ℕ). end_of t (moved d r)) f ∙ omega arith
 
-  stays : find_in t w 0 ≡ Nothing → (EndsIn (w ++ (b ∷ [])) t → ⊥) → end_in d t (w ++ (b ∷ [])) ≡ 0
+  stays : find_in t w 0 ≡ None → (EndsIn (w ++ (b ∷ [])) t → ⊥) → end_in d t (w ++ (b ∷ [])) ≡ 0
   unfolding end_in end_of moved
   stays e n =
-      ap (λ (r : Found). end_of t (moved d r)) (find_is t (w ++ (b ∷ [])) 0 Nothing (λ j g. not_true_false (stands t (w ++ (b ∷ [])) j) (λ s. not_at j s (eq-or-lt_of_le (stands_fits t (w ++ (b ∷ [])) j pos s)))))
+      ap (λ (r : Option ℕ). end_of t (moved d r)) (find_is t (w ++ (b ∷ [])) 0 None (λ j g. not_true_false (stands t (w ++ (b ∷ [])) j) (λ s. not_at j s (eq-or-lt_of_le (stands_fits t (w ++ (b ∷ [])) j pos s)))))
     where
       not_at : (j : ℕ) → stands t (w ++ (b ∷ [])) j ≡ true → (j + length t ≡ length (w ++ (b ∷ []))) ⊎ (j + length t < length (w ++ (b ∷ []))) → ⊥
       not_at j s (inl q) = n (stands_ends t (w ++ (b ∷ [])) j q s)
@@ -99,29 +97,29 @@ module _ (l : List ℕ) (n : ℕ) where
 
 -- one more byte
 module _ (d : ℕ) (w : List ℕ) (f : Findings) (b : ℕ) (h : Told d w f) where
-  end_read : (k : ℕ) → k < 11 → (r : Found) → find_in (text_of k) w 0 ≡ r → (c : Bool) → eqb (finished f.state b) k ≡ c → get_or (noted f.ends (finished f.state b) (f.seen + 1)) k 0 ≡ end_in d (text_of k) (w ++ (b ∷ []))
+  end_read : (k : ℕ) → k < 11 → (r : Option ℕ) → find_in (text_of k) w 0 ≡ r → (c : Bool) → eqb (finished f.state b) k ≡ c → get_or (noted f.ends (finished f.state b) (f.seen + 1)) k 0 ≡ end_in d (text_of k) (w ++ (b ∷ []))
   unfolding end_in end_of moved
-  end_read k g (At p) e true q =
+  end_read k g (Some p) e true q =
       let m : finished f.state b ≡ k = eqb-true (finished f.state b) k q in
-      let z : get_or f.ends k 0 ≡ d + p + length (text_of k) = h.ends k g ∙ ap (λ (r : Found). end_of (text_of k) (moved d r)) e in
+      let z : get_or f.ends k 0 ≡ d + p + length (text_of k) = h.ends k g ∙ ap (λ (r : Option ℕ). end_of (text_of k) (moved d r)) e in
       ap (λ (i : ℕ). get_or (noted f.ends i (f.seen + 1)) k 0) m
       ∙ noted_had f.ends (f.seen + 1) k (λ y. absurd (omega (arith, text_some k g)))
       ∙ h.ends k g
       ∙ sym (had (text_of k) w b d (text_some k g) p e)
-  end_read k g (At p) e false q =
+  end_read k g (Some p) e false q =
       noted_other f.ends (f.seen + 1) (finished f.state b) k (eqb-false (finished f.state b) k q)
       ∙ h.ends k g
       ∙ sym (had (text_of k) w b d (text_some k g) p e)
-  end_read k g Nothing e true q =
+  end_read k g None e true q =
       let m : finished f.state b ≡ k = eqb-true (finished f.state b) k q in
-      let z : get_or f.ends k 0 ≡ 0 = h.ends k g ∙ ap (λ (r : Found). end_of (text_of k) (moved d r)) e in
+      let z : get_or f.ends k 0 ≡ 0 = h.ends k g ∙ ap (λ (r : Option ℕ). end_of (text_of k) (moved d r)) e in
       ap (λ (i : ℕ). get_or (noted f.ends i (f.seen + 1)) k 0) m
       ∙ noted_first f.ends (f.seen + 1) k g h.long z
       ∙ ap (λ (i : ℕ). i + 1) h.seen
       ∙ sym (comes (text_of k) w b d (text_some k g) e (finish_here w f.state b h.range h.state k g m))
-  end_read k g Nothing e false q =
+  end_read k g None e false q =
       let n = eqb-false (finished f.state b) k q in
-      let z : get_or f.ends k 0 ≡ 0 = h.ends k g ∙ ap (λ (r : Found). end_of (text_of k) (moved d r)) e in
+      let z : get_or f.ends k 0 ≡ 0 = h.ends k g ∙ ap (λ (r : Option ℕ). end_of (text_of k) (moved d r)) e in
       noted_other f.ends (f.seen + 1) (finished f.state b) k n
       ∙ z
       ∙ sym (stays (text_of k) w b d (text_some k g) e (λ r. n (finish_only w f.state b h.range h.state k g r)))
@@ -150,7 +148,7 @@ told_fresh d =
       range = omega arith;
       state = refl;
       long = refl;
-      ends = λ k g. get_or-replicate 11 k 0 0 g ∙ sym (ap (λ (r : Found). end_of (text_of k) (moved d r)) (find_late (text_of k) [] 0 (text_some k g) (omega (arith, text_some k g))));
+      ends = λ k g. get_or-replicate 11 k 0 0 g ∙ sym (ap (λ (r : Option ℕ). end_of (text_of k) (moved d r)) (find_late (text_of k) [] 0 (text_some k g) (omega (arith, text_some k g))));
     }
 
 -- what a pass over the bytes from d on found

@@ -1,8 +1,6 @@
 -- One pass over the bytes: what was found so far, what the next byte adds, and what it all comes to.
-use Rattle.std.specs.Prelude.{◌≡◌, ◌&&◌, List, [], ◌∷◌, map, ℕ, ◌+◌, ◌≤◌, ◌<◌, length, get_or, drop, set, replicate, eqb, ltb, if◌then◌else◌}
+use Rattle.std.specs.Prelude.{Option, Some, None, ◌≡◌, ◌&&◌, List, [], ◌∷◌, map, ℕ, ◌+◌, ◌≤◌, ◌<◌, length, get_or, drop, set, replicate, eqb, ltb, if◌then◌else◌}
 use Rattle.text.specs.Text.{find_in}
-use Rattle.text.specs.declared.Found.{Found}
-use Rattle.text.specs.declared.Found.TheVariants.{At, Nothing}
 use Rattle.scan.specs.Words.{texts}
 use Rattle.scan.specs.Table.{next, finished}
 use Rattle.scan.specs.declared.Findings.{Findings}
@@ -37,9 +35,9 @@ unfoldable pub scanned : ℕ → List ℕ → Findings
 scanned d s = run (fresh d) (drop d s)
 
 -- where what was found ends, 0 for nothing
-unfoldable pub end_of : List ℕ → Found → ℕ
-end_of t (At p) = p + length t
-end_of t Nothing = 0
+unfoldable pub end_of : List ℕ → Option ℕ → ℕ
+end_of t (Some p) = p + length t
+end_of t None = 0
 
 -- where the first occurrence of each text from d on ends
 unfoldable pub first_ends : ℕ → List ℕ → List ℕ

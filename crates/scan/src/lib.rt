@@ -6,7 +6,6 @@ ghost use Rattle.std.specs.Prelude.{◌≡◌, ◌≤◌, ◌<◌, length, drop}
 ghost use Rattle.scan.specs.Table.{table, class_of, next, finished};
 ghost use Rattle.scan.specs.Scan.{noted, run, state_of, extended, scanned, first_ends, Ahead};
 
-use text::Found;
 
 // How many texts there are. Eight are lines, which end in LF, and three are heads, which end in a colon.
 pub const TEXTS: usize = 11;
@@ -260,7 +259,7 @@ fn ahead(q: usize, s: &[u8], from: usize) -> usize
     if q != 0 {
         return from;
     }
-    if let Found::At(p) = seek::find_cr(s, from) {
+    if let Some(p) = seek::find_cr(s, from) {
         return p;
     }
     s.len()

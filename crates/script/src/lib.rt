@@ -4,7 +4,6 @@
 #![tactic(auto)]
 
 use answers::Kind;
-use data::Filled;
 use fields::Memory;
 use findings::NUMBERS;
 use notation::form::{Form, Start};
@@ -205,19 +204,19 @@ fn load(
     slot_mem: &mut Memory,
     queue_mem: &mut Memory,
 ) -> Loaded {
-    let Filled::Is(t) = data::data(fields::part_of(line, k, b' '), table) else {
+    let Some(t) = data::data(fields::part_of(line, k, b' '), table) else {
         return Loaded::Bad;
     };
     let second = fields::plus(k, 1);
-    let Filled::Is(b) = data::data(fields::part_of(line, second, b' '), buf) else {
+    let Some(b) = data::data(fields::part_of(line, second, b' '), buf) else {
         return Loaded::Bad;
     };
     let third = fields::plus(k, 2);
-    let Filled::Is(s) = data::data(fields::part_of(line, third, b' '), slot_mem) else {
+    let Some(s) = data::data(fields::part_of(line, third, b' '), slot_mem) else {
         return Loaded::Bad;
     };
     let fourth = fields::plus(k, 3);
-    let Filled::Is(q) = data::data(fields::part_of(line, fourth, b' '), queue_mem) else {
+    let Some(q) = data::data(fields::part_of(line, fourth, b' '), queue_mem) else {
         return Loaded::Bad;
     };
     Loaded::Is(Lengths {

@@ -1,6 +1,6 @@
 -- What lets a search pass over a block: where two of its bytes don't stand, or all bytes are above it, a text doesn't; and the skip, where all are spaces.
 -- Rests on text's laws of `stands` and `find_in`, and its steps of `past`.
-use Rattle.std.specs.Prelude.{◌≡◌, refl, Bool, true, ◌||◌, List, [], ◌∷◌, length, leb}
+use Rattle.std.specs.Prelude.{Option, Some, None, ◌≡◌, refl, Bool, true, ◌||◌, List, [], ◌∷◌, length, leb}
 use Rattle.std.proofs.Math.Path.{sym, ap}
 use Rattle.std.proofs.Common.{◌∙◌, inl, inr, ⊎_elim, add-zero, drop-cons}
 use Rattle.std.proofs.Math.Bool.{false}
@@ -14,8 +14,6 @@ use Rattle.text.specs.Steps.{past_more, past_stop, find_here, find_next}
 use Rattle.text.specs.Bytes.{bytes}
 use Rattle.text.specs.Laws.{Says, find_says, find_is, stands_byte, stands_get_d}
 use Rattle.text.specs.declared.Blanks.TheVariants.{Space}
-use Rattle.text.specs.declared.Found.{Found}
-use Rattle.text.specs.declared.Found.TheVariants.{At, Nothing}
 use Rattle.seek.specs.Seek.{both_at, space_at, any_of, all_of, or_next, Later, NoneBelow, ColumnAbove, IfCr, Less, FirstIn}
 
 pub or-false : (a b : Bool) → a || b ≡ false → (a ≡ false) × (b ≡ false)
@@ -49,17 +47,17 @@ pub byte_none : (t s : List ℕ) (i k : ℕ) → k < length t → (get_or s (i +
 byte_none t s i k h e = sym (not_true_false (stands t s i) (λ p. e (stands_get_d t s i k p h)))
 
 -- one turn: past w and p to a block that ends at stop, in which r was found
-module _ (t s : List ℕ) (from i e w p stop : ℕ) (inv : find_in t s from ≡ find_in t s i) (a : Later (find_in t s) i e w) (b : Later (find_in t s) w e p) (r : Found) (c : find_in t s p ≡ or_next r (find_in t s stop)) where
+module _ (t s : List ℕ) (from i e w p stop : ℕ) (inv : find_in t s from ≡ find_in t s i) (a : Later (find_in t s) i e w) (b : Later (find_in t s) w e p) (r : Option ℕ) (c : find_in t s p ≡ or_next r (find_in t s stop)) where
   up_to_block : find_in t s from ≡ or_next r (find_in t s stop)
   up_to_block = inv ∙ a.same ∙ b.same ∙ c
 
-  pub turn_found : (q : ℕ) → r ≡ At q → At q ≡ find_in t s from
+  pub turn_found : (q : ℕ) → r ≡ Some q → Some q ≡ find_in t s from
   unfolding or_next
-  turn_found q e = sym (up_to_block ∙ ap (λ (x : Found). or_next x (find_in t s stop)) e)
+  turn_found q e = sym (up_to_block ∙ ap (λ (x : Option ℕ). or_next x (find_in t s stop)) e)
 
-  pub turn_none : r ≡ Nothing → find_in t s from ≡ find_in t s stop
+  pub turn_none : r ≡ None → find_in t s from ≡ find_in t s stop
   unfolding or_next
-  turn_none e = up_to_block ∙ ap (λ (x : Found). or_next x (find_in t s stop)) e
+  turn_none e = up_to_block ∙ ap (λ (x : Option ℕ). or_next x (find_in t s stop)) e
 
 -- one more byte, where l is neither above it nor above what bounds those before it
 pub one_more_lem : (s : List ℕ) (a n m l : ℕ) → NoneBelow s a n m → l ≤ m → l ≤ get_or s (a + n) 0 → NoneBelow s a (n + 1) l
@@ -118,12 +116,12 @@ above_none b s i n m w h q = none_passed b s i n w (λ j g e. absurd (omega (ari
 between : (t s : List ℕ) (i e r : ℕ) → i ≤ e → e ≤ r → find_in t s i ≡ find_in t s r → find_in t s i ≡ find_in t s e
 between t s i e r h g w = sym (find_is t s e (find_in t s i) (go (find_in t s i) (find_says t s i) (rw w (find_says t s r))))
   where
-    go : (x : Found) → Says t s i x → Says t s r x → Says t s e x
-    go (At p) a b = record { after = omega (arith, b.after); here = a.here; first = λ j l m. a.first j (omega arith) m }
-    go Nothing a b = λ j l. a j (omega arith)
+    go : (x : Option ℕ) → Says t s i x → Says t s r x → Says t s e x
+    go (Some p) a b = record { after = omega (arith, b.after); here = a.here; first = λ j l m. a.first j (omega arith) m }
+    go None a b = λ j l. a j (omega arith)
 
 -- a text of one byte, where that byte is
-pub byte_here : (b : ℕ) (s : List ℕ) (i : ℕ) → i < length s → get_or s i 0 ≡ b → find_in (b ∷ []) s i ≡ At i
+pub byte_here : (b : ℕ) (s : List ℕ) (i : ℕ) → i < length s → get_or s i 0 ≡ b → find_in (b ∷ []) s i ≡ Some i
 unfolding stands begins
 byte_here b s i h e = find_here (b ∷ []) s i (rw (drop-cons s i 0 h, eq-eqb (get_or s i 0) b e))
 
@@ -173,7 +171,7 @@ module _ (s : List ℕ) (a n m : ℕ) (w : FirstIn s a n m) (h : a + n ≤ lengt
   pub first_none : m ≡ 255 → find_in (bytes "\r") s a ≡ find_in (bytes "\r") s (a + n)
   first_none e = none_passed 13 s a n h (λ j l. w.none j l (omega (arith, e)))
 
-  pub first_found : (m ≡ 255 → ⊥) → find_in (bytes "\r") s a ≡ At (a + m)
+  pub first_found : (m ≡ 255 → ⊥) → find_in (bytes "\r") s a ≡ Some (a + m)
   first_found e = ⊎_elim (λ (z : m ≡ 255). absurd (e z)) (λ (z : (m < n) × (get_or s (a + m) 0 ≡ 13)). none_passed 13 s a m (omega (arith, z.0)) (λ j l. w.none j (omega (arith, z.0)) l) ∙ byte_here 13 s (a + m) (omega (arith, z.0)) z.1) w.there
 
 -- the answer from i on is that from p on, and from the less of p and e

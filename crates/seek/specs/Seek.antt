@@ -1,7 +1,5 @@
 -- What the steps of a search by blocks promise one another. The public functions promise `text`'s definitions, `find_in` and `past`, and nothing here.
-use Rattle.std.specs.Prelude.{◌≡◌, ◌⊎◌, Bool, true, false, ◌&&◌, ◌||◌, List, ℕ, zero, suc, ◌+◌, ◌*◌, ◌≤◌, ◌<◌, get_or, eqb}
-use Rattle.text.specs.declared.Found.{Found}
-use Rattle.text.specs.declared.Found.TheVariants.{At, Nothing}
+use Rattle.std.specs.Prelude.{Option, Some, None, ◌≡◌, ◌⊎◌, Bool, true, false, ◌&&◌, ◌||◌, List, ℕ, zero, suc, ◌+◌, ◌*◌, ◌≤◌, ◌<◌, get_or, eqb}
 
 -- b stands j bytes on from a, and c j bytes on from d
 unfoldable pub both_at : List ℕ → ℕ → ℕ → ℕ → ℕ → ℕ → Bool
@@ -22,12 +20,12 @@ all_of f zero = true
 all_of f (suc n) = all_of f n && f n
 
 -- what was found, or else what the next search finds
-unfoldable pub or_next : Found → Found → Found
-or_next (At p) r = At p
-or_next Nothing r = r
+unfoldable pub or_next : Option ℕ → Option ℕ → Option ℕ
+or_next (Some p) r = Some p
+or_next None r = r
 
 -- r is a place from i on, not past e, with the same answer
-pub record Later (answer : ℕ → Found) (i e r : ℕ) : Type 0 where
+pub record Later (answer : ℕ → Option ℕ) (i e r : ℕ) : Type 0 where
   pub after : i ≤ r
   pub within : r ≤ e
   pub same : answer i ≡ answer r

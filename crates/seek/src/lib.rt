@@ -8,7 +8,7 @@ ghost use Rattle.text.specs.Bytes.{bytes};
 ghost use Rattle.text.specs.Text.{is_blank, past, stands, find_in};
 ghost use Rattle.seek.specs.Seek.{both_at, space_at, any_of, all_of, or_next, Later, NoneBelow, ColumnAbove, IfCr, Less, FirstIn};
 
-use text::{Blanks, Found};
+use text::Blanks;
 
 // Is there a j below n with b at `at` + j and c at `to` + j? It goes through all n, so that a processor may take many at once.
 fn hit(s: &[u8], at: usize, b: u8, to: usize, c: u8, n: usize) -> bool
@@ -53,7 +53,7 @@ fn holds(s: &[u8], p: usize, t: &[u8], k: usize) -> bool
 }
 
 // The first place from `from` on and before e where t stands, one by one.
-fn find_upto(s: &[u8], from: usize, e: usize, t: &[u8], k: usize) -> Found
+fn find_upto(s: &[u8], from: usize, e: usize, t: &[u8], k: usize) -> Option<usize>
     requires inside { k < length t.now }
     requires between { (from ≤ e) × (e + length t.now ≤ length s.now + 1) }
     ensures { find_in t.now s.now from ≡ or_next result (find_in t.now s.now e) }
@@ -61,11 +61,11 @@ fn find_upto(s: &[u8], from: usize, e: usize, t: &[u8], k: usize) -> Found
     let mut p = from;
     while p < e {
         if holds(s, p, t, k) {
-            return Found::At(p);
+            return Some(p);
         }
         p += 1;
     }
-    Found::Nothing
+    None
 }
 
 // The places of a block, and of four, which are passed over at once where none has the two bytes.
@@ -85,7 +85,7 @@ fn block_end(p: usize, e: usize) -> usize
 }
 
 // By blocks, up to the end e of the places where t fits: over those without the two bytes, then one by one through a block that has them.
-fn find_long(s: &[u8], from: usize, e: usize, t: &[u8], k: usize, l: usize) -> Found
+fn find_long(s: &[u8], from: usize, e: usize, t: &[u8], k: usize, l: usize) -> Option<usize>
     requires inside { (k < length t.now) × (l < length t.now) }
     requires between { (from ≤ e) × (e + length t.now ≡ length s.now + 1) }
     ensures { result ≡ find_in t.now s.now from }
@@ -95,19 +95,19 @@ fn find_long(s: &[u8], from: usize, e: usize, t: &[u8], k: usize, l: usize) -> F
         let past = pass(s, i, e, t, k, l, FOUR);
         let p = pass(s, past, e, t, k, l, BLOCK);
         let end = block_end(p, e);
-        if let Found::At(q) = find_upto(s, p, end, t, k) {
-            return Found::At(q);
+        if let Some(q) = find_upto(s, p, end, t, k) {
+            return Some(q);
         }
         i = end;
     }
-    Found::Nothing
+    None
 }
 
 // Inputs shorter than this are better searched place by place: a search by blocks takes its time to start.
 pub const SHORT: usize = 64;
 
 // The first place at or after `from` where t stands in s, letter case exact; where k or l is no byte of t, it is `text::find`.
-pub fn find(s: &[u8], from: usize, t: &[u8], k: usize, l: usize) -> Found
+pub fn find(s: &[u8], from: usize, t: &[u8], k: usize, l: usize) -> Option<usize>
     ensures { result ≡ find_in t.now s.now from }
 {
     if t.len() <= k {
@@ -117,27 +117,27 @@ pub fn find(s: &[u8], from: usize, t: &[u8], k: usize, l: usize) -> Found
         return text::find(s, from, t);
     }
     if s.len() < t.len() {
-        return Found::Nothing;
+        return None;
     }
     let e = s.len() - t.len() + 1;
     if e < from {
-        return Found::Nothing;
+        return None;
     }
     find_long(s, from, e, t, k, l)
 }
 
 // The first place at or after `from` that has the byte, one by one.
-pub fn find_byte(s: &[u8], from: usize, byte: u8) -> Found
+pub fn find_byte(s: &[u8], from: usize, byte: u8) -> Option<usize>
     ensures { result ≡ find_in (byte ∷ []) s.now from }
 {
     let mut i = from;
     while i < s.len() {
         if s[i] == byte {
-            return Found::At(i);
+            return Some(i);
         }
         i += 1;
     }
-    Found::Nothing
+    None
 }
 
 // The bytes that are passed over at once where none is as low as a CR, in rows of 16.
@@ -243,7 +243,7 @@ const EIGHT: usize = 128;
 
 // The first CR at or after `from`, by blocks that get smaller. An answer ends where the input does: the last 64 bytes, which are looked at for the place itself,
 // are left out of the larger blocks, since one that has the CR was looked at in vain.
-fn find_far(s: &[u8], from: usize) -> Found
+fn find_far(s: &[u8], from: usize) -> Option<usize>
     requires { from + 64 ≤ length s.now }
     ensures { result ≡ find_in (bytes "\r") s.now from }
 {
@@ -256,18 +256,18 @@ fn find_far(s: &[u8], from: usize) -> Found
     if j == 255 {
         return find_byte(s, at + FOUR, b'\r');
     }
-    Found::At(at + (j as usize))
+    Some(at + (j as usize))
 }
 
 // The first CR at or after `from`. One that is near is found place by place: the blocks take their time to start.
-pub fn find_cr(s: &[u8], from: usize) -> Found
+pub fn find_cr(s: &[u8], from: usize) -> Option<usize>
     ensures { result ≡ find_in (bytes "\r") s.now from }
 {
     if s.len() <= from {
-        return Found::Nothing;
+        return None;
     }
     if s[from] == b'\r' {
-        return Found::At(from);
+        return Some(from);
     }
     if s.len() - from <= BLOCK {
         return find_byte(s, from, b'\r');

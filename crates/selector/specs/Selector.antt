@@ -20,7 +20,7 @@ use Rattle.selector.specs.declared.Selector.TheVariants.{Verbal, Numeric}
 -- lies in what it consumes; where it found nothing, nothing is finished.
 pub record Trusted (a : Answer) (NothingFinished : Type 0) : Type 0 where
   pub some : is_found a ≡ true → 1 ≤ a.consumed
-  pub payload : is_found a ≡ true → a.place + a.len ≤ a.consumed
+  pub payload : is_found a ≡ true → a.payload.start + a.payload.len ≤ a.consumed
   pub quiet : is_found a ≡ false → NothingFinished
 
 -- All that the ingress knows of a digester under a table: whether it takes the table, which it refuses by 2; what it answers, of which it consumes at most the input

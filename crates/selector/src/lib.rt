@@ -10,9 +10,8 @@ ghost use Rattle.numeric.specs.Numeric as numerics;
 ghost use Rattle.selector.specs.Selector.{choice, digest};
 
 use answers::Answer;
-use digest::Digested;
 use lines::Digester;
-use table::Checked;
+use table::TableError;
 
 // The digesters: one of document 01's lines, which hears the text of a CONNECT line or doesn't (R-3); the one for modems in V0 (R-1).
 #[derive(Clone, Copy)]
@@ -22,17 +21,17 @@ pub enum Selector {
 }
 
 // No table is good in V0 but the empty one; refusal 2 has record number 0 then.
-fn check_empty(table: &[u8]) -> Checked
+fn check_empty(table: &[u8]) -> Result<usize, TableError>
     ensures { tables.outcome result ≡ ruled table.now }
 {
     if 0 < table.len() {
-        return Checked::Faulty(0);
+        return Err(TableError::Faulty(0));
     }
-    Checked::Good(0)
+    Ok(0)
 }
 
 // Does the digester take the table? The number of its records, or the number that refusal 2 answers.
-pub fn check(selector: Selector, table: &[u8]) -> Checked
+pub fn check(selector: Selector, table: &[u8]) -> Result<usize, TableError>
     ensures { tables.outcome result ≡ (choice selector table.now).rules }
 {
     match selector {
@@ -42,18 +41,18 @@ pub fn check(selector: Selector, table: &[u8]) -> Checked
 }
 
 // The refusals of the digester for V0 as those of any digester.
-fn digest_codes(table: &[u8], input: &[u8]) -> Digested
+fn digest_codes(table: &[u8], input: &[u8]) -> Result<Answer, DigestError>
     ensures { digests.outcome result ≡ numerics.digest table.now input.now }
 {
     match numeric::digest(table, input) {
-        numeric::Digested::Is(a) => Digested::Is(a),
-        numeric::Digested::TooLong => Digested::TooLong,
-        numeric::Digested::BadTable => Digested::BadTable(0),
+        Ok(a) => Ok(a),
+        Err(DigestError::TooLong) => Err(DigestError::TooLong),
+        Err(DigestError::BadTable) => Err(DigestError::BadTable(0)),
     }
 }
 
 // What the input was: the chosen digester's answer under the table, or its refusal.
-pub fn digest(selector: Selector, table: &[u8], input: &[u8]) -> Digested
+pub fn digest(selector: Selector, table: &[u8], input: &[u8]) -> Result<Answer, DigestError>
     ensures { digests.outcome result ≡ digest selector table.now input.now }
 {
     match selector {

@@ -1,6 +1,6 @@
 -- The ways out of the slot's calls, each with the tests that led there, what they keep, and that their promises determine them.
 use Rattle.std.proofs.Math.Path.{◌≡◌, refl, sym, ap}
-use Rattle.std.proofs.Common.{◌∙◌, arith}
+use Rattle.std.proofs.Common.{Result, Ok, Err, ◌∙◌, arith}
 use Rattle.std.specs.Prelude.{Bool, true, false, not, List, [], ℕ, ◌≤◌, ◌<◌, length, ltb, eqb}
 use borrow.Author.Tests.{le-ltb, lt-ltb, ltb-true, ltb-false, eq-eqb, ne_eqb}
 use Rattle.text.specs.Logic.{false_true}
@@ -13,34 +13,34 @@ use Rattle.answers.specs.declared.Kind.{Kind}
 use Rattle.answers.specs.declared.Answer.{Answer}
 use Rattle.slot.specs.declared.Held.TheVariants.{Heard, Capacity}
 use Rattle.slot.specs.declared.Slot.{Slot}
-use Rattle.slot.specs.declared.Turned.{Turned}
-use Rattle.slot.specs.declared.Turned.TheVariants as turns
-use Rattle.slot.specs.declared.Reset.{Reset}
-use Rattle.slot.specs.declared.Reset.TheVariants as resets
+use Rattle.slot.specs.declared.SlotError.{SlotError}
+use Rattle.slot.specs.declared.SlotError.TheVariants as turns
+use Rattle.slot.specs.declared.ResetError.{ResetError}
+use Rattle.slot.specs.declared.ResetError.TheVariants as resets
 use Rattle.slot.specs.declared.Looked.{Looked}
 use Rattle.slot.specs.declared.Looked.TheVariants as looks
 use Rattle.slot.specs.Slot.{is_response, carries, new_slot, lost_one, filled, overflowing, freed, with_lost, After, after, signalled, outcome, was_reset, resetting, Reading, reading, was_read, Stands}
 
 -- two answers with the same outcome are equal
-pub outcome_one : (r q : Turned) → outcome r ≡ outcome q → r ≡ q
-outcome_one (turns.Is x) (turns.Is y) e = cc
-outcome_one (turns.Is x) turns.BadLength e = let z : ◌≡◌ {A = ℕ} 0 1 = cc in absurd (omega arith)
-outcome_one turns.BadLength (turns.Is y) e = let z : ◌≡◌ {A = ℕ} 0 1 = cc in absurd (omega arith)
-outcome_one turns.BadLength turns.BadLength e = refl
+pub outcome_one : (r q : Result Slot SlotError) → outcome r ≡ outcome q → r ≡ q
+outcome_one (Ok x) (Ok y) e = cc
+outcome_one (Ok x) (Err turns.BadLength) e = let z : ◌≡◌ {A = ℕ} 0 1 = cc in absurd (omega arith)
+outcome_one (Err turns.BadLength) (Ok y) e = let z : ◌≡◌ {A = ℕ} 0 1 = cc in absurd (omega arith)
+outcome_one (Err turns.BadLength) (Err turns.BadLength) e = refl
 
-pub resetting_one : (r q : Reset) → resetting r ≡ resetting q → r ≡ q
-resetting_one (resets.Is x) (resets.Is y) e = cc
-resetting_one (resets.Is x) resets.BadLength e = let z : ◌≡◌ {A = ℕ} 0 1 = cc in absurd (omega arith)
-resetting_one (resets.Is x) resets.Repeated e = let z : ◌≡◌ {A = ℕ} 0 1 = cc in absurd (omega arith)
-resetting_one resets.BadLength (resets.Is y) e = let z : ◌≡◌ {A = ℕ} 0 1 = cc in absurd (omega arith)
-resetting_one resets.BadLength resets.BadLength e = refl
-resetting_one resets.BadLength resets.Repeated e = let z : ◌≡◌ {A = ℕ} 3 15 = cc in absurd (omega arith)
-resetting_one resets.Repeated (resets.Is y) e = let z : ◌≡◌ {A = ℕ} 0 1 = cc in absurd (omega arith)
-resetting_one resets.Repeated resets.BadLength e = let z : ◌≡◌ {A = ℕ} 3 15 = cc in absurd (omega arith)
-resetting_one resets.Repeated resets.Repeated e = refl
+pub resetting_one : (r q : Result Slot ResetError) → resetting r ≡ resetting q → r ≡ q
+resetting_one (Ok x) (Ok y) e = cc
+resetting_one (Ok x) (Err resets.BadLength) e = let z : ◌≡◌ {A = ℕ} 0 1 = cc in absurd (omega arith)
+resetting_one (Ok x) (Err resets.Repeated) e = let z : ◌≡◌ {A = ℕ} 0 1 = cc in absurd (omega arith)
+resetting_one (Err resets.BadLength) (Ok y) e = let z : ◌≡◌ {A = ℕ} 0 1 = cc in absurd (omega arith)
+resetting_one (Err resets.BadLength) (Err resets.BadLength) e = refl
+resetting_one (Err resets.BadLength) (Err resets.Repeated) e = let z : ◌≡◌ {A = ℕ} 3 15 = cc in absurd (omega arith)
+resetting_one (Err resets.Repeated) (Ok y) e = let z : ◌≡◌ {A = ℕ} 0 1 = cc in absurd (omega arith)
+resetting_one (Err resets.Repeated) (Err resets.BadLength) e = let z : ◌≡◌ {A = ℕ} 3 15 = cc in absurd (omega arith)
+resetting_one (Err resets.Repeated) (Err resets.Repeated) e = refl
 
 -- and so are two answers of a signal with the memories that they left
-pub after_one : (w : After) (r q : Turned) (m n : List ℕ) → after (outcome r) m ≡ w → after (outcome q) n ≡ w → (r ≡ q) × (m ≡ n)
+pub after_one : (w : After) (r q : Result Slot SlotError) (m n : List ℕ) → after (outcome r) m ≡ w → after (outcome q) n ≡ w → (r ≡ q) × (m ≡ n)
 after_one w r q m n e f =
     let g : after (outcome r) m ≡ after (outcome q) n = e ∙ sym f in
     (outcome_one r q (ap (λ (x : After). x.said) g), ap (λ (x : After). x.memory) g)

@@ -1,5 +1,5 @@
 -- The response slot in document 01's words: what each call leaves of the slot and of its memory, and when it refuses.
-use Rattle.std.specs.Prelude.{◌≡◌, Bool, true, false, not, List, [], ℕ, length, ltb, eqb, if◌then◌else◌}
+use Rattle.std.specs.Prelude.{None, Result, Ok, Err, ◌≡◌, Bool, true, false, not, List, [], ℕ, length, ltb, eqb, if◌then◌else◌}
 use Rattle.moves.specs.Moves.{put, one_more}
 use Rattle.outcome.specs.Outcome.{Outcome, answered, refused}
 use Rattle.answers.specs.Answer.{numbered, stored, is_numeric}
@@ -8,10 +8,10 @@ use Rattle.answers.specs.declared.Kind.TheVariants as kind
 use Rattle.answers.specs.declared.Answer.{Answer}
 use Rattle.slot.specs.declared.Held.TheVariants.{Heard, Capacity}
 use Rattle.slot.specs.declared.Slot.{Slot}
-use Rattle.slot.specs.declared.Turned.{Turned}
-use Rattle.slot.specs.declared.Turned.TheVariants as turns
-use Rattle.slot.specs.declared.Reset.{Reset}
-use Rattle.slot.specs.declared.Reset.TheVariants as resets
+use Rattle.slot.specs.declared.SlotError.{SlotError}
+use Rattle.slot.specs.declared.SlotError.TheVariants as turns
+use Rattle.slot.specs.declared.ResetError.{ResetError}
+use Rattle.slot.specs.declared.ResetError.TheVariants as resets
 use Rattle.slot.specs.declared.Looked.{Looked}
 use Rattle.slot.specs.declared.Looked.TheVariants as looks
 
@@ -91,9 +91,9 @@ signalled x a p m =
     else after (answered (filled x a.kind a.number (length p))) (put m 0 p)
 
 -- document 01's number for each case of a signal's answer
-abbrev pub outcome : Turned → Outcome Slot
-outcome (turns.Is x) = answered x
-outcome turns.BadLength = refused 3 []
+abbrev pub outcome : Result Slot SlotError → Outcome Slot
+outcome (Ok x) = answered x
+outcome (Err turns.BadLength) = refused 3 []
 
 -- a reset with the serial number n; the number already in force is refused (R-11)
 unfoldable pub was_reset : Slot → ℕ → List ℕ → Outcome Slot
@@ -103,10 +103,10 @@ was_reset x n m =
     else answered (freed x n)
 
 -- and of a reset's
-abbrev pub resetting : Reset → Outcome Slot
-resetting (resets.Is x) = answered x
-resetting resets.BadLength = refused 3 []
-resetting resets.Repeated = refused 15 []
+abbrev pub resetting : Result Slot ResetError → Outcome Slot
+resetting (Ok x) = answered x
+resetting (Err resets.BadLength) = refused 3 []
+resetting (Err resets.Repeated) = refused 15 []
 
 -- What a look says: whether there is an answer, and the slot as it stood.
 pub record Reading : Type 0 where

@@ -28,27 +28,24 @@ pub struct Slot {
     pub serial: u32,
 }
 
-// What a signal leaves: the next slot, or refusal 3.
+// Why a signal or a look is refused (3): the stored length is past the memory.
 #[derive(Clone, Copy)]
-pub enum Turned {
-    Is(Slot),
+pub enum SlotError {
     BadLength,
 }
 
-// The slot freed, under its next serial number, or refusal 3, or 15 (R-11).
+// Why a reset is refused: 3, or 15 where the serial number is the one in force (R-11).
 #[derive(Clone, Copy)]
-pub enum Reset {
-    Is(Slot),
+pub enum ResetError {
     BadLength,
     Repeated,
 }
 
-// A look at the slot: it is signalled, it is free and answers nothing, or refusal 3. Looking changes nothing.
+// A look at the slot: it is signalled, or it is free and answers nothing. Looking changes nothing.
 #[derive(Clone, Copy)]
 pub enum Looked {
     Signalled(Slot),
     Nothing(Slot),
-    BadLength,
 }
 
 // Is it an answer for the slot? None and notices aren't.
@@ -158,42 +155,42 @@ impl Slot {
 
     // Signals an answer with its bytes: an Ok's or a custom error's payload, a numeric error's digits (R-2); other kinds use none. A free slot stores it;
     // on a signalled one it is lost and counted; None or a notice changes nothing on either.
-    pub fn signal(self, a: Answer, p: &[u8], mem: &mut [u8]) -> Turned
+    pub fn signal(self, a: Answer, p: &[u8], mem: &mut [u8]) -> Result<Slot, SlotError>
         ensures { after (outcome result) mem.new ≡ signalled self a p.now mem.old }
     {
         if mem.len() < self.len {
-            return Turned::BadLength;
+            return Err(SlotError::BadLength);
         }
         let kind = a.kind;
         if !is_response(kind) {
-            return Turned::Is(self);
+            return Ok(self);
         }
         let busy = self.signalled;
         if busy {
-            return Turned::Is(self.lose());
+            return Ok(self.lose());
         }
         if !carries(kind) {
-            return Turned::Is(self.fill(kind, a.number, 0));
+            return Ok(self.fill(kind, a.number, 0));
         }
         if mem.len() < p.len() {
-            return Turned::Is(self.overflow(kind, a.number));
+            return Ok(self.overflow(kind, a.number));
         }
         moves::put(mem, 0, p);
-        Turned::Is(self.fill(kind, a.number, p.len()))
+        Ok(self.fill(kind, a.number, p.len()))
     }
 
     // Frees the slot for the command of the next serial number (R-11), and changes nothing else. The number in force is refused; any other is good, a lower one too.
-    pub fn reset(self, serial: u32, mem: &[u8]) -> Reset
+    pub fn reset(self, serial: u32, mem: &[u8]) -> Result<Slot, ResetError>
         ensures { resetting result ≡ was_reset self serial mem.now }
     {
         if mem.len() < self.len {
-            return Reset::BadLength;
+            return Err(ResetError::BadLength);
         }
         if serial == self.serial {
-            return Reset::Repeated;
+            return Err(ResetError::Repeated);
         }
         let stored = self.held;
-        Reset::Is(Slot {
+        Ok(Slot {
             signalled: false,
             held: stored,
             number: self.number,

@@ -1,5 +1,5 @@
 -- Laws of the steps, without fuel: what they are, one by one and all together.
-use Rattle.std.specs.Prelude.{◌≡◌, length, drop, eqb}
+use Rattle.std.specs.Prelude.{Option, Some, None, ◌≡◌, length, drop, eqb}
 use Rattle.std.proofs.Math.Path.{refl, ap}
 use Rattle.std.proofs.Common.{sym, ◌∙◌, length-drop}
 use mathlib.Core.List.{List, [], ◌∷◌}
@@ -13,17 +13,15 @@ use Rattle.lines.specs.declared.Digester.TheVariants as digester
 use Rattle.digest.specs.Digest.{digest_unchecked}
 use Rattle.digest.specs.Calls.{unchecked_inside, unchecked_within}
 use Rattle.steps.specs.declared.Step.{Step}
-use Rattle.steps.specs.declared.Stepped.{Stepped}
-use Rattle.steps.specs.declared.Stepped.TheVariants.{Is, End}
 use Rattle.steps.specs.Steps.{steps_by, steps_from, first_of, eaten}
 
-abbrev tag : Stepped → ℕ
-tag (Is x) = 1
-tag End = 0
+abbrev tag : Option Step → ℕ
+tag (Some x) = 1
+tag None = 0
 
-abbrev step_or : Step → Stepped → Step
-step_or d (Is x) = x
-step_or d End = d
+abbrev step_or : Step → Option Step → Step
+step_or d (Some x) = x
+step_or d None = d
 
 module _ (t s : List ℕ) where
   abbrev says : ℕ → Answer
@@ -81,32 +79,32 @@ module _ (t s : List ℕ) where
     steps_more x b = run_one i (steps_from t s i) (x ∷ steps_from t s (i + x.answer.consumed)) (steps_run i) (b, steps_run (i + x.answer.consumed))
 
     -- the ways out of `next`
-    pub next_past : length s < i → End ≡ first_of (steps_from t s i)
+    pub next_past : length s < i → None ≡ first_of (steps_from t s i)
     next_past h = ap first_of (sym (steps_none (omega (arith, says_within i))))
 
     module _ (a : Answer) (d : List ℕ) (f : d ≡ drop i s) (e : a ≡ digest_unchecked digester.Verbose t d) where
       said : a ≡ says i
       said = e ∙ ap (digest_unchecked digester.Verbose t) f
 
-      pub next_end : a.consumed ≡ 0 → End ≡ first_of (steps_from t s i)
+      pub next_end : a.consumed ≡ 0 → None ≡ first_of (steps_from t s i)
       next_end z = ap first_of (sym (steps_none (sym (ap (λ (x : Answer). x.consumed) said) ∙ z)))
 
-      pub next_is : (a.consumed ≡ 0 → ⊥) → Is (record { from = i; answer = a }) ≡ first_of (steps_from t s i)
+      pub next_is : (a.consumed ≡ 0 → ⊥) → Some (record { from = i; answer = a }) ≡ first_of (steps_from t s i)
       next_is z = ap first_of (sym (steps_more (record { from = i; answer = a }) (record { from = refl; says = said; eats = omega (arith, z) })))
 
     -- what a caller of `next` knows
-    pub at_end : End ≡ first_of (steps_from t s i) → steps_from t s i ≡ []
+    pub at_end : None ≡ first_of (steps_from t s i) → steps_from t s i ≡ []
     at_end e = go (steps_from t s i) e
       where
-        go : (l : List Step) → End ≡ first_of l → l ≡ []
+        go : (l : List Step) → None ≡ first_of l → l ≡ []
         go [] e = refl
         go (x ∷ l) e = absurd (omega (arith, ap tag e))
 
-    pub at_step : (x : Step) → Is x ≡ first_of (steps_from t s i) → Begins i x
+    pub at_step : (x : Step) → Some x ≡ first_of (steps_from t s i) → Begins i x
     unfolding Run
     at_step x e = go (steps_from t s i) (steps_run i) e
       where
-        go : (l : List Step) → Run i l → Is x ≡ first_of l → Begins i x
+        go : (l : List Step) → Run i l → Some x ≡ first_of l → Begins i x
         go [] r e = absurd (omega (arith, ap tag e))
         go (y ∷ l) r e = let f : x ≡ y = ap (step_or x) e in rw f r.0
 

@@ -1,10 +1,8 @@
 -- The steps of an input s that is digested to its end under a table t.
-use Rattle.std.specs.Prelude.{List, [], ◌∷◌, ℕ, zero, suc, ◌+◌, length, drop, eqb, if◌then◌else◌}
+use Rattle.std.specs.Prelude.{Option, Some, None, List, [], ◌∷◌, ℕ, zero, suc, ◌+◌, length, drop, eqb, if◌then◌else◌}
 use Rattle.lines.specs.declared.Digester.TheVariants as digester
 use Rattle.digest.specs.Digest.{digest_unchecked}
 use Rattle.steps.specs.declared.Step.{Step}
-use Rattle.steps.specs.declared.Stepped.{Stepped}
-use Rattle.steps.specs.declared.Stepped.TheVariants.{Is, End}
 
 -- from the place i on, with fuel, of which one more than the bytes is enough
 unfoldable pub steps_by : ℕ → List ℕ → List ℕ → ℕ → List Step
@@ -21,9 +19,9 @@ steps_from t s i = steps_by (suc (length s)) t s i
 abbrev pub steps : List ℕ → List ℕ → List Step
 steps t s = steps_from t s 0
 
-abbrev pub first_of : List Step → Stepped
-first_of [] = End
-first_of (x ∷ l) = Is x
+abbrev pub first_of : List Step → Option Step
+first_of [] = None
+first_of (x ∷ l) = Some x
 
 -- the bytes that steps consume
 unfoldable pub eaten : List Step → ℕ

@@ -15,26 +15,19 @@ pub struct Step {
     pub answer: Answer,
 }
 
-// A step, or the end of them.
-#[derive(Clone, Copy)]
-pub enum Stepped {
-    Is(Step),
-    End,
-}
-
 // The step that begins at `from`; past the input there is none.
-pub fn next(table: &[u8], input: &[u8], from: usize) -> Stepped
+pub fn next(table: &[u8], input: &[u8], from: usize) -> Option<Step>
     ensures { result ≡ first_of (steps_from table.now input.now from) }
 {
     if input.len() < from {
-        return Stepped::End;
+        return None;
     }
     let a = digest::digest_unchecked(Digester::Verbose, table, &input[from..]);
     let consumed = a.consumed;
     if consumed == 0 {
-        return Stepped::End;
+        return None;
     }
-    Stepped::Is(Step {
+    Some(Step {
         from: from,
         answer: a,
     })

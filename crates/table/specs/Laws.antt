@@ -1,6 +1,6 @@
 -- Laws of the token table: the ways out of each reader, a text by its two ends, the loops over the records, the records with a mark, and what a good table's tokens are.
 use Rattle.std.proofs.Math.Path.{◌≡◌, refl, sym, ap}
-use Rattle.std.proofs.Common.{◌∙◌, add-one, not-suc-le-zero, le_of_suc-le-suc, length-drop, take-append-drop, take-suc, take-add, take_all, get_or-drop, length-take-le}
+use Rattle.std.proofs.Common.{Option, Some, None, Result, Ok, Err, ◌∙◌, add-one, not-suc-le-zero, le_of_suc-le-suc, length-drop, take-append-drop, take-suc, take-add, take_all, get_or-drop, length-take-le}
 use Rattle.std.specs.Prelude.{Bool, not, ◌&&◌, length, take, drop, eqb, leb, ltb, if◌then◌else◌}
 use Rattle.std.proofs.Math.Bool.{true, false, and-true, and-false, and_assoc, and_self_left}
 use mathlib.Core.List.{List, [], ◌∷◌, ◌++◌}
@@ -20,18 +20,16 @@ use Rattle.table.specs.declared.Mark.TheVariants.{Notice, Success, Error, Prompt
 use Rattle.table.specs.declared.Record.{Record}
 use Rattle.table.specs.declared.Read.{Read}
 use Rattle.table.specs.declared.Read.TheVariants.{Is, Faulty, End}
-use Rattle.table.specs.declared.Next.{Next}
-use Rattle.table.specs.declared.Next.TheVariants as next
-use Rattle.table.specs.declared.Checked.{Checked}
-use Rattle.table.specs.declared.Checked.TheVariants as checks
+use Rattle.table.specs.declared.TableError.{TableError}
+use Rattle.table.specs.declared.TableError.TheVariants as checks
 use Rattle.table.specs.Table.{is_plain, all_plain, is_text, text_at, prompt_at, record_at, text_of, end_of, good_if, good_at, then_rule, ruling_by, ruling, outcome, mark_number, same_mark, then_next, next_by, next_of, Token, token_of, then_tokens, tokens_by, tokens, Entry, entry_of, of_mark, entries}
 
 -- no two answers of the check have the same outcome
-pub outcome_one : (r q : Checked) → outcome r ≡ outcome q → r ≡ q
-outcome_one (checks.Good n) (checks.Good m) e = cc
-outcome_one (checks.Good n) (checks.Faulty m) e = let z : ◌≡◌ {A = ℕ} 0 1 = cc in absurd (omega arith)
-outcome_one (checks.Faulty n) (checks.Good m) e = let z : ◌≡◌ {A = ℕ} 0 1 = cc in absurd (omega arith)
-outcome_one (checks.Faulty n) (checks.Faulty m) e = cc
+pub outcome_one : (r q : Result ℕ TableError) → outcome r ≡ outcome q → r ≡ q
+outcome_one (Ok n) (Ok m) e = cc
+outcome_one (Ok n) (Err (checks.Faulty m)) e = let z : ◌≡◌ {A = ℕ} 0 1 = cc in absurd (omega arith)
+outcome_one (Err (checks.Faulty n)) (Ok m) e = let z : ◌≡◌ {A = ℕ} 0 1 = cc in absurd (omega arith)
+outcome_one (Err (checks.Faulty n)) (Err (checks.Faulty m)) e = cc
 
 -- `all_plain` of a part, byte by byte, and of a text by its two ends, which meet or overlap
 all_append : (s u : List ℕ) → all_plain (s ++ u) ≡ all_plain s && all_plain u
@@ -305,7 +303,7 @@ module _ (t : List ℕ) (at : ℕ) (q : Read) (p : q ≡ record_at t at) where
 
 -- the loop of `next_of`: what is sought from `at` on is sought from `place` on, record number k beginning there
 module _ (m : Mark) (t : List ℕ) (at n place k : ℕ) (w : next_of m t at n ≡ next_of m t place k) where
-  pub next_over : 64 ≤ k → next.Nothing ≡ next_of m t at n
+  pub next_over : 64 ≤ k → None ≡ next_of m t at n
   unfolding next_of next_by
   next_over h = let e : 64 - k ≡ 0 = omega arith in sym (w ∙ ap (λ (x : ℕ). next_by x m t place k) e)
 
@@ -316,20 +314,20 @@ module _ (m : Mark) (t : List ℕ) (at n place k : ℕ) (w : next_of m t at n �
         let e : 64 - k ≡ suc (64 - (k + 1)) = omega arith in
         w ∙ ap (λ (x : ℕ). next_by x m t place k) e ∙ ap (λ (y : Read). then_next m y k (λ x. next_by (64 - (k + 1)) m t x (k + 1))) (sym p)
 
-    pub next_end : q ≡ End → next.Nothing ≡ next_of m t at n
+    pub next_end : q ≡ End → None ≡ next_of m t at n
     unfolding then_next
     next_end e = sym (rw e at at_next)
 
-    pub next_faulty : q ≡ Faulty → next.Nothing ≡ next_of m t at n
+    pub next_faulty : q ≡ Faulty → None ≡ next_of m t at n
     unfolding then_next
     next_faulty e = sym (rw e at at_next)
 
     module _ (r : Record) (e : q ≡ Is r) (b : Bool) (v : b ≡ same_mark r.mark m) where
-      at_record : next_of m t at n ≡ (if b then next.Is r k else next_of m t (r.place + r.len) (k + 1))
+      at_record : next_of m t at n ≡ (if b then Some (r, k) else next_of m t (r.place + r.len) (k + 1))
       unfolding then_next end_of next_of
-      at_record = (rw e at at_next) ∙ ap (λ (c : Bool). (if c then next.Is r k else next_of m t (r.place + r.len) (k + 1))) (sym v)
+      at_record = (rw e at at_next) ∙ ap (λ (c : Bool). (if c then Some (r, k) else next_of m t (r.place + r.len) (k + 1))) (sym v)
 
-      pub next_is : b ≡ true → next.Is r k ≡ next_of m t at n
+      pub next_is : b ≡ true → Some (r, k) ≡ next_of m t at n
       next_is z = sym (rw z at at_record)
 
       pub next_more : b ≡ false → next_of m t at n ≡ next_of m t (r.place + r.len) (k + 1)
@@ -372,13 +370,13 @@ pub record NextIs (m : Mark) (t : List ℕ) (at n : ℕ) (r : Record) (k : ℕ) 
   pub is : entries m t at n ≡ entry_of (token_of t r) k ∷ entries m t (r.place + r.len) (k + 1)
   pub others : k ≡ n → (o : Mark) → same_mark m o ≡ false → entries o t at n ≡ entries o t (r.place + r.len) (k + 1)
 
-abbrev NextSays : Mark → List ℕ → ℕ → ℕ → Next → Type 0
-NextSays m t at n (next.Is r k) = NextIs m t at n r k
-NextSays m t at n next.Nothing = entries m t at n ≡ []
+abbrev NextSays : Mark → List ℕ → ℕ → ℕ → Option (Record × ℕ) → Type 0
+NextSays m t at n (Some (r, k)) = NextIs m t at n r k
+NextSays m t at n None = entries m t at n ≡ []
 
 module _ (m : Mark) (t : List ℕ) where
-  later : (at n : ℕ) (r : Record) (q : Next) → n < 64 → entries m t at n ≡ entries m t (r.place + r.len) (n + 1) → NextSays m t (r.place + r.len) (n + 1) q → NextSays m t at n q
-  later at n r (next.Is x k) h e w =
+  later : (at n : ℕ) (r : Record) (q : Option (Record × ℕ)) → n < 64 → entries m t at n ≡ entries m t (r.place + r.len) (n + 1) → NextSays m t (r.place + r.len) (n + 1) q → NextSays m t at n q
+  later at n r (Some (x, k)) h e w =
       record {
         from = omega (arith, w.from);
         few = w.few;
@@ -386,10 +384,10 @@ module _ (m : Mark) (t : List ℕ) where
         is = e ∙ w.is;
         others = λ z. absurd (omega (arith, w.from));
       }
-  later at n r next.Nothing h e w = e ∙ w
+  later at n r None h e w = e ∙ w
 
   module _ (at n f : ℕ) (e : 64 - n ≡ suc f) (ih : (p : ℕ) → NextSays m t p (n + 1) (next_by f m t p (n + 1))) where
-    on_mark : (r : Record) → record_at t at ≡ Is r → (b : Bool) → same_mark r.mark m ≡ b → NextSays m t at n (if b then next.Is r n else next_by f m t (r.place + r.len) (n + 1))
+    on_mark : (r : Record) → record_at t at ≡ Is r → (b : Bool) → same_mark r.mark m ≡ b → NextSays m t at n (if b then Some (r, n) else next_by f m t (r.place + r.len) (n + 1))
     on_mark r p true v =
         record {
           from = omega arith;
@@ -416,10 +414,10 @@ module _ (m : Mark) (t : List ℕ) where
   unfolding next_of
   next_says at n = by_records (64 - n) at n refl
 
-  pub next_nothing : (at n : ℕ) (q : Next) → q ≡ next_of m t at n → q ≡ next.Nothing → entries m t at n ≡ []
+  pub next_nothing : (at n : ℕ) (q : Option (Record × ℕ)) → q ≡ next_of m t at n → q ≡ None → entries m t at n ≡ []
   next_nothing at n q p e = rw (sym p ∙ e) at (next_says at n)
 
-  pub next_first : (at n : ℕ) (q : Next) → q ≡ next_of m t at n → (r : Record) (k : ℕ) → q ≡ next.Is r k → NextIs m t at n r k
+  pub next_first : (at n : ℕ) (q : Option (Record × ℕ)) → q ≡ next_of m t at n → (r : Record) (k : ℕ) → q ≡ Some (r, k) → NextIs m t at n r k
   next_first at n q p r k e = rw (sym p ∙ e) at (next_says at n)
 
 -- every text of the tokens, and so of those with a mark, keeps the rules

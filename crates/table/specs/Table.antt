@@ -1,5 +1,5 @@
 -- The token table: its records as they lie, what a good table is, and the tokens that the digester goes by.
-use Rattle.std.specs.Prelude.{Bool, true, ◌&&◌, not, List, [], ◌∷◌, ℕ, zero, suc, ◌+◌, ◌-◌, length, get_or, eqb, leb, ltb, if◌then◌else◌}
+use Rattle.std.specs.Prelude.{Option, Some, None, Result, Ok, Err, Bool, true, ◌&&◌, not, List, [], ◌∷◌, ℕ, zero, suc, ◌+◌, ◌-◌, length, get_or, eqb, leb, ltb, if◌then◌else◌}
 use Rattle.text.specs.Bytes.{bytes}
 use Rattle.text.specs.Text.{stands, part_of}
 use Rattle.outcome.specs.Outcome.{Outcome, answered, refused}
@@ -8,10 +8,8 @@ use Rattle.table.specs.declared.Mark.TheVariants.{Notice, Success, Error, Prompt
 use Rattle.table.specs.declared.Record.{Record}
 use Rattle.table.specs.declared.Read.{Read}
 use Rattle.table.specs.declared.Read.TheVariants.{Is, Faulty, End}
-use Rattle.table.specs.declared.Next.{Next}
-use Rattle.table.specs.declared.Next.TheVariants as next
-use Rattle.table.specs.declared.Checked.{Checked}
-use Rattle.table.specs.declared.Checked.TheVariants as checks
+use Rattle.table.specs.declared.TableError.{TableError}
+use Rattle.table.specs.declared.TableError.TheVariants as checks
 
 -- one of 0x20 to 0x7E
 unfoldable pub is_plain : ℕ → Bool
@@ -88,9 +86,9 @@ unfolding ruling_by
 ruling t = ruling_by 64 t 0 0
 
 -- document 01's number and values for each case of the check's answer
-abbrev pub outcome : Checked → Outcome ℕ
-outcome (checks.Good n) = answered n
-outcome (checks.Faulty k) = refused 2 (k ∷ [])
+abbrev pub outcome : Result ℕ TableError → Outcome ℕ
+outcome (Ok n) = answered n
+outcome (Err (checks.Faulty k)) = refused 2 (k ∷ [])
 
 -- the marks in 01's order: UR, CS, CE, CP
 abbrev pub mark_number : Mark → ℕ
@@ -102,19 +100,19 @@ mark_number Prompt = 3
 abbrev pub same_mark : Mark → Mark → Bool
 same_mark a b = eqb (mark_number a) (mark_number b)
 
-unfoldable pub then_next : Mark → Read → ℕ → (ℕ → Next) → Next
+unfoldable pub then_next : Mark → Read → ℕ → (ℕ → Option (Record × ℕ)) → Option (Record × ℕ)
 unfolding end_of
-then_next m (Is r) n f = let q = f (end_of r) in if same_mark r.mark m then next.Is r n else q
-then_next m Faulty n f = next.Nothing
-then_next m End n f = next.Nothing
+then_next m (Is r) n f = let q = f (end_of r) in if same_mark r.mark m then Some (r, n) else q
+then_next m Faulty n f = None
+then_next m End n f = None
 
-unfoldable pub next_by : ℕ → Mark → List ℕ → ℕ → ℕ → Next
+unfoldable pub next_by : ℕ → Mark → List ℕ → ℕ → ℕ → Option (Record × ℕ)
 unfolding then_next record_at
-next_by zero m t at n = next.Nothing
+next_by zero m t at n = None
 next_by (suc more) m t at n = then_next m (record_at t at) n (λ p. next_by more m t p (n + 1))
 
 -- the first record with the mark m, from `at` on, where record number n begins
-unfoldable pub next_of : Mark → List ℕ → ℕ → ℕ → Next
+unfoldable pub next_of : Mark → List ℕ → ℕ → ℕ → Option (Record × ℕ)
 unfolding next_by
 next_of m t at n = next_by (64 - n) m t at n
 

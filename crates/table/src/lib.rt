@@ -32,10 +32,9 @@ enum Read {
     End,
 }
 
-// A good table with its number of records, or refusal 2 with the first faulty record's number.
+// Why a table isn't good (refusal 2): the first faulty record's number.
 #[derive(Clone, Copy)]
-pub enum Checked {
-    Good(usize),
+pub enum TableError {
     Faulty(usize),
 }
 
@@ -184,7 +183,7 @@ fn good_at(t: &[u8], at: usize) -> Read
 }
 
 // Is the table good? The empty one is; a 65th record is faulty whatever it holds.
-pub fn check(t: &[u8]) -> Checked
+pub fn check(t: &[u8]) -> Result<usize, TableError>
     ensures { outcome result ≡ ruling t.now }
 {
     let mut at = 0;
@@ -192,10 +191,10 @@ pub fn check(t: &[u8]) -> Checked
     while n < MOST {
         match good_at(t, at) {
             Read::End => {
-                return Checked::Good(n);
+                return Ok(n);
             }
             Read::Faulty => {
-                return Checked::Faulty(n);
+                return Err(TableError::Faulty(n));
             }
             Read::Is(r) => {
                 at = r.place + r.len;
@@ -204,9 +203,9 @@ pub fn check(t: &[u8]) -> Checked
         }
     }
     if at < t.len() {
-        return Checked::Faulty(n);
+        return Err(TableError::Faulty(n));
     }
-    Checked::Good(n)
+    Ok(n)
 }
 
 // Are the two marks the same?
@@ -227,15 +226,8 @@ fn mark_number(m: Mark) -> u8
     }
 }
 
-// The next record with a mark: the record and its number, or none.
-#[derive(Clone, Copy)]
-pub enum Next {
-    Is(Record, usize),
-    Nothing,
-}
-
 // The first record with the mark, read from `at` on, where record number n begins. At most 64 are read in all.
-pub fn next_of(t: &[u8], mark: Mark, at: usize, n: usize) -> Next
+pub fn next_of(t: &[u8], mark: Mark, at: usize, n: usize) -> Option<(Record, usize)>
     ensures { result ≡ next_of mark t.now at n }
 {
     let mut place = at;
@@ -243,20 +235,20 @@ pub fn next_of(t: &[u8], mark: Mark, at: usize, n: usize) -> Next
     while k < MOST {
         match record_at(t, place) {
             Read::End => {
-                return Next::Nothing;
+                return None;
             }
             Read::Faulty => {
-                return Next::Nothing;
+                return None;
             }
             Read::Is(r) => {
                 let found = r.mark;
                 if same_mark(found, mark) {
-                    return Next::Is(r, k);
+                    return Some((r, k));
                 }
                 place = r.place + r.len;
                 k += 1;
             }
         }
     }
-    Next::Nothing
+    None
 }

@@ -13,9 +13,6 @@ kept_one κs a x y s t = determined
 pub trim_one : One calls.trim.Reads.Post
 trim_one κs a x y s t = determined
 
-pub fitting_one : One calls.fitting.Reads.Post
-fitting_one κs a x y s t = determined
-
 pub trimmed_part_one : One calls.trimmed_part.Reads.Post
 trimmed_part_one κs a x y s t = determined
 

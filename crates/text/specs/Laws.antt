@@ -1,6 +1,6 @@
 -- What a caller may know of the definitions of `Text`, whatever their text. No caller unfolds a search.
 -- Rests on the steps of `Steps`; the search by induction on how far there is to go.
-use Rattle.std.specs.Prelude.{◌≡◌, refl, Bool, true, false, ◌&&◌, length, get_or, drop, if◌then◌else◌}
+use Rattle.std.specs.Prelude.{Option, Some, None, ◌≡◌, refl, Bool, true, false, ◌&&◌, length, get_or, drop, if◌then◌else◌}
 use Rattle.std.proofs.Math.Path.{sym, ap}
 use Rattle.std.proofs.Common.{◌∙◌, ⊎_elim, add-one, sub-one, add-zero, zero-add, not-suc-le-zero, le_of_suc-le-suc, eq-or-lt_of_le, take-append-drop, take_all, drop-cons, length-take-le, drop-drop, get_or-drop}
 use Rattle.std.proofs.Math.Bool.{and-true, and-false, and_assoc}
@@ -18,8 +18,6 @@ use Rattle.text.specs.Text.{is_blank, lead, past, keep, trimmed, trimmed_part, b
 use Rattle.text.specs.Steps.{stands_past, find_here, find_next, find_end}
 use Rattle.text.specs.declared.Blanks.TheVariants.{Trim}
 use Rattle.text.specs.declared.Span.{Span}
-use Rattle.text.specs.declared.Found.{Found}
-use Rattle.text.specs.declared.Found.TheVariants.{At, Nothing}
 
 -- every text begins with itself, and a text as long as s that s begins with is s
 pub begins_self : (t : List ℕ) → begins t t ≡ true
@@ -44,9 +42,9 @@ pub record FoundAt (t s : List ℕ) (i k : ℕ) : Type 0 where
   pub here : stands t s k ≡ true
   pub first : (j : ℕ) → i ≤ j → j < k → stands t s j ≡ false
 
-abbrev pub Says : List ℕ → List ℕ → ℕ → Found → Type 0
-Says t s i (At k) = FoundAt t s i k
-Says t s i Nothing = (j : ℕ) → i ≤ j → stands t s j ≡ false
+abbrev pub Says : List ℕ → List ℕ → ℕ → Option ℕ → Type 0
+Says t s i (Some k) = FoundAt t s i k
+Says t s i None = (j : ℕ) → i ≤ j → stands t s j ≡ false
 
 module _ (t s : List ℕ) where
   none_past : (i : ℕ) → length s ≤ i → stands t s i ≡ false → (j : ℕ) → i ≤ j → stands t s j ≡ false
@@ -55,14 +53,14 @@ module _ (t s : List ℕ) where
   here_first : (i : ℕ) → stands t s i ≡ true → FoundAt t s i i
   here_first i e = record { after = omega arith; here = e; first = λ j g k. absurd (omega arith) }
 
-  nearer : (i : ℕ) (r : Found) → stands t s i ≡ false → Says t s (i + 1) r → Says t s i r
-  nearer i (At k) e w =
+  nearer : (i : ℕ) (r : Option ℕ) → stands t s i ≡ false → Says t s (i + 1) r → Says t s i r
+  nearer i (Some k) e w =
       record {
         after = omega (arith, w.after);
         here = w.here;
         first = λ j g h. ⊎_elim (λ (q : i ≡ j). ap (stands t s) (sym q) ∙ e) (λ (q : i < j). w.first j (omega arith) h) (eq-or-lt_of_le g);
       }
-  nearer i Nothing e w = λ j g. ⊎_elim (λ (q : i ≡ j). ap (stands t s) (sym q) ∙ e) (λ (q : i < j). w j (omega arith)) (eq-or-lt_of_le g)
+  nearer i None e w = λ j g. ⊎_elim (λ (q : i ≡ j). ap (stands t s) (sym q) ∙ e) (λ (q : i < j). w j (omega arith)) (eq-or-lt_of_le g)
 
   at_end : (i : ℕ) → length s ≤ i → (b : Bool) → stands t s i ≡ b → Says t s i (find_in t s i)
   at_end i h true e = rw (find_here t s i e) (here_first i e)
@@ -85,24 +83,24 @@ module _ (t s : List ℕ) where
   find_says i = by_distance (length s) i (omega arith)
 
   -- unique: only one answer says so
-  pub says_one : (i : ℕ) (r q : Found) → Says t s i r → Says t s i q → r ≡ q
-  says_one i (At j) (At k) w v =
+  pub says_one : (i : ℕ) (r q : Option ℕ) → Says t s i r → Says t s i q → r ≡ q
+  says_one i (Some j) (Some k) w v =
       ⊎_elim
       (λ (p : j < k). absurd (false_true w.here (v.first j w.after p)))
-      (λ (p : k ≤ j). ⊎_elim (λ (q : k ≡ j). ap At (sym q)) (λ (q : k < j). absurd (false_true v.here (w.first k v.after q))) (eq-or-lt_of_le p))
+      (λ (p : k ≤ j). ⊎_elim (λ (q : k ≡ j). ap Some (sym q)) (λ (q : k < j). absurd (false_true v.here (w.first k v.after q))) (eq-or-lt_of_le p))
       (order j k)
-  says_one i (At j) Nothing w v = absurd (false_true w.here (v j w.after))
-  says_one i Nothing (At k) w v = absurd (false_true v.here (w k v.after))
-  says_one i Nothing Nothing w v = refl
+  says_one i (Some j) None w v = absurd (false_true w.here (v j w.after))
+  says_one i None (Some k) w v = absurd (false_true v.here (w k v.after))
+  says_one i None None w v = refl
 
-  pub find_is : (i : ℕ) (r : Found) → Says t s i r → find_in t s i ≡ r
+  pub find_is : (i : ℕ) (r : Option ℕ) → Says t s i r → find_in t s i ≡ r
   find_is i r w = says_one i (find_in t s i) r (find_says i) w
 
   -- the same from what a search answered
-  pub found_at : (i k : ℕ) → find_in t s i ≡ At k → FoundAt t s i k
+  pub found_at : (i k : ℕ) → find_in t s i ≡ Some k → FoundAt t s i k
   found_at i k e = rw e at (find_says i)
 
-  pub found_none : (i : ℕ) → find_in t s i ≡ Nothing → (j : ℕ) → i ≤ j → stands t s j ≡ false
+  pub found_none : (i : ℕ) → find_in t s i ≡ None → (j : ℕ) → i ≤ j → stands t s j ≡ false
   found_none i e = rw e at (find_says i)
 
 -- what stands, fits
@@ -117,8 +115,8 @@ unfolding stands
 stands_fits t s i p e = omega (arith, begins_fits t (drop i s) e, length-drop i s)
 
 -- where there is no room for a text that isn't empty, there is none
-pub find_late : (t s : List ℕ) (i : ℕ) → 0 < length t → length s < i + length t → find_in t s i ≡ Nothing
-find_late t s i h g = find_is t s i Nothing (λ j w. not_true_false (stands t s j) (λ p. absurd (omega (arith, stands_fits t s j h p))))
+pub find_late : (t s : List ℕ) (i : ℕ) → 0 < length t → length s < i + length t → find_in t s i ≡ None
+find_late t s i h g = find_is t s i None (λ j w. not_true_false (stands t s j) (λ p. absurd (omega (arith, stands_fits t s j h p))))
 
 pub stands_room : (t s : List ℕ) (i : ℕ) → stands t s i ≡ true → length t ≤ length s
 unfolding stands
@@ -164,18 +162,18 @@ pub stands_drop : (t s : List ℕ) (k i : ℕ) → stands t (drop k s) i ≡ sta
 unfolding stands
 stands_drop t s k i = rw drop-drop
 
-unfoldable pub moved : ℕ → Found → Found
-moved d (At k) = At (d + k)
-moved d Nothing = Nothing
+unfoldable pub moved : ℕ → Option ℕ → Option ℕ
+moved d (Some k) = Some (d + k)
+moved d None = None
 
-moved_here : (d i : ℕ) (b : Bool) (r q : Found) → r ≡ moved d q → (if b then At (d + i) else r) ≡ moved d (if b then At i else q)
+moved_here : (d i : ℕ) (b : Bool) (r q : Option ℕ) → r ≡ moved d q → (if b then Some (d + i) else r) ≡ moved d (if b then Some i else q)
 unfolding moved
 moved_here d i true r q e = refl
 moved_here d i false r q e = e
 
 search_moved : (t s : List ℕ) (d i : ℕ) → search t s (d + i) ≡ moved d (search t s i)
 unfolding search
-search_moved t [] d i = moved_here d i (begins t []) Nothing Nothing (unfold moved in refl)
+search_moved t [] d i = moved_here d i (begins t []) None None (unfold moved in refl)
 search_moved t (x ∷ s) d i =
     let e : suc (d + i) ≡ d + suc i = omega arith in
     moved_here d i (begins t (x ∷ s)) (search t s (suc (d + i))) (search t s (suc i)) (ap (search t s) e ∙ search_moved t s d (suc i))
@@ -195,10 +193,10 @@ pub stands_behind : (t s u : List ℕ) (i : ℕ) → i + length t ≤ length s �
 unfolding stands
 stands_behind t s u i h = rw (drop-append-le i s u (omega arith)) (begins_behind t (drop i s) u (rw length-drop (omega arith)))
 
-pub find_behind : (t s u : List ℕ) (i k : ℕ) → k + length t ≤ length s → find_in t s i ≡ At k → find_in t (s ++ u) i ≡ At k
+pub find_behind : (t s u : List ℕ) (i k : ℕ) → k + length t ≤ length s → find_in t s i ≡ Some k → find_in t (s ++ u) i ≡ Some k
 find_behind t s u i k h e =
     let w = found_at t s i k e in
-    find_is t (s ++ u) i (At k)
+    find_is t (s ++ u) i (Some k)
     (record {
       after = w.after;
       here = stands_behind t s u k h ∙ w.here;
@@ -397,14 +395,14 @@ take_fitting e n b h =
 
 -- a text that stands nowhere from i up to k is the one sought from k on
 module _ (t s : List ℕ) (i k : ℕ) (h : i ≤ k) (none : (j : ℕ) → i ≤ j → j < k → stands t s j ≡ false) where
-  says_later : (r : Found) → Says t s k r → Says t s i r
-  says_later (At p) w =
+  says_later : (r : Option ℕ) → Says t s k r → Says t s i r
+  says_later (Some p) w =
       record {
         after = omega (arith, w.after);
         here = w.here;
         first = λ j g l. ⊎_elim (λ (q : j < k). none j g q) (λ (q : k ≤ j). w.first j q l) (order j k);
       }
-  says_later Nothing w = λ j g. ⊎_elim (λ (q : j < k). none j g q) (λ (q : k ≤ j). w j q) (order j k)
+  says_later None w = λ j g. ⊎_elim (λ (q : j < k). none j g q) (λ (q : k ≤ j). w j q) (order j k)
 
   pub find_later : find_in t s i ≡ find_in t s k
   find_later = find_is t s i (find_in t s k) (says_later (find_in t s k) (find_says t s k))

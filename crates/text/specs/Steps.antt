@@ -1,5 +1,5 @@
 -- One step of each definition of `Text`, as the loops take it: the byte at hand passes, fails, or there is none.
-use Rattle.std.specs.Prelude.{◌≡◌, refl, Bool, true, false, ◌&&◌, ◌||◌, length, get_or, take, drop, if◌then◌else◌}
+use Rattle.std.specs.Prelude.{Some, None, ◌≡◌, refl, Bool, true, false, ◌&&◌, ◌||◌, length, get_or, take, drop, if◌then◌else◌}
 use Rattle.std.proofs.Math.Path.{ap}
 use Rattle.std.proofs.Common.{◌∙◌, add-one, sub-one, le_of_suc-le-suc, arith, length-drop, drop_of_length-le, take-suc, length-take-le, eq-eqb, ne_eqb}
 use Rattle.std.proofs.Math.Bool.{and-false}
@@ -9,7 +9,6 @@ use Rattle.std.proofs.Math.Seq.{drop-cons}
 use Rattle.std.proofs.Math.Dec.{eqb, eqb-suc-zero}
 use Rattle.text.specs.Text.{among, blanks, is_blank, lead, past, keep, begins, stands, search, find_in}
 use Rattle.text.specs.declared.Blanks.TheVariants.{Run, Trim}
-use Rattle.text.specs.declared.Found.TheVariants.{At, Nothing}
 
 -- the two sets differ in the form feed alone
 pub trim_run : (b : ℕ) → (b ≡ 12 → ⊥) → is_blank Run b ≡ is_blank Trim b
@@ -86,13 +85,13 @@ pub stands_short : (t s : List ℕ) (i : ℕ) → length s < i + length t → i 
 unfolding stands
 stands_short t s i h g = begins_short t (drop i s) (rw length-drop (omega arith))
 
-search_here : (t s : List ℕ) (i : ℕ) → begins t s ≡ true → search t s i ≡ At i
+search_here : (t s : List ℕ) (i : ℕ) → begins t s ≡ true → search t s i ≡ Some i
 unfolding search
 search_here t [] i e = rw e
 search_here t (x ∷ s) i e = rw e
 
 -- t stands here; it does not, and the search goes on; it does not, and nothing is left
-pub find_here : (t s : List ℕ) (i : ℕ) → stands t s i ≡ true → find_in t s i ≡ At i
+pub find_here : (t s : List ℕ) (i : ℕ) → stands t s i ≡ true → find_in t s i ≡ Some i
 unfolding find_in stands
 find_here t s i e = search_here t (drop i s) i e
 
@@ -100,6 +99,6 @@ pub find_next : (t s : List ℕ) (i : ℕ) → i < length s → stands t s i ≡
 unfolding find_in search stands
 find_next t s i h e = rw (add-one, drop-cons s i 0 h, rw (drop-cons s i 0 h) at e)
 
-pub find_end : (t s : List ℕ) (i : ℕ) → length s ≤ i → stands t s i ≡ false → find_in t s i ≡ Nothing
+pub find_end : (t s : List ℕ) (i : ℕ) → length s ≤ i → stands t s i ≡ false → find_in t s i ≡ None
 unfolding find_in search stands
 find_end t s i h e = rw (drop_of_length-le s h, rw (drop_of_length-le s h) at e)

@@ -1,11 +1,9 @@
 -- Blanks, trimming and searching as functions on lists that compute. A place is a number of bytes from the front.
-use Rattle.std.specs.Prelude.{Bool, true, false, ◌&&◌, ◌||◌, List, [], ◌∷◌, ℕ, zero, suc, ◌+◌, ◌-◌, length, take, drop, eqb, leb, if◌then◌else◌}
+use Rattle.std.specs.Prelude.{Option, Some, None, Bool, true, false, ◌&&◌, ◌||◌, List, [], ◌∷◌, ℕ, zero, suc, ◌+◌, ◌-◌, length, take, drop, eqb, leb, if◌then◌else◌}
 use Rattle.text.specs.Bytes.{bytes}
 use Rattle.text.specs.declared.Blanks.{Blanks}
 use Rattle.text.specs.declared.Blanks.TheVariants.{Space, Run, Trim}
 use Rattle.text.specs.declared.Span.{Span}
-use Rattle.text.specs.declared.Found.{Found}
-use Rattle.text.specs.declared.Found.TheVariants.{At, Nothing}
 
 -- is b one of the bytes?
 unfoldable pub among : List ℕ → ℕ → Bool
@@ -60,13 +58,13 @@ unfolding begins
 stands t s i = begins t (drop i s)
 
 -- the first place of t in s, where s begins at the place i
-unfoldable pub search : List ℕ → List ℕ → ℕ → Found
+unfoldable pub search : List ℕ → List ℕ → ℕ → Option ℕ
 unfolding begins
-search t [] i = if begins t [] then At i else Nothing
-search t (x ∷ s) i = let r = search t s (suc i) in if begins t (x ∷ s) then At i else r
+search t [] i = if begins t [] then Some i else None
+search t (x ∷ s) i = let r = search t s (suc i) in if begins t (x ∷ s) then Some i else r
 
 -- the first place of t in s at or after i
-unfoldable pub find_in : List ℕ → List ℕ → ℕ → Found
+unfoldable pub find_in : List ℕ → List ℕ → ℕ → Option ℕ
 unfolding search
 find_in t s i = search t (drop i s) i
 

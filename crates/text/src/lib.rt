@@ -14,13 +14,6 @@ pub enum Blanks {
     Trim,
 }
 
-// Where a search ended: at a place, or with nothing found.
-#[derive(Clone, Copy)]
-pub enum Found {
-    At(usize),
-    Nothing,
-}
-
 // A part of a slice, by where it starts and how long it is.
 #[derive(Clone, Copy)]
 pub struct Span {
@@ -29,29 +22,19 @@ pub struct Span {
 }
 
 // Space, tab, CR, LF.
+#[tactic(auto, unfolding(crate::specs::Text::is_blank, crate::specs::Text::among, crate::specs::Text::blanks))]
 fn is_run(b: u8) -> bool
     ensures { result ≡ is_blank Blanks.Run b }
 {
-    if b == b' ' {
-        return true;
-    }
-    if b == b'\t' {
-        return true;
-    }
-    if b == b'\r' {
-        return true;
-    }
-    b == b'\n'
+    matches!(b, b' ' | b'\t' | b'\r' | b'\n')
 }
 
 // Space, tab, LF, form feed, CR: a run blank, or a form feed.
+#[tactic(auto, unfolding(crate::specs::Text::is_blank, crate::specs::Text::among, crate::specs::Text::blanks))]
 fn is_trim(b: u8) -> bool
     ensures { result ≡ is_blank Blanks.Trim b }
 {
-    if b == 0x0C {
-        return true;
-    }
-    is_run(b)
+    b == 0x0C || is_run(b)
 }
 
 // Is b a blank of the set?
@@ -70,28 +53,24 @@ fn is_blank(set: Blanks, b: u8) -> bool
 pub fn skip(set: Blanks, s: &[u8], from: usize) -> usize
     ensures { result ≡ past (is_blank set) s.now from }
 {
-    let mut place = from;
-    while place < s.len() {
+    for place in from..s.len() {
         if !is_blank(set, s[place]) {
             return place;
         }
-        place += 1;
     }
-    place
+    from.max(s.len())
 }
 
 // How long s is without the blanks that it ends in; 0 where it has nothing else.
 pub fn kept(set: Blanks, s: &[u8]) -> usize
     ensures { result ≡ keep (is_blank set) s.now }
 {
-    let mut n = s.len();
-    while 0 < n {
-        if !is_blank(set, s[n - 1]) {
-            return n;
+    for last in (0..s.len()).rev() {
+        if !is_blank(set, s[last]) {
+            return last + 1;
         }
-        n -= 1;
     }
-    n
+    0
 }
 
 // Where s starts and how long it is without the blanks at its two ends; where it has nothing else, its end and 0.
@@ -103,22 +82,12 @@ pub fn trim(set: Blanks, s: &[u8]) -> Span
     Span { start: a, len: n }
 }
 
-// How many of len bytes fit into the room.
-pub fn fitting(len: usize, room: usize) -> usize
-    ensures { result ≡ min len room }
-{
-    if room < len {
-        return room;
-    }
-    len
-}
-
 // What stands from `from` up to `to` without the trim blanks at its two ends, as a part of s; a `to` past the end counts as the end.
 // Where `from` lies behind that, nothing stands there, and `from` is the part's place.
 pub fn trimmed_part(s: &[u8], from: usize, to: usize) -> Span
     ensures { result ≡ trimmed_part s.now from to }
 {
-    let end = fitting(to, s.len());
+    let end = to.min(s.len());
     if end < from {
         return Span {
             start: from,
@@ -127,20 +96,14 @@ pub fn trimmed_part(s: &[u8], from: usize, to: usize) -> Span
     }
     let t = trim(Blanks::Trim, &s[from..end]);
     let start = from + t.start;
-    Span {
-        start: start,
-        len: t.len,
-    }
+    Span { start, len: t.len }
 }
 
 // The byte at a place; 0 where there is none.
 pub fn byte_at(s: &[u8], at: usize) -> u8
     ensures { result ≡ get_or s.now at 0 }
 {
-    if s.len() <= at {
-        return 0;
-    }
-    s[at]
+    s.get(at).copied().unwrap_or(0)
 }
 
 // A byte as it is compared: itself. Letter case is exact: the crate's `tag_no_case` runs behind a search that is.
@@ -161,12 +124,10 @@ fn stands_at(s: &[u8], at: usize, t: &[u8]) -> bool
     requires { at + length t.now ≤ length s.now }
     ensures { result ≡ stands t.now s.now at }
 {
-    let mut k = 0;
-    while k < t.len() {
+    for k in 0..t.len() {
         if !same(s[at + k], t[k]) {
             return false;
         }
-        k += 1;
     }
     true
 }
@@ -186,24 +147,21 @@ pub fn matches_at(s: &[u8], at: usize, t: &[u8]) -> bool
 
 // The first place at or after `from` where t stands in s, letter case exact. The empty text is found at `from`.
 // Places without room for t aren't looked at.
-pub fn find(s: &[u8], from: usize, t: &[u8]) -> Found
+pub fn find(s: &[u8], from: usize, t: &[u8]) -> Option<usize>
     ensures { result ≡ find_in t.now s.now from }
 {
     if t.len() == 0 {
-        return Found::At(from);
+        return Some(from);
     }
     if s.len() < t.len() {
-        return Found::Nothing;
+        return None;
     }
-    let last = s.len() - t.len();
-    let mut i = from;
-    while i <= last {
+    for i in from..s.len() - t.len() + 1 {
         if stands_at(s, i, t) {
-            return Found::At(i);
+            return Some(i);
         }
-        i += 1;
     }
-    Found::Nothing
+    None
 }
 
 // The part of s that starts at `place` and is `len` bytes long, in the caller's own memory.

@@ -1,12 +1,11 @@
 -- Any two results that a contract of this crate allows are equal, every byte of the lent memories too: those of a turn can be read off it.
+use Rattle.std.specs.Prelude.{Option, Some, None}
 use mathlib.Core.Path.{◌≡◌, refl, sym, ap, ◌∙◌}
 use mathlib.Core.List.{List}
 use Prim.Native.Nat.{ℕ}
 use Rattle.outcome.specs.One.{Alike, One}
 use Rattle.text.specs.Logic.{determined}
 use Rattle.turn.specs.declared.State.{State}
-use Rattle.turn.specs.declared.Stepped.{Stepped}
-use Rattle.turn.specs.declared.Stepped.TheVariants as steps
 use Rattle.turn.specs.Turn.{Step, went, stuck, stepped}
 use Rattle.turn.specs.Laws.{left_by_lem}
 use Rattle.turn.proofs as calls
@@ -20,14 +19,14 @@ with_slot_one κs a x y s t = determined
 pub with_queue_one : One calls.State.with_queue.Reads.Post
 with_queue_one κs a x y s t = determined
 
-abbrev stepped_of : Step → Stepped
-stepped_of (went w n) = steps.Is w.state n
-stepped_of (stuck w) = steps.Full
+abbrev stepped_of : Step → Option (State × ℕ)
+stepped_of (went w n) = Some (w.state, n)
+stepped_of (stuck w) = None
 
 module _ (s : State) (b m n : List ℕ) where
-  stepped_back : (r : Stepped) → (stepped_of (stepped s r b m n) ≡ r) × (((left_by_lem (stepped s r b m n)).buf ≡ b) × (((left_by_lem (stepped s r b m n)).slot_memory ≡ m) × ((left_by_lem (stepped s r b m n)).queue_memory ≡ n)))
-  stepped_back (steps.Is x k) = (refl, (refl, (refl, refl)))
-  stepped_back steps.Full = (refl, (refl, (refl, refl)))
+  stepped_back : (r : Option (State × ℕ)) → (stepped_of (stepped s r b m n) ≡ r) × (((left_by_lem (stepped s r b m n)).buf ≡ b) × (((left_by_lem (stepped s r b m n)).slot_memory ≡ m) × ((left_by_lem (stepped s r b m n)).queue_memory ≡ n)))
+  stepped_back (Some (x, k)) = (refl, (refl, (refl, refl)))
+  stepped_back None = (refl, (refl, (refl, refl)))
 
 -- behind selector, table and state: the buffer, the slot's memory, the queue's memory
 pub step_one : Alike calls.step.Reads.Post (λ κs x y s t. (x ≡ y) × ((s.1.1.1.0.now ≡ t.1.1.1.0.now) × ((s.1.1.1.1.0.now ≡ t.1.1.1.1.0.now) × (s.1.1.1.1.1.0.now ≡ t.1.1.1.1.1.0.now))))

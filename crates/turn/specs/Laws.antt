@@ -1,6 +1,6 @@
 -- Laws of a turn for its programs and the loops above it. What it needs of the layers below are the laws that they export.
 use Rattle.std.proofs.Math.Path.{◌≡◌, sym, ap}
-use Rattle.std.proofs.Common.{◌∙◌, arith}
+use Rattle.std.proofs.Common.{Option, Some, None, Result, Ok, ◌∙◌, arith}
 use Rattle.std.specs.Prelude.{true, false, ℕ, ◌+◌, ◌-◌, ◌≤◌, ◌<◌, min, take}
 use mathlib.Core.List.{List}
 use Rattle.std.proofs.Math.ListN.{length}
@@ -14,36 +14,32 @@ use Rattle.selector.specs.Selector.{Choice}
 use Rattle.slot.specs.Slot.{signalled}
 use Rattle.slot.specs.Slot as slots
 use Rattle.slot.specs.declared.Slot.{Slot}
-use Rattle.slot.specs.declared.Turned.{Turned}
-use Rattle.slot.specs.declared.Turned.TheVariants as turns
+use Rattle.slot.specs.declared.SlotError.{SlotError}
 use Rattle.queue.specs.Queue.{ours, put_into}
 use Rattle.queue.specs.Queue as queues
-use Rattle.queue.specs.declared.Put.{Put}
-use Rattle.queue.specs.declared.Put.TheVariants as puts
+use Rattle.queue.specs.declared.PutError.{PutError}
 use Rattle.queue.specs.declared.Queue.{Queue}
 use Rattle.turn.specs.declared.State.{State}
-use Rattle.turn.specs.declared.Delivered.{Delivered}
-use Rattle.turn.specs.declared.Delivered.TheVariants as delivers
 use Rattle.turn.specs.Turn.{with_end, with_slot, with_queue, to_queue, to_slot, deliver, delivery, World, world, held, says, carried_of, delivering, Step, went, stuck, onward, once}
 use Rattle.turn.specs.Says.{held_long, held_is, says_is, says_within, says_byte}
 
 -- where a delivery went: r is what the queue or the slot answered, k the memory that it left
 module _ (s : State) (a : Answer) (p m n : List ℕ) where
-  module _ (h : is_notice a.kind ≡ true) (r : Put) (k : List ℕ) (e : queues.after (queues.outcome r) k ≡ put_into ours s.queue a.number p n) where
-    pub to_queue_lem : (x : Put) → r ≡ x → to_queue s m (queues.after (queues.outcome x) k) ≡ deliver s a p m n
+  module _ (h : is_notice a.kind ≡ true) (r : Result Queue PutError) (k : List ℕ) (e : queues.after (queues.outcome r) k ≡ put_into ours s.queue a.number p n) where
+    pub to_queue_lem : (x : Result Queue PutError) → r ≡ x → to_queue s m (queues.after (queues.outcome x) k) ≡ deliver s a p m n
     unfolding deliver
-    to_queue_lem x q = ap (λ (y : Put). to_queue s m (queues.after (queues.outcome y) k)) (sym q) ∙ ap (to_queue s m) e ∙ rw h
+    to_queue_lem x q = ap (λ (y : Result Queue PutError). to_queue s m (queues.after (queues.outcome y) k)) (sym q) ∙ ap (to_queue s m) e ∙ rw h
 
-    pub queue_is : (x : Queue) → r ≡ puts.Is x → (y : State) → y ≡ with_queue s x → delivery s (delivers.Is y) m k ≡ deliver s a p m n
-    queue_is x q y v = ap (λ (z : State). delivery s (delivers.Is z) m k) v ∙ to_queue_lem (puts.Is x) q
+    pub queue_is : (x : Queue) → r ≡ Ok x → (y : State) → y ≡ with_queue s x → delivery s (Some y) m k ≡ deliver s a p m n
+    queue_is x q y v = ap (λ (z : State). delivery s (Some z) m k) v ∙ to_queue_lem (Ok x) q
 
-  module _ (h : is_notice a.kind ≡ false) (r : Turned) (k : List ℕ) (e : slots.after (slots.outcome r) k ≡ signalled s.slot a p m) where
-    pub to_slot_lem : (x : Turned) → r ≡ x → to_slot s n (slots.after (slots.outcome x) k) ≡ deliver s a p m n
+  module _ (h : is_notice a.kind ≡ false) (r : Result Slot SlotError) (k : List ℕ) (e : slots.after (slots.outcome r) k ≡ signalled s.slot a p m) where
+    pub to_slot_lem : (x : Result Slot SlotError) → r ≡ x → to_slot s n (slots.after (slots.outcome x) k) ≡ deliver s a p m n
     unfolding deliver
-    to_slot_lem x q = ap (λ (y : Turned). to_slot s n (slots.after (slots.outcome y) k)) (sym q) ∙ ap (to_slot s n) e ∙ rw h
+    to_slot_lem x q = ap (λ (y : Result Slot SlotError). to_slot s n (slots.after (slots.outcome y) k)) (sym q) ∙ ap (to_slot s n) e ∙ rw h
 
-    pub slot_is : (x : Slot) → r ≡ turns.Is x → (y : State) → y ≡ with_slot s x → delivery s (delivers.Is y) k n ≡ deliver s a p m n
-    slot_is x q y v = ap (λ (z : State). delivery s (delivers.Is z) k n) v ∙ to_slot_lem (turns.Is x) q
+    pub slot_is : (x : Slot) → r ≡ Ok x → (y : State) → y ≡ with_slot s x → delivery s (Some y) k n ≡ deliver s a p m n
+    slot_is x q y v = ap (λ (z : State). delivery s (Some z) k n) v ∙ to_slot_lem (Ok x) q
 
 -- the ways out of `step`, e being where the bytes held end
 module _ (c : Choice) (s : State) (b m n : List ℕ) (e : ℕ) (h : e ≡ min s.end (length b)) (a : Answer) (ea : a ≡ c.answers (take e b)) where
@@ -55,18 +51,18 @@ module _ (c : Choice) (s : State) (b m n : List ℕ) (e : ℕ) (h : e ≡ min s.
   pub step_number : is_notice a.kind ≡ true → a.number < 256
   step_number = rw (ea ∙ says_is s b m n e h c) (says_byte c (world s b m n))
 
-  module _ (q : Span) (eq : q ≡ carried a) (p : List ℕ) (ep : p ≡ part_of (take e b) q.start q.len) (r : Delivered) (k l : List ℕ) (er : delivery s r k l ≡ deliver s a p m n) where
+  module _ (q : Span) (eq : q ≡ carried a) (p : List ℕ) (ep : p ≡ part_of (take e b) q.start q.len) (r : Option State) (k l : List ℕ) (er : delivery s r k l ≡ deliver s a p m n) where
     at_delivery : onward (world s b m n) a (delivery s r k l) ≡ once c (world s b m n)
     unfolding once
     at_delivery =
         ap (onward (world s b m n) a) (er ∙ ap (λ (x : List ℕ). deliver s a x m n) (ep ∙ ap (λ (y : Span). part_of (take e b) y.start y.len) eq ∙ ap (λ (y : List ℕ). carried_of y a) (held_is s b m n e h)))
         ∙ ap (λ (x : Answer). onward (world s b m n) x (deliver s x (carried_of (held (world s b m n)) x) m n)) (ea ∙ says_is s b m n e h c)
 
-    pub step_full : r ≡ delivers.Waits → stuck (world s b k l) ≡ once c (world s b m n)
+    pub step_full : r ≡ None → stuck (world s b k l) ≡ once c (world s b m n)
     unfolding onward
     step_full f = rw f at at_delivery
 
-    pub step_is : (x : State) → r ≡ delivers.Is x → (o : List ℕ) → o ≡ moved b a.consumed e → (y : State) → y ≡ with_end x (e - a.consumed) → went (world y o k l) a.consumed ≡ once c (world s b m n)
+    pub step_is : (x : State) → r ≡ Some x → (o : List ℕ) → o ≡ moved b a.consumed e → (y : State) → y ≡ with_end x (e - a.consumed) → went (world y o k l) a.consumed ≡ once c (world s b m n)
     unfolding onward
     step_is x f o v y u =
         let z : e ≡ length (held (world s b m n)) = h ∙ sym (held_long (world s b m n)) in

@@ -1,5 +1,5 @@
 -- One turn of the ingress in document 01's words: digest what is in the buffer, deliver, move the rest to the front.
-use Rattle.std.specs.Prelude.{Bool, true, false, List, ℕ, ◌-◌, length, take, if◌then◌else◌}
+use Rattle.std.specs.Prelude.{Option, Some, None, Bool, true, false, List, ℕ, ◌-◌, length, take, if◌then◌else◌}
 use Rattle.text.specs.Text.{part_of}
 use Rattle.moves.specs.Moves.{moved}
 use Rattle.outcome.specs.Outcome.{Outcome, answered, refused}
@@ -13,10 +13,6 @@ use Rattle.queue.specs.Queue.{ours, put_into}
 use Rattle.queue.specs.Queue as queues
 use Rattle.queue.specs.declared.Queue.{Queue}
 use Rattle.turn.specs.declared.State.{State}
-use Rattle.turn.specs.declared.Delivered.{Delivered}
-use Rattle.turn.specs.declared.Delivered.TheVariants as delivers
-use Rattle.turn.specs.declared.Stepped.{Stepped}
-use Rattle.turn.specs.declared.Stepped.TheVariants as steps
 
 -- a state with another end, another slot, another queue
 abbrev pub with_end : State → ℕ → State
@@ -56,9 +52,9 @@ deliver s a p m n =
     if is_notice a.kind then to_queue s m (put_into ours s.queue a.number p n)
     else to_slot s n (signalled s.slot a p m)
 
-abbrev pub delivery : State → Delivered → List ℕ → List ℕ → Delivery
-delivery s (delivers.Is t) m n = record { waits = false; state = t; slot_memory = m; queue_memory = n }
-delivery s delivers.Waits m n = record { waits = true; state = s; slot_memory = m; queue_memory = n }
+abbrev pub delivery : State → Option State → List ℕ → List ℕ → Delivery
+delivery s (Some t) m n = record { waits = false; state = t; slot_memory = m; queue_memory = n }
+delivery s None m n = record { waits = true; state = s; slot_memory = m; queue_memory = n }
 
 -- the whole state: the numbers, and every byte of the three memories
 pub record World : Type 0 where
@@ -86,7 +82,7 @@ abbrev pub Quiet : Choice → World → Type 0
 Quiet c w = c.Quiet (held w)
 
 abbrev pub payload_of : List ℕ → Answer → List ℕ
-payload_of s a = part_of s a.place a.len
+payload_of s a = part_of s a.payload.start a.payload.len
 
 -- the bytes that go along: a numeric error's digits (R-2), else the payload
 abbrev pub carried_of : List ℕ → Answer → List ℕ
@@ -112,6 +108,6 @@ unfoldable pub once : Choice → World → Step
 unfolding onward
 once c w = onward w (says c w) (delivering c w)
 
-abbrev pub stepped : State → Stepped → List ℕ → List ℕ → List ℕ → Step
-stepped s (steps.Is t n) b m q = went (world t b m q) n
-stepped s steps.Full b m q = stuck (world s b m q)
+abbrev pub stepped : State → Option (State × ℕ) → List ℕ → List ℕ → List ℕ → Step
+stepped s (Some (t, n)) b m q = went (world t b m q) n
+stepped s None b m q = stuck (world s b m q)

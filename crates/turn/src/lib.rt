@@ -9,9 +9,9 @@ ghost use Rattle.selector.specs.Selector.{choice};
 ghost use Rattle.turn.specs.Turn.{with_end, with_slot, with_queue, deliver, delivery, world, once, stepped};
 
 use answers::Answer;
-use queue::{Put, Queue};
+use queue::{PutError, Queue};
 use selector::Selector;
-use slot::{Slot, Turned};
+use slot::{Slot, SlotError};
 
 // Where the bytes in the buffer end, and the slot and the queue beside it.
 #[derive(Clone, Copy)]
@@ -60,13 +60,6 @@ impl State {
     }
 }
 
-// What a delivery leaves, or that it must wait: the queue is full.
-#[derive(Clone, Copy)]
-pub enum Delivered {
-    Is(State),
-    Waits,
-}
-
 // A notice goes to the queue as a record, any other answer to the slot as a signal; None delivers nothing. A notice's number fits the record's byte.
 fn deliver(
     state: State,
@@ -74,7 +67,7 @@ fn deliver(
     p: &[u8],
     slot_mem: &mut [u8],
     queue_mem: &mut [u8],
-) -> Delivered
+) -> Option<State>
     requires { is_notice a.kind ≡ true → a.number < 256 }
     ensures { delivery state result slot_mem.new queue_mem.new ≡ deliver state a p.now slot_mem.old queue_mem.old }
 {
@@ -82,23 +75,16 @@ fn deliver(
     if answers::is_notice(kind) {
         let queue = state.queue;
         return match queue.put(queue_mem, a.number as u8, p) {
-            Put::Is(q) => Delivered::Is(state.with_queue(q)),
-            Put::BadBounds => Delivered::Waits,
-            Put::Full => Delivered::Waits,
+            Ok(q) => Some(state.with_queue(q)),
+            Err(PutError::BadBounds) => None,
+            Err(PutError::Full) => None,
         };
     }
     let slot = state.slot;
     match slot.signal(a, p, slot_mem) {
-        Turned::Is(x) => Delivered::Is(state.with_slot(x)),
-        Turned::BadLength => Delivered::Waits,
+        Ok(x) => Some(state.with_slot(x)),
+        Err(SlotError::BadLength) => None,
     }
-}
-
-// One turn: the next state and the bytes consumed, or that its notice must wait.
-#[derive(Clone, Copy)]
-pub enum Stepped {
-    Is(State, usize),
-    Full,
 }
 
 // Digests what is in the buffer, delivers, and moves the rest to the front. An end past the buffer counts as the buffer's.
@@ -109,7 +95,7 @@ pub fn step(
     buf: &mut [u8],
     slot_mem: &mut [u8],
     queue_mem: &mut [u8],
-) -> Stepped
+) -> Option<(State, usize)>
     ensures { stepped state result buf.new slot_mem.new queue_mem.new ≡ once (choice selector table.now) (world state buf.old slot_mem.old queue_mem.old) }
 {
     let end = text::fitting(state.end, buf.len());
@@ -118,10 +104,10 @@ pub fn step(
     let part = answers::carried(a);
     let p = digest::payload(&buf[..end], part.start, part.len);
     match deliver(state, a, p, slot_mem, queue_mem) {
-        Delivered::Waits => Stepped::Full,
-        Delivered::Is(next) => {
+        None => None,
+        Some(next) => {
             moves::move_down(buf, n, end);
-            Stepped::Is(next.with_end(end - n), n)
+            Some((next.with_end(end - n), n))
         }
     }
 }

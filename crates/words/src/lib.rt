@@ -5,15 +5,7 @@
 ghost use Rattle.std.specs.Prelude.{◌≤◌};
 
 use answers::Kind;
-use data::Filled;
-use fields::{Amount, Memory};
-
-// The kind of a name, or what is none.
-#[derive(Clone, Copy)]
-pub enum Named {
-    Is(Kind),
-    Not,
-}
+use fields::Memory;
 
 // What is wrong with a payload: it is neither hex nor a text, its quote isn't closed, a byte of it isn't printable or no escape, something stands behind it, it is too long.
 #[derive(Clone, Copy)]
@@ -24,20 +16,6 @@ pub enum Misspelt {
     Escape,
     Behind,
     Long,
-}
-
-// How many bytes a payload has.
-#[derive(Clone, Copy)]
-pub enum Payload {
-    Is(usize),
-    Not(Misspelt),
-}
-
-// A byte as it is spelt in quotes.
-#[derive(Clone, Copy)]
-enum Spelt {
-    Is(u8),
-    Not,
 }
 
 // Is it that word, and no more?
@@ -51,36 +29,36 @@ pub fn is_word(s: &[u8], word: &[u8]) -> bool {
 // The kinds that no modem's answer is written for (R-12).
 fn other_kind(word: &[u8]) -> Named {
     if is_word(word, b"unknown") {
-        return Named::Is(Kind::Unknown);
+        return Some(Kind::Unknown);
     }
     if is_word(word, b"notallowed") {
-        return Named::Is(Kind::NotAllowed);
+        return Some(Kind::NotAllowed);
     }
     if is_word(word, b"custom") {
-        return Named::Is(Kind::Custom);
+        return Some(Kind::Custom);
     }
     if is_word(word, b"none") {
-        return Named::Is(Kind::None);
+        return Some(Kind::None);
     }
-    Named::Not
+    None
 }
 
 // The kinds that are a line and no more.
 fn bare_kind(word: &[u8]) -> Named {
     if is_word(word, b"error") {
-        return Named::Is(Kind::Error);
+        return Some(Kind::Error);
     }
     if is_word(word, b"nocarrier") {
-        return Named::Is(Kind::NoCarrier);
+        return Some(Kind::NoCarrier);
     }
     if is_word(word, b"busy") {
-        return Named::Is(Kind::Busy);
+        return Some(Kind::Busy);
     }
     if is_word(word, b"noanswer") {
-        return Named::Is(Kind::NoAnswer);
+        return Some(Kind::NoAnswer);
     }
     if is_word(word, b"nodialtone") {
-        return Named::Is(Kind::NoDialtone);
+        return Some(Kind::NoDialtone);
     }
     other_kind(word)
 }
@@ -88,19 +66,19 @@ fn bare_kind(word: &[u8]) -> Named {
 // The kind of a name, in the words of atread and of the notation.
 pub fn kind_named(word: &[u8]) -> Named {
     if is_word(word, b"ok") {
-        return Named::Is(Kind::Ok);
+        return Some(Kind::Ok);
     }
     if is_word(word, b"cme") {
-        return Named::Is(Kind::Cme);
+        return Some(Kind::Cme);
     }
     if is_word(word, b"cms") {
-        return Named::Is(Kind::Cms);
+        return Some(Kind::Cms);
     }
     if is_word(word, b"prompt") {
-        return Named::Is(Kind::Prompt);
+        return Some(Kind::Prompt);
     }
     if is_word(word, b"notice") {
-        return Named::Is(Kind::Notice);
+        return Some(Kind::Notice);
     }
     bare_kind(word)
 }
@@ -109,7 +87,7 @@ pub fn kind_named(word: &[u8]) -> Named {
 pub fn number(s: &[u8]) -> Amount {
     if s.len() != 1 {
         if text::byte_at(s, 0) == b'0' {
-            return Amount::Bad;
+            return None;
         }
     }
     fields::number(s, fields::MOST)
@@ -118,11 +96,11 @@ pub fn number(s: &[u8]) -> Amount {
 // What stands behind a backslash.
 fn escaped(b: u8) -> Spelt {
     match b {
-        b'r' => Spelt::Is(b'\r'),
-        b'n' => Spelt::Is(b'\n'),
-        b'"' => Spelt::Is(b'"'),
-        b'\\' => Spelt::Is(b'\\'),
-        _ => Spelt::Not,
+        b'r' => Some(b'\r'),
+        b'n' => Some(b'\n'),
+        b'"' => Some(b'"'),
+        b'\\' => Some(b'\\'),
+        _ => None,
     }
 }
 
@@ -133,12 +111,12 @@ fn spelt_at(s: &[u8], i: usize) -> Spelt {
         return escaped(text::byte_at(s, fields::plus(i, 1)));
     }
     if b < 0x20 {
-        return Spelt::Not;
+        return None;
     }
     if 0x7E < b {
-        return Spelt::Not;
+        return None;
     }
-    Spelt::Is(b)
+    Some(b)
 }
 
 // What is wrong at a byte that is spelt in no way.
@@ -162,9 +140,9 @@ fn spelling(b: u8) -> usize
 // A text whose closing quote is found. Nothing may stand behind it.
 fn closed(s: &[u8], quote: usize, len: usize) -> Payload {
     if fields::plus(quote, 1) < s.len() {
-        return Payload::Not(Misspelt::Behind);
+        return Err(Misspelt::Behind);
     }
-    Payload::Is(len)
+    Ok(len)
 }
 
 // A text from behind its opening quote on, into the memory.
@@ -175,17 +153,17 @@ fn quoted(s: &[u8], mem: &mut Memory) -> Payload {
         if s[i] == b'"' {
             return closed(s, i, to);
         }
-        let Spelt::Is(b) = spelt_at(s, i) else {
-            return Payload::Not(fault_at(s[i]));
+        let Some(b) = spelt_at(s, i) else {
+            return Err(fault_at(s[i]));
         };
         if fields::LENGTH <= to {
-            return Payload::Not(Misspelt::Long);
+            return Err(Misspelt::Long);
         }
         mem[to] = b;
         to += 1;
         i += spelling(s[i]);
     }
-    Payload::Not(Misspelt::Unclosed)
+    Err(Misspelt::Unclosed)
 }
 
 // A payload, in quotes or in hex, into the memory.
@@ -194,7 +172,7 @@ pub fn payload_of(s: &[u8], mem: &mut Memory) -> Payload {
         return quoted(fields::between(s, 1, s.len()), mem);
     }
     match data::plain(s, mem, 0) {
-        Filled::Bad => Payload::Not(Misspelt::Hex),
-        Filled::Is(n) => Payload::Is(n),
+        None => Err(Misspelt::Hex),
+        Some(n) => Ok(n),
     }
 }

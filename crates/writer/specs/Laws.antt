@@ -1,5 +1,5 @@
 -- Laws of the writer: the texts one behind the other in memory of 4,112 bytes, what the tests on the answer decide, and the ways out of `say`.
-use Rattle.std.specs.Prelude.{◌≡◌, refl, Bool, true, false, ◌&&◌, not, ℕ, ◌+◌, ◌-◌, ◌≤◌, ◌<◌, length, eqb, leb, ltb}
+use Rattle.std.specs.Prelude.{Option, Some, None, Result, Ok, Err, ◌≡◌, refl, Bool, true, false, ◌&&◌, not, ℕ, ◌+◌, ◌-◌, ◌≤◌, ◌<◌, length, eqb, leb, ltb}
 use Rattle.std.proofs.Common.{sym, ◌∙◌, arith, length-take, length-drop}
 use Rattle.std.proofs.Math.Path.{ap}
 use mathlib.Core.List.{List, [], ◌∷◌, ◌++◌}
@@ -25,10 +25,8 @@ use Rattle.answers.specs.declared.Kind.TheVariants as kind
 use Rattle.answers.specs.declared.Answer.{Answer}
 use Rattle.digest.specs.Digest.{digest}
 use Rattle.digest.specs.Calls.{digest_long}
-use Rattle.writer.specs.declared.Given.{Given}
-use Rattle.writer.specs.declared.Given.TheVariants.{None, Is}
-use Rattle.writer.specs.declared.Said.{Said}
-use Rattle.writer.specs.declared.Said.TheVariants as says
+use Rattle.writer.specs.declared.SayError.{SayError}
+use Rattle.writer.specs.declared.SayError.TheVariants as says
 use Rattle.writer.specs.Writer.{line, ok_with, coded, prompted, written, gives, same, heard_as, heard_in, reads_back, Saying, outcome, saying, laid_out, say_under, say}
 
 -- what is inked has the memory's length
@@ -43,7 +41,7 @@ module _ (o : List ℕ) (l : length o ≡ 4112) where
   line_put p h o₁ n₁ e₁ o₂ n₂ e₂ r e₃ =
       then_ink o 0 (crlf ++ p) crlf o₂ n₂ r (then_ink o 0 crlf p o₁ n₁ (inked o₂ n₂) e₁ e₂ (omega arith)) e₃ (omega (arith, length-append crlf p))
 
-  pub coded_put : (h : List ℕ) → length h ≡ 13 → (n : ℕ) (o₁ : List ℕ) (n₁ : ℕ) → inked o₁ n₁ ≡ ink o 0 h → (o₂ : List ℕ) (n₂ : ℕ) → inked o₂ n₂ ≡ ink o₁ n₁ (bytes " ") → (o₃ : List ℕ) (n₃ : ℕ) → inked o₃ n₃ ≡ ink o₂ n₂ (decimal n) → (r : Ink) → r ≡ ink o₃ n₃ crlf → (g : Given) → g ≡ Is n → r ≡ ink o 0 (coded h g)
+  pub coded_put : (h : List ℕ) → length h ≡ 13 → (n : ℕ) (o₁ : List ℕ) (n₁ : ℕ) → inked o₁ n₁ ≡ ink o 0 h → (o₂ : List ℕ) (n₂ : ℕ) → inked o₂ n₂ ≡ ink o₁ n₁ (bytes " ") → (o₃ : List ℕ) (n₃ : ℕ) → inked o₃ n₃ ≡ ink o₂ n₂ (decimal n) → (r : Ink) → r ≡ ink o₃ n₃ crlf → (g : Option ℕ) → g ≡ Some n → r ≡ ink o 0 (coded h g)
   unfolding coded
   coded_put h k n o₁ n₁ e₁ o₂ n₂ e₂ o₃ n₃ e₃ r e₄ g q =
       let d = decimal_length n in
@@ -53,7 +51,7 @@ module _ (o : List ℕ) (l : length o ≡ 4112) where
       (then_ink o 0 (h ++ bytes " ") (decimal n) o₂ n₂ (inked o₃ n₃) (then_ink o 0 h (bytes " ") o₁ n₁ (inked o₂ n₂) e₁ e₂ (omega arith)) e₃ (omega arith))
       e₄
       (omega arith)
-      ∙ ap (λ (x : Given). ink o 0 (coded h x)) (sym q)
+      ∙ ap (λ (x : Option ℕ). ink o 0 (coded h x)) (sym q)
 
 pub ok_put : (o p : List ℕ) → length p ≤ 4096 → (length p ≡ 0 → ⊥) → (o₁ : List ℕ) (n₁ : ℕ) → length o₁ ≡ 4112 → inked o₁ n₁ ≡ ink o 0 (line p) → (r : Ink) → r ≡ ink o₁ n₁ (fixed_text fixed.Ok) → r ≡ ink o 0 (ok_with p)
 unfolding line ok_with
@@ -71,21 +69,21 @@ ok_alone (x ∷ p) z = absurd (omega arith)
 pub none_put : (o : List ℕ) (p : List ℕ) → [] ≡ p → inked o 0 ≡ ink o 0 p
 none_put o p e = ink_none o 0 ∙ ap (ink o 0) e
 
-pub prompt_over : (g : Given) (b : ℕ) → g ≡ Is b → 255 < b → [] ≡ prompted g
+pub prompt_over : (g : Option ℕ) (b : ℕ) → g ≡ Some b → 255 < b → [] ≡ prompted g
 unfolding prompted
 prompt_over g b e h = rw (e, lt-ltb 255 b h)
 
-pub prompt_is : (g : Given) (b : ℕ) → g ≡ Is b → b ≤ 255 → 13 ∷ 10 ∷ b ∷ 32 ∷ [] ≡ prompted g
+pub prompt_is : (g : Option ℕ) (b : ℕ) → g ≡ Some b → b ≤ 255 → 13 ∷ 10 ∷ b ∷ 32 ∷ [] ≡ prompted g
 unfolding prompted
 prompt_is g b e h = rw (e, le-ltb 255 b h)
 
 -- the answer's number
-module _ (g : Given) (a : Answer) (b : Bool) (e : b ≡ has_number a.kind) where
+module _ (g : Option ℕ) (a : Answer) (b : Bool) (e : b ≡ has_number a.kind) where
   pub gives_none : g ≡ None → not b ≡ gives g a
   unfolding gives
   gives_none q = rw (q, e)
 
-  pub gives_is : (n : ℕ) → g ≡ Is n → b && eqb a.number n ≡ gives g a
+  pub gives_is : (n : ℕ) → g ≡ Some n → b && eqb a.number n ≡ gives g a
   unfolding gives
   gives_is n q = rw (q, e)
 
@@ -100,7 +98,7 @@ module _ (p q : List ℕ) where
   same_if h b e = rw (eq-eqb (length p) (length q) h) e
 
 -- the tests on the answer in their order
-module _ (k : Kind) (g : Given) (p b : List ℕ) (a : Answer) where
+module _ (k : Kind) (g : Option ℕ) (p b : List ℕ) (a : Answer) where
   pub not_found : is_found a ≡ false → false ≡ heard_as k g p b a
   unfolding heard_as
   not_found e = rw e
@@ -116,16 +114,16 @@ module _ (k : Kind) (g : Given) (p b : List ℕ) (a : Answer) where
       other_number h = rw (f, eq-eqb (kind_number a.kind) (kind_number k) e, h)
 
       module _ (n : gives g a ≡ true) where
-        pub other_payload : same p (part_of b a.place a.len) ≡ false → false ≡ heard_as k g p b a
+        pub other_payload : same p (part_of b a.payload.start a.payload.len) ≡ false → false ≡ heard_as k g p b a
         unfolding heard_as
         other_payload h = rw (f, eq-eqb (kind_number a.kind) (kind_number k) e, n, h)
 
-        pub whole_if : same p (part_of b a.place a.len) ≡ true → eqb a.consumed (length b) ≡ heard_as k g p b a
+        pub whole_if : same p (part_of b a.payload.start a.payload.len) ≡ true → eqb a.consumed (length b) ≡ heard_as k g p b a
         unfolding heard_as
         whole_if h = rw (f, eq-eqb (kind_number a.kind) (kind_number k) e, n, h)
 
 -- what the digest answered
-module _ (k : Kind) (g : Given) (p b : List ℕ) (x : Outcome Answer) where
+module _ (k : Kind) (g : Option ℕ) (p b : List ℕ) (x : Outcome Answer) where
   pub heard_answered : (a : Answer) → answered a ≡ x → (r : Bool) → r ≡ heard_as k g p b a → r ≡ heard_in k g p b x
   unfolding heard_in
   heard_answered a e r q = q ∙ ap (heard_in k g p b) e
@@ -139,13 +137,13 @@ part_short : (s : List ℕ) (i n : ℕ) → length (part_of s i n) ≤ length s
 unfolding part_of
 part_short s i n = ways (λ (x : List ℕ). length x ≤ length s) (leb (i + n) (length s)) (λ q. rw (length-take, length-drop) (omega arith)) (λ q. omega arith)
 
-module _ (k : Kind) (g : Given) (p b : List ℕ) (a : Answer) (h : heard_as k g p b a ≡ true) where
+module _ (k : Kind) (g : Option ℕ) (p b : List ℕ) (a : Answer) (h : heard_as k g p b a ≡ true) where
   -- what a caller may know of an answer that is read back
   pub read_found : is_found a ≡ true
   unfolding heard_as
   read_found = (and_both (is_found a) _ h).0
 
-  rest : eqb (kind_number a.kind) (kind_number k) && (gives g a && (same p (part_of b a.place a.len) && eqb a.consumed (length b))) ≡ true
+  rest : eqb (kind_number a.kind) (kind_number k) && (gives g a && (same p (part_of b a.payload.start a.payload.len) && eqb a.consumed (length b))) ≡ true
   unfolding heard_as
   rest = (and_both (is_found a) _ h).1
 
@@ -155,25 +153,25 @@ module _ (k : Kind) (g : Given) (p b : List ℕ) (a : Answer) (h : heard_as k g 
   pub read_number : gives g a ≡ true
   read_number = (and_both (gives g a) _ (and_both (eqb (kind_number a.kind) (kind_number k)) _ rest).1).0
 
-  ends : same p (part_of b a.place a.len) && eqb a.consumed (length b) ≡ true
+  ends : same p (part_of b a.payload.start a.payload.len) && eqb a.consumed (length b) ≡ true
   ends = (and_both (gives g a) _ (and_both (eqb (kind_number a.kind) (kind_number k)) _ rest).1).1
 
-  pub read_same : same p (part_of b a.place a.len) ≡ true
-  read_same = (and_both (same p (part_of b a.place a.len)) _ ends).0
+  pub read_same : same p (part_of b a.payload.start a.payload.len) ≡ true
+  read_same = (and_both (same p (part_of b a.payload.start a.payload.len)) _ ends).0
 
-  read_long : length p ≡ length (part_of b a.place a.len)
+  read_long : length p ≡ length (part_of b a.payload.start a.payload.len)
   unfolding same
-  read_long = eqb-true (length p) (length (part_of b a.place a.len)) (and_both (eqb (length p) (length (part_of b a.place a.len))) _ read_same).0
+  read_long = eqb-true (length p) (length (part_of b a.payload.start a.payload.len)) (and_both (eqb (length p) (length (part_of b a.payload.start a.payload.len))) _ read_same).0
 
   pub read_whole : a.consumed ≡ length b
-  read_whole = eqb-true a.consumed (length b) (and_both (same p (part_of b a.place a.len)) _ ends).1
+  read_whole = eqb-true a.consumed (length b) (and_both (same p (part_of b a.payload.start a.payload.len)) _ ends).1
 
-heard_long : (t : List ℕ) (k : Kind) (g : Given) (p b : List ℕ) → 4096 < length p → (x : Outcome Answer) → x ≡ digest Verbose t b → heard_in k g p b x ≡ false
+heard_long : (t : List ℕ) (k : Kind) (g : Option ℕ) (p b : List ℕ) → 4096 < length p → (x : Outcome Answer) → x ≡ digest Verbose t b → heard_in k g p b x ≡ false
 unfolding heard_in
 heard_long t k g p b h (refused m v) e = refl
 heard_long t k g p b h (answered a) e =
     not_true_false (heard_as k g p b a) (λ q.
-    let s : length (part_of b a.place a.len) ≤ length b = part_short b a.place a.len in
+    let s : length (part_of b a.payload.start a.payload.len) ≤ length b = part_short b a.payload.start a.payload.len in
     let n = read_long k g p b a q in
     let f = digest_long Verbose t b (omega arith) in
     let z : ◌≡◌ {A = ℕ} 0 1 = cc in
@@ -181,21 +179,21 @@ heard_long t k g p b h (answered a) e =
 
 -- the ways out of `lay_out`
 module _ (b o : List ℕ) where
-  pub laid_unread : (read : Bool) → read ≡ false → saying says.Unread o ≡ laid_out read b o
+  pub laid_unread : (read : Bool) → read ≡ false → saying (Err says.Unread) o ≡ laid_out read b o
   unfolding laid_out
   laid_unread read e = rw e
 
-  pub laid_short : (read : Bool) → read ≡ true → length o < length b → saying says.Short o ≡ laid_out read b o
+  pub laid_short : (read : Bool) → read ≡ true → length o < length b → saying (Err says.Short) o ≡ laid_out read b o
   unfolding laid_out
   laid_short read e l = rw (e, lt-ltb (length o) (length b) l)
 
-  pub laid_is : (read : Bool) → read ≡ true → length b ≤ length o → (o' : List ℕ) → o' ≡ put o 0 b → saying (says.Is (length b)) o' ≡ laid_out read b o
+  pub laid_is : (read : Bool) → read ≡ true → length b ≤ length o → (o' : List ℕ) → o' ≡ put o 0 b → saying (Ok (length b)) o' ≡ laid_out read b o
   unfolding laid_out
   laid_is read e l o' q = rw (q, e, le-ltb (length o) (length b) l)
 
 -- the ways out of `say`
-module _ (t : List ℕ) (k : Kind) (g : Given) (p o : List ℕ) where
-  pub say_bad : (n : ℕ) → refused 2 (n ∷ []) ≡ ruling t → saying (says.BadTable n) o ≡ say t k g p o
+module _ (t : List ℕ) (k : Kind) (g : Option ℕ) (p o : List ℕ) where
+  pub say_bad : (n : ℕ) → refused 2 (n ∷ []) ≡ ruling t → saying (Err (says.BadTable n)) o ≡ say t k g p o
   unfolding say say_under
   say_bad n e = ap (λ (x : Outcome ℕ). say_under x t k g p o) e
 
@@ -204,7 +202,7 @@ module _ (t : List ℕ) (k : Kind) (g : Given) (p o : List ℕ) where
     unfolding say say_under
     under = ap (λ (x : Outcome ℕ). say_under x t k g p o) e
 
-    pub say_long : 4096 < length p → saying says.Unread o ≡ say t k g p o
+    pub say_long : 4096 < length p → saying (Err says.Unread) o ≡ say t k g p o
     unfolding reads_back laid_out
     say_long h = ap (λ (b : Bool). laid_out b (written k g p) o) (sym (heard_long t k g p (written k g p) h (digest Verbose t (written k g p)) refl)) ∙ under
 
@@ -217,22 +215,22 @@ line_length : (p : List ℕ) → length (line p) ≡ 4 + length p
 unfolding line
 line_length p = rw (length-append, length-append) (omega arith)
 
-given_length : (h : List ℕ) (g : Given) → length (coded h g) ≤ 23 + length h
+given_length : (h : List ℕ) (g : Option ℕ) → length (coded h g) ≤ 23 + length h
 unfolding coded
 given_length h None = omega arith
-given_length h (Is n) = let d = decimal_length n in rw (length-append, length-append, length-append) (omega arith)
+given_length h (Some n) = let d = decimal_length n in rw (length-append, length-append, length-append) (omega arith)
 
-prompt_length : (g : Given) → length (prompted g) ≤ 4
+prompt_length : (g : Option ℕ) → length (prompted g) ≤ 4
 unfolding prompted
 prompt_length None = omega arith
-prompt_length (Is b) = ways (λ (x : List ℕ). length x ≤ 4) (ltb 255 b) (λ q. omega arith) (λ q. omega arith)
+prompt_length (Some b) = ways (λ (x : List ℕ). length x ≤ 4) (ltb 255 b) (λ q. omega arith) (λ q. omega arith)
 
 ok_length : (p : List ℕ) → length (ok_with p) ≤ 10 + length p
 unfolding ok_with
 ok_length [] = omega arith
 ok_length (x ∷ p) = let n = line_length (x ∷ p) in rw length-append (omega arith)
 
-written_length : (k : Kind) (g : Given) (p : List ℕ) → length p ≤ 4096 → length (written k g p) ≤ 4112
+written_length : (k : Kind) (g : Option ℕ) (p : List ℕ) → length p ≤ 4096 → length (written k g p) ≤ 4112
 unfolding written
 written_length kind.None g p h = omega arith
 written_length kind.Ok g p h = omega (arith, ok_length p)
@@ -249,7 +247,7 @@ written_length kind.NoDialtone g p h = omega arith
 written_length kind.Custom g p h = omega arith
 written_length kind.Notice g p h = omega (arith, line_length p)
 
-pub written_part : (k : Kind) (g : Given) (p : List ℕ) → length p ≤ 4096 → (o o' : List ℕ) (n : ℕ) → length o ≡ 4112 → inked o' n ≡ ink o 0 (written k g p) → part_of o' 0 n ≡ written k g p
+pub written_part : (k : Kind) (g : Option ℕ) (p : List ℕ) → length p ≤ 4096 → (o o' : List ℕ) (n : ℕ) → length o ≡ 4112 → inked o' n ≡ ink o 0 (written k g p) → part_of o' 0 n ≡ written k g p
 written_part k g p h o o' n l e =
     let b = written k g p in
     let f : 0 + length b ≤ length o = omega (arith, written_length k g p h) in
@@ -260,25 +258,25 @@ written_part k g p h o o' n l e =
     (λ i. part_of (q i) 0 (m i)) ∙ sym (part_is (put o 0 b) 0 (length b) l') ∙ put_there o 0 b f
 
 -- what a call says and leaves is one thing
-pub outcome_one : (r q : Said) → outcome r ≡ outcome q → r ≡ q
-outcome_one (says.Is n) (says.Is m) e = cc
-outcome_one (says.Is n) (says.BadTable m) e = let z : ◌≡◌ {A = ℕ} 0 1 = cc in absurd (omega arith)
-outcome_one (says.Is n) says.Unread e = let z : ◌≡◌ {A = ℕ} 0 1 = cc in absurd (omega arith)
-outcome_one (says.Is n) says.Short e = let z : ◌≡◌ {A = ℕ} 0 1 = cc in absurd (omega arith)
-outcome_one (says.BadTable n) (says.Is m) e = let z : ◌≡◌ {A = ℕ} 0 1 = cc in absurd (omega arith)
-outcome_one (says.BadTable n) (says.BadTable m) e = cc
-outcome_one (says.BadTable n) says.Unread e = let z : ◌≡◌ {A = ℕ} 2 16 = cc in absurd (omega arith)
-outcome_one (says.BadTable n) says.Short e = let z : ◌≡◌ {A = ℕ} 2 17 = cc in absurd (omega arith)
-outcome_one says.Unread (says.Is m) e = let z : ◌≡◌ {A = ℕ} 0 1 = cc in absurd (omega arith)
-outcome_one says.Unread (says.BadTable m) e = let z : ◌≡◌ {A = ℕ} 16 2 = cc in absurd (omega arith)
-outcome_one says.Unread says.Unread e = refl
-outcome_one says.Unread says.Short e = let z : ◌≡◌ {A = ℕ} 16 17 = cc in absurd (omega arith)
-outcome_one says.Short (says.Is m) e = let z : ◌≡◌ {A = ℕ} 0 1 = cc in absurd (omega arith)
-outcome_one says.Short (says.BadTable m) e = let z : ◌≡◌ {A = ℕ} 17 2 = cc in absurd (omega arith)
-outcome_one says.Short says.Unread e = let z : ◌≡◌ {A = ℕ} 17 16 = cc in absurd (omega arith)
-outcome_one says.Short says.Short e = refl
+pub outcome_one : (r q : Result ℕ SayError) → outcome r ≡ outcome q → r ≡ q
+outcome_one (Ok n) (Ok m) e = cc
+outcome_one (Ok n) (Err (says.BadTable m)) e = let z : ◌≡◌ {A = ℕ} 0 1 = cc in absurd (omega arith)
+outcome_one (Ok n) (Err says.Unread) e = let z : ◌≡◌ {A = ℕ} 0 1 = cc in absurd (omega arith)
+outcome_one (Ok n) (Err says.Short) e = let z : ◌≡◌ {A = ℕ} 0 1 = cc in absurd (omega arith)
+outcome_one (Err (says.BadTable n)) (Ok m) e = let z : ◌≡◌ {A = ℕ} 0 1 = cc in absurd (omega arith)
+outcome_one (Err (says.BadTable n)) (Err (says.BadTable m)) e = cc
+outcome_one (Err (says.BadTable n)) (Err says.Unread) e = let z : ◌≡◌ {A = ℕ} 2 16 = cc in absurd (omega arith)
+outcome_one (Err (says.BadTable n)) (Err says.Short) e = let z : ◌≡◌ {A = ℕ} 2 17 = cc in absurd (omega arith)
+outcome_one (Err says.Unread) (Ok m) e = let z : ◌≡◌ {A = ℕ} 0 1 = cc in absurd (omega arith)
+outcome_one (Err says.Unread) (Err (says.BadTable m)) e = let z : ◌≡◌ {A = ℕ} 16 2 = cc in absurd (omega arith)
+outcome_one (Err says.Unread) (Err says.Unread) e = refl
+outcome_one (Err says.Unread) (Err says.Short) e = let z : ◌≡◌ {A = ℕ} 16 17 = cc in absurd (omega arith)
+outcome_one (Err says.Short) (Ok m) e = let z : ◌≡◌ {A = ℕ} 0 1 = cc in absurd (omega arith)
+outcome_one (Err says.Short) (Err (says.BadTable m)) e = let z : ◌≡◌ {A = ℕ} 17 2 = cc in absurd (omega arith)
+outcome_one (Err says.Short) (Err says.Unread) e = let z : ◌≡◌ {A = ℕ} 17 16 = cc in absurd (omega arith)
+outcome_one (Err says.Short) (Err says.Short) e = refl
 
-pub saying_one : (w : Saying) (r q : Said) (m n : List ℕ) → saying r m ≡ w → saying q n ≡ w → (r ≡ q) × (m ≡ n)
+pub saying_one : (w : Saying) (r q : Result ℕ SayError) (m n : List ℕ) → saying r m ≡ w → saying q n ≡ w → (r ≡ q) × (m ≡ n)
 saying_one w r q m n e f =
     let g : saying r m ≡ saying q n = e ∙ sym f in
     (outcome_one r q (ap (λ (x : Saying). x.said) g), ap (λ (x : Saying). x.output) g)

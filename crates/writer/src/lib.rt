@@ -8,21 +8,12 @@ ghost use Rattle.digest.specs.Digest.{digest};
 ghost use Rattle.writer.specs.Writer.{line, ok_with, coded, prompted, written, gives, same, heard_as, heard_in, saying, laid_out, say};
 
 use answers::{Answer, Kind};
-use digest::Digested;
 use lines::Digester;
-use table::Checked;
+use table::TableError;
 
-// The number that goes with a kind, or none.
+// Why an answer isn't written: refusal 2 with the first faulty record's number; 16, it would not be read back so; 17, the memory is too short.
 #[derive(Clone, Copy)]
-pub enum Given {
-    None,
-    Is(u32),
-}
-
-// How many bytes were written; refusal 2 with the first faulty record's number; 16, it would not be read back so; 17, the memory is too short.
-#[derive(Clone, Copy)]
-pub enum Said {
-    Is(usize),
+pub enum SayError {
     BadTable(usize),
     Unread,
     Short,
@@ -56,10 +47,10 @@ fn put_ok(own: &mut [u8; OWN], payload: &[u8]) -> usize
 }
 
 // A numeric error: its head, one space, the code without leading zeros, CRLF.
-fn put_coded(own: &mut [u8; OWN], head: &[u8; 13], number: Given) -> usize
+fn put_coded(own: &mut [u8; OWN], head: &[u8; 13], number: Option<u32>) -> usize
     ensures { inked own.new result ≡ ink own.old 0 (coded head.now number) }
 {
-    let Given::Is(n) = number else {
+    let Some(n) = number else {
         return 0;
     };
     let headed = ink::words(own, 0, head);
@@ -69,10 +60,10 @@ fn put_coded(own: &mut [u8; OWN], head: &[u8; 13], number: Given) -> usize
 }
 
 // A prompt: CRLF, its byte, a space. A number over 255 is no byte.
-fn put_prompt(own: &mut [u8; OWN], number: Given) -> usize
+fn put_prompt(own: &mut [u8; OWN], number: Option<u32>) -> usize
     ensures { inked own.new result ≡ ink own.old 0 (prompted number) }
 {
-    let Given::Is(b) = number else {
+    let Some(b) = number else {
         return 0;
     };
     if 255 < b {
@@ -83,7 +74,7 @@ fn put_prompt(own: &mut [u8; OWN], number: Given) -> usize
 }
 
 // The answer, written out; nothing of another kind, nor without its number.
-fn put_answer(own: &mut [u8; OWN], kind: Kind, number: Given, payload: &[u8]) -> usize
+fn put_answer(own: &mut [u8; OWN], kind: Kind, number: Option<u32>, payload: &[u8]) -> usize
     requires { length payload.now ≤ 4096 }
     ensures { inked own.new result ≡ ink own.old 0 (written kind number payload.now) }
 {
@@ -106,14 +97,14 @@ fn put_answer(own: &mut [u8; OWN], kind: Kind, number: Given, payload: &[u8]) ->
 }
 
 // Is the answer's number the one given, or has it none, as given?
-fn gives(number: Given, a: Answer) -> bool
+fn gives(number: Option<u32>, a: Answer) -> bool
     ensures { result ≡ gives number a }
 {
     let kind = a.kind;
     let numbered = answers::has_number(kind);
     match number {
-        Given::None => !numbered,
-        Given::Is(n) => numbered & (a.number == n),
+        None => !numbered,
+        Some(n) => numbered & (a.number == n),
     }
 }
 
@@ -128,7 +119,7 @@ fn same(p: &[u8], q: &[u8]) -> bool
 }
 
 // Is the answer a of the bytes this kind, number and payload, and are they consumed whole?
-fn heard_as(kind: Kind, number: Given, payload: &[u8], bytes: &[u8], a: Answer) -> bool
+fn heard_as(kind: Kind, number: Option<u32>, payload: &[u8], bytes: &[u8], a: Answer) -> bool
     ensures { result ≡ heard_as kind number payload.now bytes.now a }
 {
     if !answers::is_found(a) {
@@ -141,48 +132,48 @@ fn heard_as(kind: Kind, number: Given, payload: &[u8], bytes: &[u8], a: Answer) 
     if !gives(number, a) {
         return false;
     }
-    if !same(payload, digest::payload(bytes, a.place, a.len)) {
+    if !same(payload, digest::payload(bytes, a.payload.start, a.payload.len)) {
         return false;
     }
     a.consumed == bytes.len()
 }
 
 // Digested under the table, are the bytes heard as this kind, number and payload?
-fn heard_in(table: &[u8], kind: Kind, number: Given, payload: &[u8], bytes: &[u8]) -> bool
+fn heard_in(table: &[u8], kind: Kind, number: Option<u32>, payload: &[u8], bytes: &[u8]) -> bool
     ensures { result ≡ heard_in kind number payload.now bytes.now (digest Digester.Verbose table.now bytes.now) }
 {
     match digest::digest(Digester::Verbose, table, bytes) {
-        Digested::Is(a) => heard_as(kind, number, payload, bytes, a),
-        Digested::TooLong => false,
-        Digested::BadTable(_) => false,
+        Ok(a) => heard_as(kind, number, payload, bytes, a),
+        Err(DigestError::TooLong) => false,
+        Err(DigestError::BadTable(_)) => false,
     }
 }
 
 // The bytes of an answer at the front of the output memory, where they are read back and fit.
-fn lay_out(read: bool, bytes: &[u8], out: &mut [u8]) -> Said
+fn lay_out(read: bool, bytes: &[u8], out: &mut [u8]) -> Result<usize, SayError>
     ensures { saying result out.new ≡ laid_out read bytes.now out.old }
 {
     if !read {
-        return Said::Unread;
+        return Err(SayError::Unread);
     }
     if out.len() < bytes.len() {
-        return Said::Short;
+        return Err(SayError::Short);
     }
     moves::put(out, 0, bytes);
-    Said::Is(bytes.len())
+    Ok(bytes.len())
 }
 
 // Writes an answer as a modem would into the output memory: an Ok with a payload, CME, CMS, ERROR, the four connection results, a notice, a prompt.
 // Digesting the bytes under the same table gives the same kind, number and payload and consumes all of them; where it wouldn't, refusal 16.
-pub fn say(table: &[u8], kind: Kind, number: Given, payload: &[u8], out: &mut [u8]) -> Said
+pub fn say(table: &[u8], kind: Kind, number: Option<u32>, payload: &[u8], out: &mut [u8]) -> Result<usize, SayError>
     ensures { saying result out.new ≡ say table.now kind number payload.now out.old }
 {
-    if let Checked::Faulty(k) = table::check(table) {
-        return Said::BadTable(k);
+    if let Err(TableError::Faulty(k)) = table::check(table) {
+        return Err(SayError::BadTable(k));
     }
     // A payload over 4,096 bytes can't come back.
     if LONGEST < payload.len() {
-        return Said::Unread;
+        return Err(SayError::Unread);
     }
     let mut own = [0u8; OWN];
     let n = put_answer(&mut own, kind, number, payload);

@@ -1,4 +1,4 @@
--- `find` meets its contract: the first place from `from` on is the first place from i on; where there is no room, there is none. The measure is what is left of s.
+-- `find` meets its contract: the first place from `from` on is the first place from i on; where there is no room, there is none.
 use mathlib.Core.Path.{sym, ◌∙◌}
 use Rattle.text.specs.Text.{stands}
 use Rattle.text.specs.Steps.{begins_end, find_here, find_next}

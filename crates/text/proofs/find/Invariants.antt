@@ -6,6 +6,3 @@ use Rattle.text.proofs.find.Given as goal
 
 abbrev pub invariant-loop-i : goal.invariant-loop-i
 invariant-loop-i l = find_in l.t l.s l.from ≡ find_in l.t l.s l.i
-
-abbrev pub decreases-loop-i : goal.decreases-loop-i
-decreases-loop-i l = length l.s + 1 - l.i

@@ -1,11 +1,8 @@
 use mathlib.Core.Path.{◌≡◌}
-use Prim.Native.Nat.{◌-◌}
+use Prim.Native.Nat.{◌≤◌, max}
 use lib.ListN.{length}
 use Rattle.text.specs.Text.{is_blank, past}
 use Rattle.text.proofs.skip.Given as goal
 
 abbrev pub invariant-loop-place : goal.invariant-loop-place
-invariant-loop-place l = past (is_blank l.set) l.s l.from ≡ past (is_blank l.set) l.s l.place
-
-abbrev pub decreases-loop-place : goal.decreases-loop-place
-decreases-loop-place l = length l.s - l.place
+invariant-loop-place l = (l.place ≤ max l.from (length l.s)) × (past (is_blank l.set) l.s l.from ≡ past (is_blank l.set) l.s l.place)

@@ -1,4 +1,4 @@
--- `stands_at` meets its contract: whether t stands at `at` is whether its rest from k on stands k further on. The measure is what is left of t.
+-- `stands_at` meets its contract: whether t stands at `at` is whether its rest from k on stands k further on.
 use mathlib.Core.Path.{sym, ◌∙◌}
 use Prim.Native.Nat.{◌+◌}
 use lib.ListN.{drop}

@@ -6,6 +6,3 @@ use Rattle.text.proofs.stands_at.Given as goal
 
 abbrev pub invariant-loop-k : goal.invariant-loop-k
 invariant-loop-k l = (l.k ≤ length l.t) × ((l.at + length l.t ≤ length l.s) × (begins l.t (drop l.at l.s) ≡ begins (drop l.k l.t) (drop (l.at + l.k) l.s)))
-
-abbrev pub decreases-loop-k : goal.decreases-loop-k
-decreases-loop-k l = length l.t - l.k
