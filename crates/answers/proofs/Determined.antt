@@ -1,10 +1,14 @@
 -- Any two results that a contract of this crate allows are equal.
-use Rattle.outcome.specs.One.{One}
+use Rattle.std.specs.Prelude.{◌≡◌}
+use Rattle.outcome.specs.One.{Alike, One}
 use Rattle.text.specs.Logic.{determined}
 use Rattle.answers.proofs as calls
 
 pub kind_number_one : One calls.kind_number.Reads.Post
 kind_number_one κs a x y s t = determined
+
+pub name_one : Alike calls.name.Reads.Post (λ κs x y s t. x.now ≡ y.now)
+name_one κs a x y s t = determined
 
 pub has_number_one : One calls.has_number.Reads.Post
 has_number_one κs a x y s t = determined

@@ -1,13 +1,13 @@
 -- How the makers' numbers are found, and that what they make lies within its input.
-use Rattle.std.specs.Prelude.{◌≡◌, refl, Bool, true, false, ◌&&◌, ℕ, zero, suc, ◌+◌, ◌≤◌, get_or, leb}
-use Rattle.std.proofs.Common.{sym, ap, ◌∙◌, arith, le-leb, leb-true}
+use Rattle.std.specs.Prelude.{◌≡◌, refl, true, false, ℕ, zero, suc, ◌+◌, ◌≤◌, get_or}
+use Rattle.std.proofs.Common.{sym, ap, ◌∙◌, arith, le-leb}
 use Rattle.outcome.specs.Laws.{ways}
-use Rattle.text.specs.Logic.{false_true, and_both}
+use Rattle.text.specs.Logic.{false_true}
 use Rattle.text.specs.declared.Span.{Span}
 use Rattle.answers.specs.declared.Kind.{Kind}
 use Rattle.answers.specs.declared.Kind.TheVariants as kind
 use Rattle.answers.specs.declared.Answer.{Answer}
-use Rattle.answers.specs.Answer.{kind_number, kinds, none, number, has_number, numbered, stored, kind_found, is_notice, is_numeric, placed, bare, nothing, made, with_number, with_digits, with_payload, with_text, carried, shift, longest, shift_within, Within}
+use Rattle.answers.specs.Answer.{kind_number, kinds, none, number, has_number, numbered, kind_found, is_notice, is_numeric, placed, bare, nothing, made, with_number, with_digits, with_payload, with_text, carried, further, shift, longest, shift_within, Within}
 
 -- A kind is known by its number.
 kind_back : (k : Kind) → get_or kinds (kind_number k) kind.None ≡ k
@@ -84,37 +84,9 @@ placed_le : (len p : ℕ) → placed len p + len ≤ p + len
 placed_le zero p = omega arith
 placed_le (suc n) p = omega arith
 
--- what is made, field by field
-pub made_is : (k : Kind) (n : ℕ) (p q t : Span) (c m a b d : ℕ) → m ≡ stored (numbered k n) → a ≡ placed p.len p.start → b ≡ placed q.len q.start → d ≡ placed t.len t.start → ◌≡◌ {A = Answer} (record { kind = k; number = m; place = a; len = p.len; digits_place = b; digits_len = q.len; text_place = d; text_len = t.len; consumed = c }) (made k n p q t c)
-made_is k n p q t c m a b d e f g h = λ i. record { kind = k; number = e i; place = f i; len = p.len; digits_place = g i; digits_len = q.len; text_place = h i; text_len = t.len; consumed = c }
-
 -- An empty text is none, wherever it is said to stand.
 pub text_empty : (p t : Span) (c : ℕ) → t.len ≡ 0 → with_payload kind.Ok 0 p c ≡ with_text p t c
 text_empty p t c e = ap (λ (n : ℕ). made kind.Ok 0 p (record { start = 0; len = 0 }) (record { start = t.start; len = n }) c) (sym e)
-
--- The ways out of `shifted`: the numbers are no input's; or they are, and their sums fit.
-module _ (a : Answer) (d : ℕ) where
-  abbrev is_inside : Bool
-  is_inside = leb a.payload.start longest && (leb a.digits.start longest && (leb a.text.start longest && (leb a.consumed longest && leb d longest)))
-
-  pub shifted_not : is_inside ≡ false → a ≡ shift_within d a
-  unfolding shift_within
-  shifted_not e = rw e
-
-  module _ (e : is_inside ≡ true) where
-    -- the sums, of the place, the digits', the text's and the count
-    pub inside : (a.payload.start + d ≤ 8192) × ((a.digits.start + d ≤ 8192) × ((a.text.start + d ≤ 8192) × (a.consumed + d ≤ 8192)))
-    inside =
-        let u = and_both (leb a.payload.start longest) _ e in
-        let v = and_both (leb a.digits.start longest) _ u.1 in
-        let x = and_both (leb a.text.start longest) _ v.1 in
-        let w = and_both (leb a.consumed longest) (leb d longest) x.1 in
-        let l = leb-true d longest w.1 in
-        (omega (arith, leb-true a.payload.start longest u.0), (omega (arith, leb-true a.digits.start longest v.0), (omega (arith, leb-true a.text.start longest x.0), omega (arith, leb-true a.consumed longest w.0))))
-
-    pub shifted_is : (q r t : ℕ) → q ≡ placed a.payload.len (a.payload.start + d) → r ≡ placed a.digits.len (a.digits.start + d) → t ≡ placed a.text.len (a.text.start + d) → ◌≡◌ {A = Answer} (record { kind = a.kind; number = a.number; place = q; len = a.payload.len; digits_place = r; digits_len = a.digits.len; text_place = t; text_len = a.text.len; consumed = a.consumed + d }) (shift_within d a)
-    unfolding shift_within shift
-    shifted_is q r t f g h = rw e (λ i. record { kind = a.kind; number = a.number; place = f i; len = a.payload.len; digits_place = g i; digits_len = a.digits.len; text_place = h i; text_len = a.text.len; consumed = a.consumed + d })
 
 -- An answer within an input is moved by `shift`.
 pub shift_is : (d n : ℕ) (a : Answer) → Within n a → n ≤ longest → d ≤ longest → shift_within d a ≡ shift d a
@@ -157,6 +129,9 @@ placed_twice : (len p a b : ℕ) → placed len (placed len (p + a) + b) ≡ pla
 placed_twice zero p a b = refl
 placed_twice (suc n) p a b = omega arith
 
+further_twice : (p : Span) (a b : ℕ) → further b (further a p) ≡ further (b + a) p
+further_twice p a b = λ i. record { start = placed_twice p.len p.start a b i; len = p.len }
+
 pub shift_shift : (a b : ℕ) (r : Answer) → shift b (shift a r) ≡ shift (b + a) r
 unfolding shift
 shift_shift a b r =
@@ -164,12 +139,9 @@ shift_shift a b r =
     λ i. record {
       kind = r.kind;
       number = r.number;
-      place = placed_twice r.len r.place a b i;
-      len = r.len;
-      digits_place = placed_twice r.digits.len r.digits.start a b i;
-      digits_len = r.digits.len;
-      text_place = placed_twice r.text.len r.text.start a b i;
-      text_len = r.text.len;
+      payload = further_twice r.payload a b i;
+      digits = further_twice r.digits a b i;
+      text = further_twice r.text a b i;
       consumed = c i;
     }
 

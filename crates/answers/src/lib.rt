@@ -2,13 +2,13 @@
 // An answer is made here, by one of six makers, and moved here; nobody else writes down what it consists of.
 #![tactic(auto)]
 
-ghost use Rattle.std.specs.Prelude.{◌≡◌};
-ghost use Rattle.answers.specs.Answer.{kind_number, has_number, numbered, stored, is_found, is_notice, is_numeric, placed, bare, nothing, made, with_number, with_digits, with_payload, with_text, carried, shift_within};
+ghost use Rattle.std.specs.Prelude.{◌≡◌, ◌+◌, ◌≤◌};
+ghost use Rattle.answers.specs.Answer.{kind_number, has_number, numbered, stored, is_found, is_notice, is_numeric, settled, bare, nothing, made, with_number, with_digits, with_payload, with_text, carried, further, shift_within, name_of};
 
 use text::Span;
 
 // What was heard. Custom is a custom error; a custom success is an Ok.
-#[derive(Clone, Copy)]
+#[derive(Clone, Copy, PartialEq, Eq)]
 pub enum Kind {
     None,
     Ok,
@@ -26,22 +26,26 @@ pub enum Kind {
     Notice,
 }
 
-// An answer: its kind, its number (0 where the kind has none), the bytes consumed; and, in the caller's input, the place and length of its payload, of a
-// numeric error's digits as they came (R-2), and of the text of a CONNECT line (R-3).
+// An answer: its kind, its number (0 where the kind has none), the bytes consumed; and, as parts of the caller's input, its payload, a numeric error's digits
+// as they came (R-2), and the text of a CONNECT line (R-3).
 #[derive(Clone, Copy)]
 pub struct Answer {
     pub kind: Kind,
     pub number: u32,
-    pub place: usize,
-    pub len: usize,
-    pub digits_place: usize,
-    pub digits_len: usize,
-    pub text_place: usize,
-    pub text_len: usize,
+    pub payload: Span,
+    pub digits: Span,
+    pub text: Span,
     pub consumed: usize,
 }
 
-// The number of each kind, by which two kinds are compared and a lent array has one.
+// Why nothing is digested: the input is over LONGEST bytes; a record of the table breaks a rule, the first such by its number.
+#[derive(Clone, Copy)]
+pub enum DigestError {
+    TooLong,
+    BadTable(usize),
+}
+
+// The number of each kind, by which a lent array has it.
 pub fn kind_number(kind: Kind) -> u64
     ensures { result ≡ kind_number kind }
 {
@@ -63,129 +67,88 @@ pub fn kind_number(kind: Kind) -> u64
     }
 }
 
+// The kind as the tools print it.
+pub fn name(kind: Kind) -> &'static [u8]
+    ensures { result.now ≡ name_of kind }
+{
+    match kind {
+        Kind::None => b"none",
+        Kind::Ok => b"ok",
+        Kind::Prompt => b"prompt",
+        Kind::Cme => b"cme",
+        Kind::Cms => b"cms",
+        Kind::Unknown => b"unknown",
+        Kind::NotAllowed => b"notallowed",
+        Kind::Error => b"error",
+        Kind::NoCarrier => b"nocarrier",
+        Kind::Busy => b"busy",
+        Kind::NoAnswer => b"noanswer",
+        Kind::NoDialtone => b"nodialtone",
+        Kind::Custom => b"custom",
+        Kind::Notice => b"notice",
+    }
+}
+
 // Has the kind a number? A CME or CMS code, a prompt byte, the table number of a notice or custom error.
 pub fn has_number(kind: Kind) -> bool
     ensures { result ≡ has_number kind }
 {
-    match kind {
-        Kind::None => false,
-        Kind::Ok => false,
-        Kind::Prompt => true,
-        Kind::Cme => true,
-        Kind::Cms => true,
-        Kind::Unknown => false,
-        Kind::NotAllowed => false,
-        Kind::Error => false,
-        Kind::NoCarrier => false,
-        Kind::Busy => false,
-        Kind::NoAnswer => false,
-        Kind::NoDialtone => false,
-        Kind::Custom => true,
-        Kind::Notice => true,
-    }
+    matches!(
+        kind,
+        Kind::Prompt | Kind::Cme | Kind::Cms | Kind::Custom | Kind::Notice
+    )
 }
 
 // The number that is stored for a kind: n where it has one, else 0.
 pub fn number_of(kind: Kind, n: u32) -> u32
     ensures { result ≡ stored (numbered kind n) }
 {
-    if has_number(kind) {
-        return n;
-    }
-    0
+    if has_number(kind) { n } else { 0 }
 }
 
 // Is the answer another than None?
 pub fn is_found(a: Answer) -> bool
     ensures { result ≡ is_found a }
 {
-    let kind = a.kind;
-    match kind {
-        Kind::None => false,
-        Kind::Ok => true,
-        Kind::Prompt => true,
-        Kind::Cme => true,
-        Kind::Cms => true,
-        Kind::Unknown => true,
-        Kind::NotAllowed => true,
-        Kind::Error => true,
-        Kind::NoCarrier => true,
-        Kind::Busy => true,
-        Kind::NoAnswer => true,
-        Kind::NoDialtone => true,
-        Kind::Custom => true,
-        Kind::Notice => true,
-    }
+    !matches!(a.kind, Kind::None)
 }
 
 // Is it a notice? Those go to the queue, other answers to the slot.
 pub fn is_notice(kind: Kind) -> bool
     ensures { result ≡ is_notice kind }
 {
-    match kind {
-        Kind::None => false,
-        Kind::Ok => false,
-        Kind::Prompt => false,
-        Kind::Cme => false,
-        Kind::Cms => false,
-        Kind::Unknown => false,
-        Kind::NotAllowed => false,
-        Kind::Error => false,
-        Kind::NoCarrier => false,
-        Kind::Busy => false,
-        Kind::NoAnswer => false,
-        Kind::NoDialtone => false,
-        Kind::Custom => false,
-        Kind::Notice => true,
-    }
+    matches!(kind, Kind::Notice)
 }
 
 // Is it a numeric error? Those have digits (R-2), and no other kind has.
 pub fn is_numeric(kind: Kind) -> bool
     ensures { result ≡ is_numeric kind }
 {
-    match kind {
-        Kind::None => false,
-        Kind::Ok => false,
-        Kind::Prompt => false,
-        Kind::Cme => true,
-        Kind::Cms => true,
-        Kind::Unknown => true,
-        Kind::NotAllowed => false,
-        Kind::Error => false,
-        Kind::NoCarrier => false,
-        Kind::Busy => false,
-        Kind::NoAnswer => false,
-        Kind::NoDialtone => false,
-        Kind::Custom => false,
-        Kind::Notice => false,
-    }
+    matches!(kind, Kind::Cme | Kind::Cms | Kind::Unknown)
 }
 
-// A payload of length 0 has place 0, and so have digits and a text.
-fn placed_at(len: usize, place: usize) -> usize
-    ensures { result ≡ placed len place }
+// A part of length 0 has place 0.
+fn settled(part: Span) -> Span
+    ensures { result ≡ settled part }
 {
-    if len == 0 {
-        return 0;
-    }
-    place
+    let start = if part.len == 0 { 0 } else { part.start };
+    Span { start, ..part }
 }
+
+// A part that isn't there.
+const NOWHERE: Span = Span { start: 0, len: 0 };
 
 // A kind alone.
 pub fn bare(kind: Kind, consumed: usize) -> Answer
     ensures { result ≡ bare kind consumed }
 {
     Answer {
-        kind: kind,
+        kind,
         number: 0,
-        place: 0,
-        len: 0,
-        digits_place: 0,
-        digits_len: 0,
-        text_place: 0,
-        text_len: 0,
-        consumed: consumed,
+        payload: NOWHERE,
+        digits: NOWHERE,
+        text: NOWHERE,
+        consumed,
     }
 }
 
@@ -196,23 +159,17 @@ pub fn nothing(consumed: usize) -> Answer
     bare(Kind::None, consumed)
 }
 
-// A part that isn't there.
-const NOWHERE: Span = Span { start: 0, len: 0 };
-
 // A kind with its number, where it has one, its payload, its digits and its text.
 fn made(kind: Kind, n: u32, payload: Span, digits: Span, text: Span, consumed: usize) -> Answer
     ensures { result ≡ made kind n payload digits text consumed }
 {
     Answer {
-        kind: kind,
+        kind,
         number: number_of(kind, n),
-        place: placed_at(payload.len, payload.start),
-        len: payload.len,
-        digits_place: placed_at(digits.len, digits.start),
-        digits_len: digits.len,
-        text_place: placed_at(text.len, text.start),
-        text_len: text.len,
-        consumed: consumed,
+        payload: settled(payload),
+        digits: settled(digits),
+        text: settled(text),
+        consumed,
     }
 }
 
@@ -248,43 +205,45 @@ pub fn with_text(payload: Span, text: Span, consumed: usize) -> Answer
 pub fn carried(a: Answer) -> Span
     ensures { result ≡ carried a }
 {
-    let kind = a.kind;
-    if is_numeric(kind) {
-        return Span {
-            start: a.digits.start,
-            len: a.digits.len,
-        };
-    }
-    Span {
-        start: a.payload.start,
-        len: a.payload.len,
+    if is_numeric(a.kind) {
+        a.digits
+    } else {
+        a.payload
     }
 }
 
 // The bytes that an input may have, and so a place or a count.
 pub const LONGEST: usize = 4096;
 
+// A part seen from d bytes further to the front.
+fn further(part: Span, d: usize) -> Span
+    requires { part.start + d ≤ 8192 }
+    ensures { result ≡ further d part }
+{
+    settled(Span {
+        start: part.start + d,
+        ..part
+    })
+}
+
 // The same answer seen from d bytes further to the front. Numbers that are no input's leave it as it is.
+#[tactic(auto, unfolding(crate::specs::Answer::shift, crate::specs::Answer::shift_within))]
 pub fn shifted(a: Answer, d: usize) -> Answer
     ensures { result ≡ shift_within d a }
 {
-    let inside = (a.payload.start <= LONGEST)
-        & ((a.digits.start <= LONGEST)
-            & ((a.text.start <= LONGEST) & ((a.consumed <= LONGEST) & (d <= LONGEST))));
+    let inside = a.payload.start <= LONGEST
+        && a.digits.start <= LONGEST
+        && a.text.start <= LONGEST
+        && a.consumed <= LONGEST
+        && d <= LONGEST;
     if !inside {
         return a;
     }
-    let same = a.kind;
-    let consumed = a.consumed + d;
     Answer {
-        kind: same,
-        number: a.number,
-        place: placed_at(a.payload.len, a.payload.start + d),
-        len: a.payload.len,
-        digits_place: placed_at(a.digits.len, a.digits.start + d),
-        digits_len: a.digits.len,
-        text_place: placed_at(a.text.len, a.text.start + d),
-        text_len: a.text.len,
-        consumed: consumed,
+        payload: further(a.payload, d),
+        digits: further(a.digits, d),
+        text: further(a.text, d),
+        consumed: a.consumed + d,
+        ..a
     }
 }
