@@ -1,11 +1,7 @@
-use mathlib.Core.Path.{◌≡◌}
-use Prim.Native.Nat.{◌≤◌, ◌-◌}
-use lib.ListN.{length, drop}
-use lib.Seq.{paste}
+-- So far the buffer is the old one with j bytes of its part from n on over its front.
+use Rattle.std.proofs.Common.{◌≡◌, drop}
+use Rattle.std.proofs.Math.Seq.{paste}
 use Rattle.moves.proofs.move_down.Given as goal
 
 abbrev pub invariant-loop-j : goal.invariant-loop-j
-invariant-loop-j l = ((l.k ≡ l.end - l.n) × ((l.n ≤ l.end) × (l.end ≤ length l.initial.buf))) × (l.j ≤ l.k) × (l.buf ≡ paste l.initial.buf 0 (drop l.n l.initial.buf) l.j)
-
-abbrev pub decreases-loop-j : goal.decreases-loop-j
-decreases-loop-j l = l.k - l.j
+invariant-loop-j l = l.buf ≡ paste l.initial.buf 0 (drop l.n l.initial.buf) l.j
