@@ -1,5 +1,5 @@
 -- How the makers' numbers are found, and that what they make lies within its input.
-use Rattle.std.specs.Prelude.{◌≡◌, refl, true, false, ℕ, zero, suc, ◌+◌, ◌≤◌, get_or}
+use Rattle.std.specs.Prelude.{Result, Ok, Err, ◌≡◌, refl, true, false, ℕ, zero, suc, ◌+◌, ◌≤◌, get_or}
 use Rattle.std.proofs.Common.{sym, ap, ◌∙◌, arith, le-leb}
 use Rattle.outcome.specs.Laws.{ways}
 use Rattle.text.specs.Logic.{false_true}
@@ -7,7 +7,9 @@ use Rattle.text.specs.declared.Span.{Span}
 use Rattle.answers.specs.declared.Kind.{Kind}
 use Rattle.answers.specs.declared.Kind.TheVariants as kind
 use Rattle.answers.specs.declared.Answer.{Answer}
-use Rattle.answers.specs.Answer.{kind_number, kinds, none, number, has_number, numbered, kind_found, is_notice, is_numeric, placed, bare, nothing, made, with_number, with_digits, with_payload, with_text, carried, further, shift, longest, shift_within, Within}
+use Rattle.answers.specs.declared.DigestError.{DigestError}
+use Rattle.answers.specs.declared.DigestError.TheVariants as says
+use Rattle.answers.specs.Answer.{kind_number, kinds, none, number, has_number, numbered, kind_found, is_notice, is_numeric, placed, bare, nothing, made, with_number, with_digits, with_payload, with_text, carried, further, shift, longest, shift_within, Within, outcome}
 
 -- A kind is known by its number.
 kind_back : (k : Kind) → get_or kinds (kind_number k) kind.None ≡ k
@@ -32,36 +34,12 @@ kind_one k j e = sym (kind_back k) ∙ ap (λ (n : ℕ). get_or kinds n kind.Non
 -- the only kind that isn't found is None
 pub none_only : (k : Kind) → kind_found k ≡ false → k ≡ kind.None
 none_only kind.None e = refl
-none_only kind.Ok e = absurd (false_true refl e)
-none_only kind.Prompt e = absurd (false_true refl e)
-none_only kind.Cme e = absurd (false_true refl e)
-none_only kind.Cms e = absurd (false_true refl e)
-none_only kind.Unknown e = absurd (false_true refl e)
-none_only kind.NotAllowed e = absurd (false_true refl e)
-none_only kind.Error e = absurd (false_true refl e)
-none_only kind.NoCarrier e = absurd (false_true refl e)
-none_only kind.Busy e = absurd (false_true refl e)
-none_only kind.NoAnswer e = absurd (false_true refl e)
-none_only kind.NoDialtone e = absurd (false_true refl e)
-none_only kind.Custom e = absurd (false_true refl e)
-none_only kind.Notice e = absurd (false_true refl e)
+none_only _ e = absurd (false_true refl e)
 
 -- the only notice is Notice, which has no digits
 notice_only : (k : Kind) → is_notice k ≡ true → k ≡ kind.Notice
-notice_only kind.None e = absurd (false_true e refl)
-notice_only kind.Ok e = absurd (false_true e refl)
-notice_only kind.Prompt e = absurd (false_true e refl)
-notice_only kind.Cme e = absurd (false_true e refl)
-notice_only kind.Cms e = absurd (false_true e refl)
-notice_only kind.Unknown e = absurd (false_true e refl)
-notice_only kind.NotAllowed e = absurd (false_true e refl)
-notice_only kind.Error e = absurd (false_true e refl)
-notice_only kind.NoCarrier e = absurd (false_true e refl)
-notice_only kind.Busy e = absurd (false_true e refl)
-notice_only kind.NoAnswer e = absurd (false_true e refl)
-notice_only kind.NoDialtone e = absurd (false_true e refl)
-notice_only kind.Custom e = absurd (false_true e refl)
 notice_only kind.Notice e = refl
+notice_only _ e = absurd (false_true e refl)
 
 pub notice_plain : (k : Kind) → is_notice k ≡ true → is_numeric k ≡ false
 notice_plain k e = ap is_numeric (notice_only k e)
@@ -148,3 +126,15 @@ shift_shift a b r =
 -- what goes along lies within what is consumed
 pub carried_within : (n : ℕ) (a : Answer) → Within n a → (carried a).start + (carried a).len ≤ a.consumed
 carried_within n a w = ways (λ (p : Span). p.start + p.len ≤ a.consumed) (is_numeric a.kind) (λ q. w.digits) (λ q. w.payload)
+
+-- no two answers of a digest have the same outcome
+pub outcome_one : (r q : Result Answer DigestError) → outcome r ≡ outcome q → r ≡ q
+outcome_one (Ok a) (Ok b) e = cc
+outcome_one (Ok a) (Err says.TooLong) e = cc
+outcome_one (Ok a) (Err (says.BadTable k)) e = cc
+outcome_one (Err says.TooLong) (Ok a) e = cc
+outcome_one (Err says.TooLong) (Err says.TooLong) e = refl
+outcome_one (Err says.TooLong) (Err (says.BadTable k)) e = cc
+outcome_one (Err (says.BadTable k)) (Ok a) e = cc
+outcome_one (Err (says.BadTable k)) (Err says.TooLong) e = cc
+outcome_one (Err (says.BadTable k)) (Err (says.BadTable m)) e = cc
