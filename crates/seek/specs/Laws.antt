@@ -4,7 +4,7 @@ use Rattle.std.specs.Prelude.{Option, Some, None, ◌≡◌, refl, Bool, true, �
 use Rattle.std.proofs.Math.Path.{sym, ap}
 use Rattle.std.proofs.Common.{◌∙◌, inl, inr, ⊎_elim, add-zero, drop-cons}
 use Rattle.std.proofs.Math.Bool.{false}
-use Prim.Native.Nat.{ℕ, zero, suc, ◌+◌, ◌*◌, ◌≤◌, ◌<◌}
+use Prim.Native.Nat.{ℕ, zero, suc, ◌+◌, ◌*◌, ◌≤◌, ◌<◌, min}
 use native.Mathlib.Omega.{arith}
 use Rattle.std.proofs.Math.ListN.{get_or}
 use borrow.Author.Tests.{eq-eqb, ne_eqb, leb-false}
@@ -14,7 +14,7 @@ use Rattle.text.specs.Steps.{past_more, past_stop, find_here, find_next}
 use Rattle.text.specs.Bytes.{bytes}
 use Rattle.text.specs.Laws.{Says, find_says, find_is, stands_byte, stands_get_d}
 use Rattle.text.specs.declared.Blanks.TheVariants.{Space}
-use Rattle.seek.specs.Seek.{both_at, space_at, any_of, all_of, or_next, Later, NoneBelow, ColumnAbove, IfCr, Less, FirstIn}
+use Rattle.seek.specs.Seek.{both_at, space_at, any_of, all_of, NoneBelow, ColumnAbove, IfCr, FirstIn}
 
 pub or-false : (a b : Bool) → a || b ≡ false → (a ≡ false) × (b ≡ false)
 or-false true b e = absurd (false_true refl e)
@@ -45,19 +45,6 @@ module _ (t s : List ℕ) (k l : ℕ) (h : k < length t) (g : l < length t) wher
 -- without its byte k a text doesn't stand
 pub byte_none : (t s : List ℕ) (i k : ℕ) → k < length t → (get_or s (i + k) 0 ≡ get_or t k 0 → ⊥) → false ≡ stands t s i
 byte_none t s i k h e = sym (not_true_false (stands t s i) (λ p. e (stands_get_d t s i k p h)))
-
--- one turn: past w and p to a block that ends at stop, in which r was found
-module _ (t s : List ℕ) (from i e w p stop : ℕ) (inv : find_in t s from ≡ find_in t s i) (a : Later (find_in t s) i e w) (b : Later (find_in t s) w e p) (r : Option ℕ) (c : find_in t s p ≡ or_next r (find_in t s stop)) where
-  up_to_block : find_in t s from ≡ or_next r (find_in t s stop)
-  up_to_block = inv ∙ a.same ∙ b.same ∙ c
-
-  pub turn_found : (q : ℕ) → r ≡ Some q → Some q ≡ find_in t s from
-  unfolding or_next
-  turn_found q e = sym (up_to_block ∙ ap (λ (x : Option ℕ). or_next x (find_in t s stop)) e)
-
-  pub turn_none : r ≡ None → find_in t s from ≡ find_in t s stop
-  unfolding or_next
-  turn_none e = up_to_block ∙ ap (λ (x : Option ℕ). or_next x (find_in t s stop)) e
 
 -- one more byte, where l is neither above it nor above what bounds those before it
 pub one_more_lem : (s : List ℕ) (a n m l : ℕ) → NoneBelow s a n m → l ≤ m → l ≤ get_or s (a + n) 0 → NoneBelow s a (n + 1) l
@@ -135,19 +122,22 @@ first_start s a = record { none = λ k h g e. absurd (omega arith); there = inl 
 
 module _ (s : List ℕ) (a j m : ℕ) (w : FirstIn s a j m) (l : j < 255) where
   -- a CR stands at j: it is the first unless one stands before it
-  cr_there : get_or s (a + j) 0 ≡ 13 → (r : ℕ) → Less j m r → FirstIn s a (j + 1) r
-  cr_there e r (inl q) =
-      record {
-        none = λ k h g. w.none k (omega (arith, q.0)) (omega (arith, q.0, q.1));
-        there = inr (omega (arith, q.0), let z : a + r ≡ a + j = omega (arith, q.0) in rw z e);
-      }
-  cr_there e r (inr q) = ⊎_elim (λ (z : m ≡ 255). absurd (omega (arith, z, q.1))) kept w.there
+  cr_there : get_or s (a + j) 0 ≡ 13 → (r : ℕ) → r ≡ min j m → FirstIn s a (j + 1) r
+  cr_there e r q = ⊎_elim here kept (order j m)
     where
-      kept : (m < j) × (get_or s (a + m) 0 ≡ 13) → FirstIn s a (j + 1) r
-      kept z =
+      here : j < m → FirstIn s a (j + 1) r
+      here p =
           record {
-            none = λ k h g. w.none k (omega (arith, z.0, q.0)) (omega (arith, q.0));
-            there = inr (omega (arith, z.0, q.0), rw q.0 z.1);
+            none = λ k h g. w.none k (omega arith) (omega arith);
+            there = inr (omega arith, let z : a + r ≡ a + j = omega arith in rw z e);
+          }
+
+      kept : m ≤ j → FirstIn s a (j + 1) r
+      kept p =
+          let z : r ≡ m = omega arith in
+          record {
+            none = λ k h g. w.none k (omega arith) (omega arith);
+            there = ⊎_elim (λ (y : m ≡ 255). absurd (omega arith)) (λ (y : (m < j) × (get_or s (a + m) 0 ≡ 13)). inr (omega arith, rw z y.1)) w.there;
           }
 
   -- none does
@@ -158,13 +148,9 @@ module _ (s : List ℕ) (a j m : ℕ) (w : FirstIn s a j m) (l : j < 255) where
         there = ⊎_elim (λ (z : m ≡ 255). inl (q ∙ z)) (λ (z : (m < j) × (get_or s (a + m) 0 ≡ 13)). inr (omega (arith, z.0, q), rw q z.1)) w.there;
       }
 
-  pub first_more : m ≤ 255 → (h : ℕ) → IfCr (get_or s (a + j) 0) j h → (r : ℕ) → Less h m r → FirstIn s a (j + 1) r
+  pub first_more : m ≤ 255 → (h : ℕ) → IfCr (get_or s (a + j) 0) j h → (r : ℕ) → r ≡ min h m → FirstIn s a (j + 1) r
   first_more b h (inl q) r v = cr_there q.0 r (rw q.1 at v)
-  first_more b h (inr q) r v = not_there q.0 r (⊎_elim (λ (z : (r ≡ h) × (h ≤ m)). omega (arith, z.0, z.1, q.1)) (λ (z : (r ≡ m) × (m ≤ h)). z.0) v)
-
-pub less_most : (a b r : ℕ) → Less a b r → r ≤ b
-less_most a b r (inl q) = omega (arith, q.0, q.1)
-less_most a b r (inr q) = omega (arith, q.0)
+  first_more b h (inr q) r v = not_there q.0 r (omega (arith, q.1))
 
 -- and what it tells the search
 module _ (s : List ℕ) (a n m : ℕ) (w : FirstIn s a n m) (h : a + n ≤ length s) (g : n ≤ 255) where
@@ -175,9 +161,12 @@ module _ (s : List ℕ) (a n m : ℕ) (w : FirstIn s a n m) (h : a + n ≤ lengt
   first_found e = ⊎_elim (λ (z : m ≡ 255). absurd (e z)) (λ (z : (m < n) × (get_or s (a + m) 0 ≡ 13)). none_passed 13 s a m (omega (arith, z.0)) (λ j l. w.none j (omega (arith, z.0)) l) ∙ byte_here 13 s (a + m) (omega (arith, z.0)) z.1) w.there
 
 -- the answer from i on is that from p on, and from the less of p and e
-pub less_same : (t s : List ℕ) (i p e r : ℕ) → i ≤ e → find_in t s i ≡ find_in t s p → Less p e r → find_in t s i ≡ find_in t s r
-less_same t s i p e r h w (inl q) = w ∙ ap (find_in t s) (sym q.0)
-less_same t s i p e r h w (inr q) = between t s i e p h q.1 w ∙ ap (find_in t s) (sym q.0)
+pub less_same : (t s : List ℕ) (i p e r : ℕ) → i ≤ e → find_in t s i ≡ find_in t s p → r ≡ min p e → find_in t s i ≡ find_in t s r
+less_same t s i p e r h w q =
+    ⊎_elim
+    (λ (g : p < e). let z : r ≡ p = omega arith in rw z w)
+    (λ (g : e ≤ p). let z : r ≡ e = omega arith in rw z (between t s i e p h g w))
+    (order p e)
 
 -- n spaces from i on are passed over
 pub spaces_all : (s : List ℕ) (i n : ℕ) → i + n ≤ length s → all_of (space_at s i) n ≡ true → past (is_blank Space) s i ≡ past (is_blank Space) s (i + n)

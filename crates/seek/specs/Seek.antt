@@ -20,7 +20,7 @@ all_of f zero = true
 all_of f (suc n) = all_of f n && f n
 
 -- what was found, or else what the next search finds
-unfoldable pub or_next : Option ℕ → Option ℕ → Option ℕ
+abbrev pub or_next : Option ℕ → Option ℕ → Option ℕ
 or_next (Some p) r = Some p
 or_next None r = r
 
@@ -41,10 +41,6 @@ ColumnAbove s a n m = (i : ℕ) → i < n → m ≤ get_or s (a + i * 16) 0
 -- r is j where b is a CR, else 255
 abbrev pub IfCr : ℕ → ℕ → ℕ → Type 0
 IfCr b j r = ((b ≡ 13) × (r ≡ j)) ⊎ ((b ≡ 13 → ⊥) × (r ≡ 255))
-
--- r is the less of a and b
-abbrev pub Less : ℕ → ℕ → ℕ → Type 0
-Less a b r = ((r ≡ a) × (a ≤ b)) ⊎ ((r ≡ b) × (b ≤ a))
 
 -- of the n bytes from a on the one at m is the first CR, or m is 255 and none of them is one
 pub record FirstIn (s : List ℕ) (a n m : ℕ) : Type 0 where

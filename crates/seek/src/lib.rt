@@ -6,25 +6,25 @@
 ghost use Rattle.std.specs.Prelude.{◌≡◌, false, [], ◌∷◌, ◌≤◌, ◌<◌, ◌+◌, min, length};
 ghost use Rattle.text.specs.Bytes.{bytes};
 ghost use Rattle.text.specs.Text.{is_blank, past, stands, find_in};
-ghost use Rattle.seek.specs.Seek.{both_at, space_at, any_of, all_of, or_next, Later, NoneBelow, ColumnAbove, IfCr, Less, FirstIn};
+ghost use Rattle.seek.specs.Seek.{both_at, space_at, any_of, all_of, or_next, Later, NoneBelow, ColumnAbove, IfCr};
 
 use text::Blanks;
 
 // Is there a j below n with b at `at` + j and c at `to` + j? It goes through all n, so that a processor may take many at once.
+#[tactic(auto, unfolding(crate::specs::Seek::any_of, crate::specs::Seek::both_at))]
 fn hit(s: &[u8], at: usize, b: u8, to: usize, c: u8, n: usize) -> bool
     requires { (at + n ≤ length s.now) × (to + n ≤ length s.now) }
     ensures { result ≡ any_of (both_at s.now at b to c) n }
 {
     let mut any = false;
-    let mut j = 0;
-    while j < n {
-        any = any | ((s[at + j] == b) & (s[to + j] == c));
-        j += 1;
+    for j in 0..n {
+        any |= (s[at + j] == b) & (s[to + j] == c);
     }
     any
 }
 
 // A later place with the same answer: past the blocks of n places, up to the place e, none of which has t's bytes k and l.
+#[tactic(auto, using(crate::specs::Laws::block_none))]
 fn pass(s: &[u8], from: usize, e: usize, t: &[u8], k: usize, l: usize, n: usize) -> usize
     requires inside { (k < length t.now) × (l < length t.now) }
     requires between { (from ≤ e) × (e + length t.now ≤ length s.now + 1) }
@@ -32,6 +32,7 @@ fn pass(s: &[u8], from: usize, e: usize, t: &[u8], k: usize, l: usize, n: usize)
     ensures { Later (find_in t.now s.now) from e result }
 {
     let mut i = from;
+    // no `for`: where it ends is the place behind the last whole block
     while n <= e - i {
         if hit(s, i + k, t[k], i + l, t[l], n) {
             return i;
@@ -42,28 +43,25 @@ fn pass(s: &[u8], from: usize, e: usize, t: &[u8], k: usize, l: usize, n: usize)
 }
 
 // Does t stand in s at p? Its byte k is asked first: most places don't have it.
+#[tactic(auto, using(crate::specs::Laws::byte_none))]
 fn holds(s: &[u8], p: usize, t: &[u8], k: usize) -> bool
     requires { (k < length t.now) × (p + length t.now ≤ length s.now) }
     ensures { result ≡ stands t.now s.now p }
 {
-    if s[p + k] != t[k] {
-        return false;
-    }
-    text::matches_at(s, p, t)
+    s[p + k] == t[k] && text::matches_at(s, p, t)
 }
 
 // The first place from `from` on and before e where t stands, one by one.
+#[tactic(auto, using(text::specs::Steps::find_here, text::specs::Steps::find_next))]
 fn find_upto(s: &[u8], from: usize, e: usize, t: &[u8], k: usize) -> Option<usize>
     requires inside { k < length t.now }
     requires between { (from ≤ e) × (e + length t.now ≤ length s.now + 1) }
     ensures { find_in t.now s.now from ≡ or_next result (find_in t.now s.now e) }
 {
-    let mut p = from;
-    while p < e {
+    for p in from..e {
         if holds(s, p, t, k) {
             return Some(p);
         }
-        p += 1;
     }
     None
 }
@@ -78,19 +76,18 @@ fn block_end(p: usize, e: usize) -> usize
     requires { p ≤ e }
     ensures { result ≡ min (p + 16) e }
 {
-    if e - p < BLOCK {
-        return e;
-    }
-    p + BLOCK
+    p + BLOCK.min(e - p)
 }
 
 // By blocks, up to the end e of the places where t fits: over those without the two bytes, then one by one through a block that has them.
+#[tactic(auto, using(text::specs::Laws::find_late))]
 fn find_long(s: &[u8], from: usize, e: usize, t: &[u8], k: usize, l: usize) -> Option<usize>
     requires inside { (k < length t.now) × (l < length t.now) }
     requires between { (from ≤ e) × (e + length t.now ≡ length s.now + 1) }
     ensures { result ≡ find_in t.now s.now from }
 {
     let mut i = from;
+    // no `for`: a turn goes as far as the passes do
     while i < e {
         let past = pass(s, i, e, t, k, l, FOUR);
         let p = pass(s, past, e, t, k, l, BLOCK);
@@ -107,13 +104,11 @@ fn find_long(s: &[u8], from: usize, e: usize, t: &[u8], k: usize, l: usize) -> O
 pub const SHORT: usize = 64;
 
 // The first place at or after `from` where t stands in s, letter case exact; where k or l is no byte of t, it is `text::find`.
+#[tactic(auto, using(text::specs::Laws::find_late))]
 pub fn find(s: &[u8], from: usize, t: &[u8], k: usize, l: usize) -> Option<usize>
     ensures { result ≡ find_in t.now s.now from }
 {
-    if t.len() <= k {
-        return text::find(s, from, t);
-    }
-    if t.len() <= l {
+    if t.len() <= k || t.len() <= l {
         return text::find(s, from, t);
     }
     if s.len() < t.len() {
@@ -127,15 +122,14 @@ pub fn find(s: &[u8], from: usize, t: &[u8], k: usize, l: usize) -> Option<usize
 }
 
 // The first place at or after `from` that has the byte, one by one.
+#[tactic(auto, using(crate::specs::Laws::byte_here, crate::specs::Laws::byte_not, text::specs::Laws::find_late))]
 pub fn find_byte(s: &[u8], from: usize, byte: u8) -> Option<usize>
     ensures { result ≡ find_in (byte ∷ []) s.now from }
 {
-    let mut i = from;
-    while i < s.len() {
+    for i in from..s.len() {
         if s[i] == byte {
             return Some(i);
         }
-        i += 1;
     }
     None
 }
@@ -150,39 +144,34 @@ fn column(s: &[u8], at: usize) -> u8
     requires { at + 497 ≤ length s.now }
     ensures { ColumnAbove s.now at 32 result }
 {
-    let mut m = 255;
-    let mut i = 0;
-    let mut p = at;
-    while i < ROWS {
-        if s[p] < m {
-            m = s[p];
-        }
-        i += 1;
-        p += BLOCK;
+    let mut m = u8::MAX;
+    for i in 0..ROWS {
+        m = m.min(s[at + i * BLOCK]);
     }
     m
 }
 
 // Is one of the 512 bytes from `at` on as low as a CR? It goes through all columns, so that a processor may take them at once: two instructions for 16 bytes.
+#[tactic(auto, using(crate::specs::Laws::column_more, crate::specs::Laws::columns_above))]
 fn low(s: &[u8], at: usize) -> bool
     requires { at + 512 ≤ length s.now }
     ensures { result ≡ false → NoneBelow s.now at 512 14 }
 {
     let mut any = false;
-    let mut j = 0;
-    while j < BLOCK {
-        any = any | (column(s, at + j) <= b'\r');
-        j += 1;
+    for j in 0..BLOCK {
+        any |= column(s, at + j) <= b'\r';
     }
     any
 }
 
 // A later place with the same answer: past the blocks, up to e, that have no byte as low as a CR.
+#[tactic(auto, using(crate::specs::Laws::above_none))]
 fn pass_plain(s: &[u8], from: usize, e: usize) -> usize
     requires { (from ≤ e) × (e ≤ length s.now) }
     ensures { Later (find_in (bytes "\r") s.now) from e result }
 {
     let mut i = from;
+    // no `for`, as in `pass`
     while PLAIN <= e - i {
         if low(s, i) {
             return i;
@@ -196,46 +185,23 @@ fn pass_plain(s: &[u8], from: usize, e: usize) -> usize
 fn if_cr(b: u8, j: u8) -> u8
     ensures { IfCr b j result }
 {
-    if b == b'\r' {
-        return j;
-    }
-    255
+    if b == b'\r' { j } else { 255 }
 }
 
-// The less of two.
-fn less(a: u8, b: u8) -> u8
-    ensures { Less a b result }
-{
-    if a < b {
-        return a;
-    }
-    b
-}
-
-// Which of the 64 bytes from `at` on is the first CR; 255 where none is. It goes through all of them, so that a processor may take many at once.
-fn first(s: &[u8], at: usize) -> u8
+// The first CR among the 64 bytes from `at` on. It goes through all of them, so that a processor may take many at once: a byte, 255 while there is none, takes less room in it than an `Option`.
+fn first(s: &[u8], at: usize) -> Option<usize>
     requires { at + 64 ≤ length s.now }
-    ensures { FirstIn s.now at 64 result }
+    ensures { find_in (bytes "\r") s.now at ≡ or_next result (find_in (bytes "\r") s.now (at + 64)) }
 {
-    let mut m = 255;
-    let mut j = 0;
-    while j < 64 {
-        let k = j as usize;
-        let here = if_cr(s[at + k], j);
-        m = less(here, m);
-        j += 1;
+    let mut m = u8::MAX;
+    for j in 0..64u8 {
+        let here = if_cr(s[at + usize::from(j)], j);
+        m = here.min(m);
     }
-    m
-}
-
-// The place p, or e where p is past it.
-fn not_past(p: usize, e: usize) -> usize
-    ensures { Less p e result }
-{
-    if p <= e {
-        return p;
+    if m == u8::MAX {
+        return None;
     }
-    e
+    Some(at + usize::from(m))
 }
 
 // Two blocks of four.
@@ -251,15 +217,15 @@ fn find_far(s: &[u8], from: usize) -> Option<usize>
     let plain = pass_plain(s, from, e);
     let eight = pass(s, plain, e, b"\r", 0, 0, EIGHT);
     let four = pass(s, eight, s.len(), b"\r", 0, 0, FOUR);
-    let at = not_past(four, e);
-    let j = first(s, at);
-    if j == 255 {
-        return find_byte(s, at + FOUR, b'\r');
+    let at = four.min(e);
+    if let Some(p) = first(s, at) {
+        return Some(p);
     }
-    Some(at + (j as usize))
+    find_byte(s, at + FOUR, b'\r')
 }
 
 // The first CR at or after `from`. One that is near is found place by place: the blocks take their time to start.
+#[tactic(auto, using(crate::specs::Laws::byte_here, text::specs::Laws::find_late))]
 pub fn find_cr(s: &[u8], from: usize) -> Option<usize>
     ensures { result ≡ find_in (bytes "\r") s.now from }
 {
@@ -284,25 +250,26 @@ pub fn find_cr(s: &[u8], from: usize) -> Option<usize>
 }
 
 // Are the n bytes from `at` on all spaces? It goes through all n, so that a processor may take many at once.
+#[tactic(auto, unfolding(crate::specs::Seek::all_of, crate::specs::Seek::space_at))]
 fn spaces(s: &[u8], at: usize, n: usize) -> bool
     requires { at + n ≤ length s.now }
     ensures { result ≡ all_of (space_at s.now at) n }
 {
     let mut all = true;
-    let mut j = 0;
-    while j < n {
-        all = all & (s[at + j] == b' ');
-        j += 1;
+    for j in 0..n {
+        all &= s[at + j] == b' ';
     }
     all
 }
 
 // A later place from which the spaces end at the same place: past the blocks of four that are all spaces.
+#[tactic(auto, using(crate::specs::Laws::spaces_all))]
 fn pass_spaces(s: &[u8], from: usize) -> usize
     requires { from ≤ length s.now }
     ensures { past (is_blank Blanks.Space) s.now from ≡ past (is_blank Blanks.Space) s.now result }
 {
     let mut i = from;
+    // no `for`, as in `pass`
     while FOUR <= s.len() - i {
         if !spaces(s, i, FOUR) {
             return i;
@@ -313,13 +280,11 @@ fn pass_spaces(s: &[u8], from: usize) -> usize
 }
 
 // The first place at or after `from` whose byte is no space, as `text::skip` has it; one at `from` is told at once.
+#[tactic(auto, using(text::specs::Steps::past_end, crate::specs::Laws::no_space))]
 pub fn skip_spaces(s: &[u8], from: usize) -> usize
     ensures { result ≡ past (is_blank Blanks.Space) s.now from }
 {
-    if s.len() <= from {
-        return from;
-    }
-    if s[from] != b' ' {
+    if s.len() <= from || s[from] != b' ' {
         return from;
     }
     let p = pass_spaces(s, from);
