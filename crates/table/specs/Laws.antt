@@ -241,21 +241,13 @@ unfolding ruling ruling_by then_rule good_at good_if record_at
 ruling_empty t e = rw e
 
 -- the loop of `check`: n records are good, and the ruling is that on the rest
-pub record Counting (t : List ℕ) (at n : ℕ) : Type 0 where
-  pub few : n ≤ 64
-  pub is : ruling t ≡ ruling_by (64 - n) t at n
-
-pub counting_none : (t : List ℕ) → Counting t 0 0
-unfolding ruling
-counting_none t = record { few = omega arith; is = refl }
-
-module _ (t : List ℕ) (at n : ℕ) (w : Counting t at n) where
+module _ (t : List ℕ) (at n : ℕ) (w : ruling t ≡ ruling_by (64 - n) t at n) where
   module _ (h : n < 64) (q : Read) (p : q ≡ good_at t at) where
     at_read : ruling t ≡ then_rule q n (λ x. ruling_by (64 - (n + 1)) t x (n + 1))
     unfolding ruling_by
     at_read =
         let e : 64 - n ≡ suc (64 - (n + 1)) = omega arith in
-        w.is ∙ ap (λ (k : ℕ). ruling_by k t at n) e ∙ ap (λ (y : Read). then_rule y n (λ x. ruling_by (64 - (n + 1)) t x (n + 1))) (sym p)
+        w ∙ ap (λ (k : ℕ). ruling_by k t at n) e ∙ ap (λ (y : Read). then_rule y n (λ x. ruling_by (64 - (n + 1)) t x (n + 1))) (sym p)
 
     pub check_end : q ≡ End → answered n ≡ ruling t
     unfolding then_rule
@@ -265,19 +257,19 @@ module _ (t : List ℕ) (at n : ℕ) (w : Counting t at n) where
     unfolding then_rule
     check_faulty e = sym (rw e at at_read)
 
-    pub check_more : (r : Record) → q ≡ Is r → Counting t (r.place + r.len) (n + 1)
+    pub check_more : (r : Record) → q ≡ Is r → ruling t ≡ ruling_by (64 - (n + 1)) t (r.place + r.len) (n + 1)
     unfolding then_rule end_of
-    check_more r e = record { few = omega arith; is = rw e at at_read }
+    check_more r e = rw e at at_read
 
-  module _ (h : 64 ≤ n) where
-    at_last : ruling t ≡ (if leb (length t) at then answered n else refused 2 (n ∷ []))
+  module _ (h : n ≡ 64) where
+    at_last : ruling t ≡ (if leb (length t) at then answered 64 else refused 2 (64 ∷ []))
     unfolding ruling_by
-    at_last = let e : 64 - n ≡ 0 = omega arith in w.is ∙ ap (λ (k : ℕ). ruling_by k t at n) e
+    at_last = w ∙ ap (λ (k : ℕ). ruling_by (64 - k) t at k) h
 
-    pub check_full : length t ≤ at → answered n ≡ ruling t
+    pub check_full : length t ≤ at → answered 64 ≡ ruling t
     check_full e = sym (rw (le-leb (length t) at e) at at_last)
 
-    pub check_over : at < length t → refused 2 (n ∷ []) ≡ ruling t
+    pub check_over : at < length t → refused 2 (64 ∷ []) ≡ ruling t
     check_over e = sym (rw (lt-leb (length t) at e) at at_last)
 
 -- `good_if` by cases
@@ -314,13 +306,14 @@ module _ (m : Mark) (t : List ℕ) (at n place k : ℕ) (w : next_of m t at n �
         let e : 64 - k ≡ suc (64 - (k + 1)) = omega arith in
         w ∙ ap (λ (x : ℕ). next_by x m t place k) e ∙ ap (λ (y : Read). then_next m y k (λ x. next_by (64 - (k + 1)) m t x (k + 1))) (sym p)
 
-    pub next_end : q ≡ End → None ≡ next_of m t at n
+    pub next_none : ((r : Record) → q ≡ Is r → ⊥) → None ≡ next_of m t at n
     unfolding then_next
-    next_end e = sym (rw e at at_next)
-
-    pub next_faulty : q ≡ Faulty → None ≡ next_of m t at n
-    unfolding then_next
-    next_faulty e = sym (rw e at at_next)
+    next_none e = go q refl
+      where
+        go : (y : Read) → q ≡ y → None ≡ next_of m t at n
+        go (Is r) z = absurd (e r z)
+        go Faulty z = sym (rw z at at_next)
+        go End z = sym (rw z at at_next)
 
     module _ (r : Record) (e : q ≡ Is r) (b : Bool) (v : b ≡ same_mark r.mark m) where
       at_record : next_of m t at n ≡ (if b then Some (r, k) else next_of m t (r.place + r.len) (k + 1))

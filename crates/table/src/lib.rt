@@ -4,10 +4,10 @@
 #![tactic(auto)]
 
 ghost use Rattle.std.specs.Prelude.{◌≡◌, ◌+◌, ◌*◌, ◌≤◌, length, take, drop};
-ghost use Rattle.table.specs.Table.{all_plain, is_text, text_at, prompt_at, record_at, good_at, ruling, outcome, mark_number, same_mark, next_of};
+ghost use Rattle.table.specs.Table.{all_plain, is_text, text_at, prompt_at, record_at, good_at, ruling, outcome, next_of};
 
 // What a record stands for: UR, CS, CE, CP.
-#[derive(Clone, Copy)]
+#[derive(Clone, Copy, PartialEq, Eq)]
 pub enum Mark {
     Notice,
     Success,
@@ -25,6 +25,7 @@ pub struct Record {
 }
 
 // What reading at a place finds: a record, one that can't be read, or the table's end.
+// kept: an Option of a Result is no plainer, for the three are told apart in every reader.
 #[derive(Clone, Copy)]
 enum Read {
     Is(Record),
@@ -41,97 +42,73 @@ pub enum TableError {
 // At most so many records.
 const MOST: usize = 64;
 
-// Are the w bytes from `at` on plain, 0x20 to 0x7E? It goes through all of them, so that a processor may take many at once.
-fn part_plain(t: &[u8], at: usize, w: usize) -> bool
-    requires { at + w ≤ length t.now }
-    ensures { result ≡ all_plain (take w (drop at t.now)) }
+// Are the W bytes from `at` on plain, 0x20 to 0x7E? It goes through all of them, so that a processor may take many at once.
+fn part_plain<const W: usize>(t: &[u8], at: usize) -> bool
+    requires { at + W ≤ length t.now }
+    ensures { result ≡ all_plain (take W (drop at t.now)) }
 {
     let mut all = true;
-    let mut j = 0;
-    while j < w {
-        all = all & ((0x20 <= t[at + j]) & (t[at + j] <= 0x7E));
-        j += 1;
+    for j in 0..W {
+        all &= (0x20 <= t[at + j]) & (t[at + j] <= 0x7E);
     }
     all
 }
 
-// Are t's bytes plain? Its first w and its last w are all there are.
-fn ends_plain(t: &[u8], w: usize) -> bool
-    requires { (w ≤ length t.now) × (length t.now ≤ 2 * w) }
+// Are t's bytes plain? Its first W and its last W are all there are.
+fn ends_plain<const W: usize>(t: &[u8]) -> bool
+    requires { (W ≤ length t.now) × (length t.now ≤ 2 * W) }
     ensures { result ≡ all_plain t.now }
 {
-    part_plain(t, 0, w) & part_plain(t, t.len() - w, w)
+    part_plain::<W>(t, 0) & part_plain::<W>(t, t.len() - W)
 }
 
-// Are t's bytes plain? The widths are numbers, so that each is compiled for itself, without a loop.
+// Are t's bytes plain? The widths are constants, so that each is compiled for itself, without a loop.
 fn all_plain(t: &[u8]) -> bool
     requires { (1 ≤ length t.now) × (length t.now ≤ 32) }
     ensures { result ≡ all_plain t.now }
 {
-    let n = t.len();
-    if 16 <= n {
-        return ends_plain(t, 16);
+    match t.len() {
+        16.. => ends_plain::<16>(t),
+        8.. => ends_plain::<8>(t),
+        4.. => ends_plain::<4>(t),
+        2.. => ends_plain::<2>(t),
+        _ => ends_plain::<1>(t),
     }
-    if 8 <= n {
-        return ends_plain(t, 8);
-    }
-    if 4 <= n {
-        return ends_plain(t, 4);
-    }
-    if 2 <= n {
-        return ends_plain(t, 2);
-    }
-    ends_plain(t, 1)
 }
 
 // A text has 1 to 32 bytes, each 0x20 to 0x7E, the first and the last no space.
 // These two are asked last: a byte that was read alone before isn't taken together with others.
+#[tactic(auto, unfolding(crate::specs::Table::is_text))]
 fn is_text(t: &[u8]) -> bool
     ensures { result ≡ is_text t.now }
 {
     let n = t.len();
-    if n == 0 {
-        return false;
-    }
-    if 32 < n {
-        return false;
-    }
-    if !all_plain(t) {
-        return false;
-    }
-    if t[0] == b' ' {
-        return false;
-    }
-    t[n - 1] != b' '
-}
-
-fn wide(b: u8) -> usize
-    ensures { result ≡ b }
-{
-    b as usize
+    1 <= n && n <= 32 && all_plain(t) && t[0] != b' ' && t[n - 1] != b' '
 }
 
 // The rest of a record from its length byte on, which stands at k.
+#[tactic(auto, unfolding(crate::specs::Table::text_at))]
 fn text_at(t: &[u8], k: usize, mark: Mark, prompt: u8) -> Read
     ensures { result ≡ text_at mark prompt t.now k }
 {
     if t.len() <= k {
         return Read::Faulty;
     }
-    let len = wide(t[k]);
+    let len = usize::from(t[k]);
     if t.len() - k <= len {
         return Read::Faulty;
     }
     let place = k + 1;
     Read::Is(Record {
-        mark: mark,
-        prompt: prompt,
-        place: place,
-        len: len,
+        mark,
+        prompt,
+        place,
+        len,
     })
 }
 
 // The rest of a CP record from its prompt byte on, which stands at k.
+#[tactic(auto, unfolding(crate::specs::Table::prompt_at))]
 fn prompt_at(t: &[u8], k: usize) -> Read
     ensures { result ≡ prompt_at t.now k }
 {
@@ -143,42 +120,33 @@ fn prompt_at(t: &[u8], k: usize) -> Read
 
 // The record that begins at `at`, as it lies: whether its text keeps the rules is not asked.
 // At or past the table's end there is none.
+#[tactic(auto, unfolding(crate::specs::Table::record_at))]
 fn record_at(t: &[u8], at: usize) -> Read
     ensures { result ≡ record_at t.now at }
 {
     if t.len() <= at {
-        return Read::End;
+        Read::End
+    } else if text::matches_at(t, at, b"UR") {
+        text_at(t, at + 2, Mark::Notice, 0)
+    } else if text::matches_at(t, at, b"CS") {
+        text_at(t, at + 2, Mark::Success, 0)
+    } else if text::matches_at(t, at, b"CE") {
+        text_at(t, at + 2, Mark::Error, 0)
+    } else if text::matches_at(t, at, b"CP") {
+        prompt_at(t, at + 2)
+    } else {
+        Read::Faulty
     }
-    if text::matches_at(t, at, b"UR") {
-        return text_at(t, at + 2, Mark::Notice, 0);
-    }
-    if text::matches_at(t, at, b"CS") {
-        return text_at(t, at + 2, Mark::Success, 0);
-    }
-    if text::matches_at(t, at, b"CE") {
-        return text_at(t, at + 2, Mark::Error, 0);
-    }
-    if text::matches_at(t, at, b"CP") {
-        return prompt_at(t, at + 2);
-    }
-    Read::Faulty
 }
 
 // The record that begins at `at`, faulty also where its text breaks a rule.
+#[tactic(auto, unfolding(crate::specs::Table::good_at, crate::specs::Table::good_if))]
 fn good_at(t: &[u8], at: usize) -> Read
     ensures { result ≡ good_at t.now at }
 {
     match record_at(t, at) {
-        Read::Is(r) => {
-            let place = r.place;
-            let end = place + r.len;
-            if !is_text(&t[place..end]) {
-                return Read::Faulty;
-            }
-            Read::Is(r)
-        }
-        Read::Faulty => Read::Faulty,
-        Read::End => Read::End,
+        Read::Is(r) if !is_text(&t[r.place..r.place + r.len]) => Read::Faulty,
+        read => read,
     }
 }
 
@@ -187,43 +155,17 @@ pub fn check(t: &[u8]) -> Result<usize, TableError>
     ensures { outcome result ≡ ruling t.now }
 {
     let mut at = 0;
-    let mut n = 0;
-    while n < MOST {
+    for n in 0..MOST {
         match good_at(t, at) {
-            Read::End => {
-                return Ok(n);
-            }
-            Read::Faulty => {
-                return Err(TableError::Faulty(n));
-            }
-            Read::Is(r) => {
-                at = r.place + r.len;
-                n += 1;
-            }
+            Read::End => return Ok(n),
+            Read::Faulty => return Err(TableError::Faulty(n)),
+            Read::Is(r) => at = r.place + r.len,
         }
     }
     if at < t.len() {
-        return Err(TableError::Faulty(n));
+        return Err(TableError::Faulty(MOST));
     }
-    Ok(n)
-}
-
-// Are the two marks the same?
-fn same_mark(a: Mark, b: Mark) -> bool
-    ensures { result ≡ same_mark a b }
-{
-    mark_number(a) == mark_number(b)
-}
-
-fn mark_number(m: Mark) -> u8
-    ensures { result ≡ mark_number m }
-{
-    match m {
-        Mark::Notice => 0,
-        Mark::Success => 1,
-        Mark::Error => 2,
-        Mark::Prompt => 3,
-    }
+    Ok(MOST)
 }
 
 // The first record with the mark, read from `at` on, where record number n begins. At most 64 are read in all.
@@ -231,24 +173,14 @@ pub fn next_of(t: &[u8], mark: Mark, at: usize, n: usize) -> Option<(Record, usi
     ensures { result ≡ next_of mark t.now at n }
 {
     let mut place = at;
-    let mut k = n;
-    while k < MOST {
-        match record_at(t, place) {
-            Read::End => {
-                return None;
-            }
-            Read::Faulty => {
-                return None;
-            }
-            Read::Is(r) => {
-                let found = r.mark;
-                if same_mark(found, mark) {
-                    return Some((r, k));
-                }
-                place = r.place + r.len;
-                k += 1;
-            }
+    for k in n..MOST {
+        let Read::Is(r) = record_at(t, place) else {
+            return None;
+        };
+        if r.mark == mark {
+            return Some((r, k));
         }
+        place = r.place + r.len;
     }
     None
 }

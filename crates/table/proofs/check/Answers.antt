@@ -1,10 +1,13 @@
--- `check` meets its contract: the ruling on the table is the ruling on what is left of it, n records on. The measure is the records that may still come.
-use Rattle.table.specs.Laws.{counting_none, check_end, check_faulty, check_more, check_full, check_over, good_record_inside}
+-- `check` meets its contract: the ruling on the table is the ruling on what is left of it, n records on.
+use mathlib.Core.Path.{refl}
+use Rattle.table.specs.Table.{ruling}
+use Rattle.table.specs.Laws.{check_end, check_faulty, check_more, check_full, check_over, good_record_inside}
 use native.Mathlib.Omega.{arith}
 use Rattle.table.proofs.check.Goals as goal
 
 pub loop-n-init : goal.loop-n-init
-loop-n-init c = counting_none c.args.t.now
+unfolding ruling
+loop-n-init c = refl
 
 pub returns-in-End : goal.returns-in-End
 returns-in-End c =
@@ -17,9 +20,6 @@ returns-in-Faulty c =
 pub overflow_add-at : goal.overflow_add-at
 overflow_add-at c =
     record { fits = omega (arith, good_record_inside c.args.t.now c.loop-n.at _ _ c.good_at.ensures c.in-Is.is) }
-
-pub overflow_add-n : goal.overflow_add-n
-overflow_add-n c = record { fits = omega arith }
 
 pub loop-n-preserved : goal.loop-n-preserved
 loop-n-preserved c =

@@ -1,9 +1,7 @@
+use mathlib.Core.Path.{◌≡◌}
 use Prim.Native.Nat.{◌-◌}
-use Rattle.table.specs.Laws.{Counting}
+use Rattle.table.specs.Table.{ruling, ruling_by}
 use Rattle.table.proofs.check.Given as goal
 
 abbrev pub invariant-loop-n : goal.invariant-loop-n
-invariant-loop-n l = Counting l.t l.at l.n
-
-abbrev pub decreases-loop-n : goal.decreases-loop-n
-decreases-loop-n l = 64 - l.n
+invariant-loop-n l = ruling l.t ≡ ruling_by (64 - l.n) l.t l.at l.n
