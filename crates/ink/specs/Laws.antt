@@ -90,11 +90,9 @@ hex_length [] = refl
 hex_length (b ∷ p) = let e = hex_length p in omega arith
 
 -- the digits: what is to be written of n is what is to be written of m, before the digits that stand from k on
-pub record Counting (n : ℕ) (d₀ : List ℕ) (d : List ℕ) (k m : ℕ) : Type 0 where
+pub record Counting (n : ℕ) (d : List ℕ) (k m : ℕ) : Type 0 where
   pub same : decimal n ≡ decimal_by k m ++ drop k d
-  pub within : k ≤ 20
-  pub long : length d ≡ length d₀
-  pub twenty : length d₀ ≡ 20
+  pub long : length d ≡ 20
 
 drop_set : (d : List ℕ) (k x : ℕ) → k < length d → drop k (set d k x) ≡ x ∷ drop (k + 1) d
 drop_set d k x h =
@@ -102,44 +100,33 @@ drop_set d k x h =
     let e : suc k ≡ k + 1 = omega arith in
     drop-cons (set d k x) k 0 l ∙ (λ i. get_or-set_same d k x 0 h i ∷ drop-set-lt (suc k) d k x (omega arith) i) ∙ ap (λ (j : ℕ). x ∷ drop j d) e
 
-module _ (n : ℕ) (d₀ d : List ℕ) (k m : ℕ) (c : Counting n d₀ d (k + 1) m) where
-  at_digit : decimal n ≡ (if leb 1 (m / 10) then decimal_by k (m / 10) else []) ++ ((48 + m % 10) ∷ []) ++ drop (k + 1) d
-  unfolding decimal_by
-  at_digit = let e : k + 1 ≡ suc k = omega arith in c.same ∙ ap (λ (j : ℕ). decimal_by j m ++ drop (k + 1) d) e
-
-  module _ (x : ℕ) (v : x ≡ 48 + m % 10) where
-    pub digit_last : m / 10 ≡ 0 → drop k (set d k x) ≡ decimal n
-    digit_last z =
-        drop_set d k x (omega (arith, c.within, c.long, c.twenty)) ∙ ap (λ (y : ℕ). y ∷ drop (k + 1) d) v ∙ sym (at_digit ∙ rw (lt-leb 1 (m / 10) (omega arith)))
-
-    pub digit_more : (m / 10 ≡ 0 → ⊥) → Counting n d₀ (set d k x) k (m / 10)
-    digit_more z =
-        record {
-          same =
-              at_digit
-              ∙ rw (le-leb 1 (m / 10) (omega arith)) (append_assoc (decimal_by k (m / 10)) ((48 + m % 10) ∷ []) (drop (k + 1) d)
-              ∙ ap (λ (y : List ℕ). decimal_by k (m / 10) ++ y) (sym (drop_set d k x (omega (arith, c.within, c.long, c.twenty)) ∙ ap (λ (y : ℕ). y ∷ drop (k + 1) d) v)));
-          within = omega (arith, c.within);
-          long = rw length-set c.long;
-          twenty = c.twenty;
-        }
-
-pub digits_start : (n : ℕ) (d : List ℕ) → length d ≡ 20 → Counting n d d 20 n
+pub digits_start : (n : ℕ) (d : List ℕ) → length d ≡ 20 → Counting n d 20 n
 unfolding decimal
 digits_start n d h =
-    record {
-      same = sym (append-nil (decimal_by 20 n)) ∙ ap (λ (y : List ℕ). decimal_by 20 n ++ y) (sym (drop_of_length-le d {i = 20} (omega arith)));
-      within = omega arith;
-      long = refl;
-      twenty = h;
-    }
+    record { same = sym (append-nil (decimal_by 20 n)) ∙ ap (λ (y : List ℕ). decimal_by 20 n ++ y) (sym (drop_of_length-le d {i = 20} (omega arith))); long = h }
 
-pub digits_end : (n : ℕ) (d₀ d : List ℕ) (k m : ℕ) → Counting n d₀ d k m → k ≤ 0 → drop k d ≡ decimal n
+-- one digit more before those that stand, the last one where nothing is left
+module _ (n : ℕ) (d : List ℕ) (k m : ℕ) (c : Counting n d k m) (l : 0 < k) (h : k ≤ 20) where
+  at_digit : decimal n ≡ (if leb 1 (m / 10) then decimal_by (k - 1) (m / 10) else []) ++ drop (k - 1) (set d (k - 1) (48 + m % 10))
+  unfolding decimal_by
+  at_digit =
+      let e : k ≡ suc (k - 1) = omega arith in
+      let f : k - 1 + 1 ≡ k = omega arith in
+      c.same ∙ ap (λ (j : ℕ). decimal_by j m ++ drop k d) e ∙ append_assoc _ ((48 + m % 10) ∷ []) (drop k d)
+      ∙ ap (λ (y : List ℕ). (if leb 1 (m / 10) then decimal_by (k - 1) (m / 10) else []) ++ y) (sym (drop_set d (k - 1) (48 + m % 10) (omega (arith, c.long)) ∙ ap (λ (j : ℕ). (48 + m % 10) ∷ drop j d) f))
+
+  pub digit_last : m / 10 ≡ 0 → drop (k - 1) (set d (k - 1) (48 + m % 10)) ≡ decimal n
+  digit_last z = sym (at_digit ∙ rw (lt-leb 1 (m / 10) (omega arith)))
+
+  pub digit_more : (m / 10 ≡ 0 → ⊥) → Counting n (set d (k - 1) (48 + m % 10)) (k - 1) (m / 10)
+  digit_more z = record { same = at_digit ∙ rw (le-leb 1 (m / 10) (omega arith)); long = rw length-set c.long }
+
+pub digits_end : (n : ℕ) (d : List ℕ) (m : ℕ) → Counting n d 0 m → d ≡ decimal n
 unfolding decimal_by
-digits_end n d₀ d k m c h = let z : k ≡ 0 = omega arith in sym (c.same ∙ ap (λ (j : ℕ). decimal_by j m ++ drop k d) z)
+digits_end n d m c = sym c.same
 
-pub digits_text_lem : (d : List ℕ) (k n : ℕ) → length d ≡ 20 → drop k d ≡ decimal n → take (20 - k) (drop k d) ≡ decimal n
-digits_text_lem d k n l e = take_all (20 - k) (drop k d) (rw length-drop (omega arith)) ∙ e
+pub digits_text : (d : List ℕ) (k n : ℕ) → length d ≡ 20 → drop k d ≡ decimal n → take (20 - k) (drop k d) ≡ decimal n
+digits_text d k n l e = take_all (20 - k) (drop k d) (rw length-drop (omega arith)) ∙ e
 
 -- hexadecimal: one byte more
 hex_append : (p q : List ℕ) → hex (p ++ q) ≡ hex p ++ hex q
@@ -147,43 +134,18 @@ unfolding hex
 hex_append [] q = refl
 hex_append (b ∷ p) q = ap (λ (r : List ℕ). hex_digit (b / 16) ∷ hex_digit (b % 16) ∷ r) (hex_append p q)
 
-pub hex_below : (n : ℕ) → n < 10 → 48 + n ≡ hex_digit n
-unfolding hex_digit
-hex_below n h = rw (lt-ltb n 10 h)
-
-pub hex_above : (n : ℕ) → 10 ≤ n → 55 + n ≡ hex_digit n
-unfolding hex_digit
-hex_above n h = rw (le-ltb n 10 h)
-
-pub record Hexing (p : List ℕ) (o₀ : List ℕ) (at : ℕ) (o : List ℕ) (i n : ℕ) : Type 0 where
-  pub same : inked o n ≡ ink o₀ at (hex (take i p))
-  pub within : i ≤ length p
-  pub room : at + 2 * length p ≤ length o₀
-  pub long : length o ≡ length o₀
-
-module _ (p o₀ : List ℕ) (at : ℕ) (o : List ℕ) (i n : ℕ) (c : Hexing p o₀ at o i n) where
-  taken_length : length (hex (take i p)) ≡ 2 * i
-  taken_length = omega (arith, hex_length (take i p), length-take-le i p c.within)
-
-  pub hexing_more : i < length p → (x y : ℕ) → x ≡ hex_digit (get_or p i 0 / 16) → y ≡ hex_digit (get_or p i 0 % 16) → (o' : List ℕ) (n' : ℕ) → inked o' n' ≡ ink o n (x ∷ y ∷ []) → length o' ≡ length o → Hexing p o₀ at o' (i + 1) n'
-  unfolding hex
-  hexing_more h x y u v o' n' e l =
-      let s : suc i ≡ i + 1 = omega arith in
-      let t : hex (take i p) ++ (x ∷ y ∷ []) ≡ hex (take (i + 1) p) =
-      (λ k. hex (take i p) ++ (u k ∷ v k ∷ [])) ∙ sym (hex_append (take i p) (get_or p i 0 ∷ [])) ∙ ap hex (sym (take-suc p i 0 h) ∙ ap (λ (k : ℕ). take k p) s) in
-      record {
-        same = then_ink o₀ at (hex (take i p)) (x ∷ y ∷ []) o n (inked o' n') c.same e (omega (arith, taken_length, c.room)) ∙ ap (ink o₀ at) t;
-        within = omega arith;
-        room = c.room;
-        long = l ∙ c.long;
-      }
-
 pub hex_over : (p o : List ℕ) (at : ℕ) → length o < at + 2 * length p → inked o at ≡ ink o at (hex p)
 hex_over p o at h = ink_over o at (hex p) (omega (arith, hex_length p))
 
-pub hexing_start : (p o : List ℕ) (at : ℕ) → at + 2 * length p ≤ length o → Hexing p o at o 0 at
+pub hex_start : (p o : List ℕ) (at : ℕ) → inked o at ≡ ink o at (hex (take 0 p))
 unfolding hex
-hexing_start p o at h = record { same = ink_none o at; within = omega arith; room = h; long = refl }
+hex_start p o at = ink_none o at
 
-pub hexing_end : (p o₀ : List ℕ) (at : ℕ) (o : List ℕ) (i n : ℕ) → Hexing p o₀ at o i n → length p ≤ i → inked o n ≡ ink o₀ at (hex p)
-hexing_end p o₀ at o i n c h = c.same ∙ ap (λ (x : List ℕ). ink o₀ at (hex x)) (take_all i p h)
+pub hex_more : (p o₀ : List ℕ) (at : ℕ) (o : List ℕ) (i n : ℕ) → inked o n ≡ ink o₀ at (hex (take i p)) → at + 2 * length p ≤ length o₀ → i < length p → (x y : ℕ) → x ≡ hex_digit (get_or p i 0 / 16) → y ≡ hex_digit (get_or p i 0 % 16) → (o' : List ℕ) (n' : ℕ) → inked o' n' ≡ ink o n (x ∷ y ∷ []) → inked o' n' ≡ ink o₀ at (hex (take (i + 1) p))
+unfolding hex
+hex_more p o₀ at o i n same room h x y u v o' n' e =
+    let s : suc i ≡ i + 1 = omega arith in
+    let l : length (hex (take i p)) ≡ 2 * i = omega (arith, hex_length (take i p), length-take-le i p (omega arith)) in
+    let t : hex (take i p) ++ (x ∷ y ∷ []) ≡ hex (take (i + 1) p) =
+    (λ k. hex (take i p) ++ (u k ∷ v k ∷ [])) ∙ sym (hex_append (take i p) (get_or p i 0 ∷ [])) ∙ ap hex (sym (take-suc p i 0 h) ∙ ap (λ (k : ℕ). take k p) s) in
+    then_ink o₀ at (hex (take i p)) (x ∷ y ∷ []) o n (inked o' n') same e (omega (arith, l, room)) ∙ ap (ink o₀ at) t

@@ -1,10 +1,7 @@
-use Prim.Native.Nat.{◌-◌}
-use lib.ListN.{length}
-use Rattle.ink.specs.Laws.{Hexing}
+-- So far the digits of the first bytes are put.
+use Rattle.std.proofs.Common.{◌≡◌, take}
+use Rattle.ink.specs.Ink.{inked, ink, hex}
 use Rattle.ink.proofs.hex.Given as goal
 
-abbrev pub invariant-loop-i : goal.invariant-loop-i
-invariant-loop-i l = Hexing l.p l.initial.out l.at l.out l.i l.n
-
-abbrev pub decreases-loop-i : goal.decreases-loop-i
-decreases-loop-i l = length l.p - l.i
+abbrev pub invariant-loop-b : goal.invariant-loop-b
+invariant-loop-b l = inked l.out l.n ≡ ink l.initial.out l.at (hex (take l.b-index l.p))
