@@ -9,3 +9,6 @@ check_one κs a x y s t h g = outcome_one x y (determined h g)
 
 pub next_of_one : One calls.next_of.Reads.Post
 next_of_one κs a x y s t = determined
+
+pub records_one : One calls.records.Reads.Post
+records_one κs a x y s t h g = determined h.0 g.0

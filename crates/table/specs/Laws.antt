@@ -1,13 +1,13 @@
--- Laws of the token table: the ways out of each reader, a text by its two ends, the loops over the records, the records with a mark, and what a good table's tokens are.
+-- Laws of the token table: a text by its two ends, the loops over the records, the records with a mark, and what a good table's tokens are.
 use Rattle.std.proofs.Math.Path.{◌≡◌, refl, sym, ap}
 use Rattle.std.proofs.Common.{Option, Some, None, Result, Ok, Err, ◌∙◌, add-one, not-suc-le-zero, le_of_suc-le-suc, length-drop, take-append-drop, take-suc, take-add, take_all, get_or-drop, length-take-le}
 use Rattle.std.specs.Prelude.{Bool, not, ◌&&◌, length, take, drop, eqb, leb, ltb, if◌then◌else◌}
-use Rattle.std.proofs.Math.Bool.{true, false, and-true, and-false, and_assoc, and_self_left}
+use Rattle.std.proofs.Math.Bool.{true, false, and-true, and_assoc, and_self_left}
 use mathlib.Core.List.{List, [], ◌∷◌, ◌++◌}
 use Prim.Native.Nat.{ℕ, zero, suc, ◌+◌, ◌-◌, ◌*◌, ◌≤◌, ◌<◌}
 use native.Mathlib.Omega.{arith}
 use Rattle.std.proofs.Math.ListN.{get_or}
-use borrow.Author.Tests.{lt-ltb, le-ltb, le-leb, lt-leb, eq-eqb, ne_eqb, ltb-true, leb-true, eqb-true, eqb-false, not-true}
+use borrow.Author.Tests.{le-leb, lt-leb, ne_eqb, ltb-true, leb-true, eqb-true, eqb-false, not-true}
 use Rattle.text.specs.Bytes.{bytes}
 use Rattle.text.specs.Logic.{and_both}
 use Rattle.text.specs.Text.{among, blanks, is_blank, stands}
@@ -22,7 +22,7 @@ use Rattle.table.specs.declared.Read.{Read}
 use Rattle.table.specs.declared.Read.TheVariants.{Is, Faulty, End}
 use Rattle.table.specs.declared.TableError.{TableError}
 use Rattle.table.specs.declared.TableError.TheVariants as checks
-use Rattle.table.specs.Table.{is_plain, all_plain, is_text, text_at, prompt_at, record_at, text_of, end_of, good_if, good_at, then_rule, ruling_by, ruling, outcome, mark_number, same_mark, then_next, next_by, next_of, Token, token_of, then_tokens, tokens_by, tokens, Entry, entry_of, of_mark, entries}
+use Rattle.table.specs.Table.{is_plain, all_plain, is_text, text_at, prompt_at, record_at, text_of, end_of, good_if, good_at, then_rule, ruling_by, ruling, outcome, mark_number, same_mark, then_next, next_by, next_of, then_found, found_by, found, Token, token_of, then_tokens, tokens_by, tokens, Entry, entry_of, of_mark, entries_of, entries}
 
 -- no two answers of the check have the same outcome
 pub outcome_one : (r q : Result ℕ TableError) → outcome r ≡ outcome q → r ≡ q
@@ -56,31 +56,8 @@ ends_all t w h g =
     let rear : take w d ≡ d = take_all w d (rw length-drop (omega arith)) in
     rw (front, rear, all_append (take a t) (take b d), all_split a t, all_split b d, and_assoc, and_self_left)
 
--- `is_text` by its tests: the length, the bytes, the first and the last
+-- what a good text is
 module _ (t : List ℕ) where
-  pub text_empty : length t ≡ 0 → false ≡ is_text t
-  unfolding is_text
-  text_empty e = rw (lt-leb 1 (length t) (omega arith))
-
-  module _ (a : (length t ≡ 0 → ⊥)) where
-    pub text_long : 32 < length t → false ≡ is_text t
-    unfolding is_text
-    text_long h = rw (le-leb 1 (length t) (omega arith), lt-leb (length t) 32 h)
-
-    module _ (b : length t ≤ 32) where
-      pub text_unplain : all_plain t ≡ false → false ≡ is_text t
-      unfolding is_text
-      text_unplain h = rw (le-leb 1 (length t) (omega arith), le-leb (length t) 32 b, h, and-false, and-false)
-
-      pub text_first : get_or t 0 0 ≡ 32 → false ≡ is_text t
-      unfolding is_text
-      text_first h = rw (le-leb 1 (length t) (omega arith), le-leb (length t) 32 b, eq-eqb (get_or t 0 0) 32 h)
-
-      pub text_last : all_plain t ≡ true → (get_or t 0 0 ≡ 32 → ⊥) → not (eqb (get_or t (length t - 1) 0) 32) ≡ is_text t
-      unfolding is_text
-      text_last e h = rw (le-leb 1 (length t) (omega arith), le-leb (length t) 32 b, ne_eqb (get_or t 0 0) 32 h, e, and-true)
-
-  -- what a good text is
   pub text_says : is_text t ≡ true → ((1 ≤ length t) × (length t ≤ 32)) × (((get_or t 0 0 ≡ 32 → ⊥) × (get_or t (length t - 1) 0 ≡ 32 → ⊥)) × (all_plain t ≡ true))
   unfolding is_text
   text_says e =
@@ -114,59 +91,10 @@ text_end t e =
     let w = text_byte t e (length t - 1) (omega arith) in
     rw (ne_eqb b 32 (text_says t e).1.0.1, ne_eqb b 9 (λ q. omega arith), ne_eqb b 13 (λ q. omega arith), ne_eqb b 10 (λ q. omega arith))
 
--- `text_at` and `prompt_at`
-module _ (m : Mark) (p : ℕ) (t : List ℕ) (k : ℕ) where
-  pub text_cut : length t ≤ k → Faulty ≡ text_at m p t k
-  unfolding text_at
-  text_cut h = rw (le-ltb (k + get_or t k 0) (length t) (omega arith))
-
-  module _ (l : ℕ) (e : l ≡ get_or t k 0) where
-    pub text_past : length t ≤ k + l → Faulty ≡ text_at m p t k
-    unfolding text_at
-    text_past h = rw (le-ltb (k + get_or t k 0) (length t) (rw e at h))
-
-    pub text_read : k + l < length t → Is (record { mark = m; prompt = p; place = k + 1; len = l }) ≡ text_at m p t k
-    unfolding text_at
-    text_read h = rw (e, lt-ltb (k + get_or t k 0) (length t) (rw e at h))
-
-module _ (t : List ℕ) (k : ℕ) where
-  pub prompt_cut : length t ≤ k → Faulty ≡ prompt_at t k
-  unfolding prompt_at
-  prompt_cut h = rw (le-ltb k (length t) h)
-
-  pub prompt_read : k < length t → text_at Prompt (get_or t k 0) t (k + 1) ≡ prompt_at t k
-  unfolding prompt_at
-  prompt_read h = rw (lt-ltb k (length t) h)
-
--- `record_at`: one level for each mark that doesn't stand
-module _ (t : List ℕ) (at : ℕ) where
-  pub read_end : length t ≤ at → End ≡ record_at t at
-  unfolding record_at
-  read_end h = rw (le-leb (length t) at h)
-
-  module _ (p : at < length t) where
-    pub read_notice : stands (bytes "UR") t at ≡ true → text_at Notice 0 t (at + 2) ≡ record_at t at
-    unfolding record_at
-    read_notice h = rw (lt-leb (length t) at p, h)
-
-    module _ (u : stands (bytes "UR") t at ≡ false) where
-      pub read_success : stands (bytes "CS") t at ≡ true → text_at Success 0 t (at + 2) ≡ record_at t at
-      unfolding record_at
-      read_success h = rw (lt-leb (length t) at p, u, h)
-
-      module _ (s : stands (bytes "CS") t at ≡ false) where
-        pub read_error : stands (bytes "CE") t at ≡ true → text_at Error 0 t (at + 2) ≡ record_at t at
-        unfolding record_at
-        read_error h = rw (lt-leb (length t) at p, u, s, h)
-
-        module _ (e : stands (bytes "CE") t at ≡ false) where
-          pub read_prompt : stands (bytes "CP") t at ≡ true → prompt_at t (at + 2) ≡ record_at t at
-          unfolding record_at
-          read_prompt h = rw (lt-leb (length t) at p, u, s, e, h)
-
-          pub read_none : stands (bytes "CP") t at ≡ false → Faulty ≡ record_at t at
-          unfolding record_at
-          read_none h = rw (lt-leb (length t) at p, u, s, e, h)
+-- at or past the table's end there is no record
+read_end : (t : List ℕ) (at : ℕ) → length t ≤ at → End ≡ record_at t at
+unfolding record_at
+read_end t at h = rw (le-leb (length t) at h)
 
 -- a record lies in its table
 abbrev Inside : List ℕ → Read → Type 0
@@ -272,26 +200,17 @@ module _ (t : List ℕ) (at n : ℕ) (w : ruling t ≡ ruling_by (64 - n) t at n
     pub check_over : at < length t → refused 2 (64 ∷ []) ≡ ruling t
     check_over e = sym (rw (lt-leb (length t) at e) at at_last)
 
--- `good_if` by cases
-module _ (t : List ℕ) (at : ℕ) (q : Read) (p : q ≡ record_at t at) where
-  pub good_faulty : q ≡ Faulty → Faulty ≡ good_at t at
+-- `good_if` at a record, by its text's test
+module _ (t : List ℕ) (at : ℕ) (q : Read) (p : q ≡ record_at t at) (r : Record) (e : q ≡ Is r) (b : Bool) (w : b ≡ is_text (take (r.place + r.len - r.place) (drop r.place t))) where
+  at_text : (if b then Is r else Faulty) ≡ good_at t at
   unfolding good_at good_if
-  good_faulty e = ap (good_if t) (sym e ∙ p)
+  at_text = ap (λ (c : Bool). (if c then Is r else Faulty)) (w ∙ ap is_text (text_part t r (record_inside t at q r p e))) ∙ ap (good_if t) (sym e ∙ p)
 
-  pub good_end : q ≡ End → End ≡ good_at t at
-  unfolding good_at good_if
-  good_end e = ap (good_if t) (sym e ∙ p)
+  pub good_bad : b ≡ false → Faulty ≡ good_at t at
+  good_bad z = rw z at at_text
 
-  module _ (r : Record) (e : q ≡ Is r) (b : Bool) (w : b ≡ is_text (take (r.place + r.len - r.place) (drop r.place t))) where
-    at_text : (if b then Is r else Faulty) ≡ good_at t at
-    unfolding good_at good_if
-    at_text = ap (λ (c : Bool). (if c then Is r else Faulty)) (w ∙ ap is_text (text_part t r (record_inside t at q r p e))) ∙ ap (good_if t) (sym e ∙ p)
-
-    pub good_bad : b ≡ false → Faulty ≡ good_at t at
-    good_bad z = rw z at at_text
-
-    pub good_good : b ≡ true → Is r ≡ good_at t at
-    good_good z = rw z at at_text
+  pub good_good : b ≡ true → Is r ≡ good_at t at
+  good_good z = rw z at at_text
 
 -- the loop of `next_of`: what is sought from `at` on is sought from `place` on, record number k beginning there
 module _ (m : Mark) (t : List ℕ) (at n place k : ℕ) (w : next_of m t at n ≡ next_of m t place k) where
@@ -412,6 +331,84 @@ module _ (m : Mark) (t : List ℕ) where
 
   pub next_first : (at n : ℕ) (q : Option (Record × ℕ)) → q ≡ next_of m t at n → (r : Record) (k : ℕ) → q ≡ Some (r, k) → NextIs m t at n r k
   next_first at n q p r k e = rw (sym p ∙ e) at (next_says at n)
+
+-- What is found is what `next_of` gives one after the other.
+follow : Mark → List ℕ → Option (Record × ℕ) → List (Record × ℕ)
+follow m t None = []
+follow m t (Some (r, k)) = (r, k) ∷ found m t (r.place + r.len) (k + 1)
+
+module _ (m : Mark) (t : List ℕ) where
+  module _ (n f : ℕ) (e : 64 - n ≡ suc f) (ih : (p : ℕ) → found_by f m t p (n + 1) ≡ follow m t (next_by f m t p (n + 1))) where
+    found_mark : (r : Record) (b : Bool) → (if b then (r, n) ∷ found_by f m t (r.place + r.len) (n + 1) else found_by f m t (r.place + r.len) (n + 1)) ≡ follow m t (if b then Some (r, n) else next_by f m t (r.place + r.len) (n + 1))
+    unfolding follow found
+    found_mark r true = let g : f ≡ 64 - (n + 1) = omega arith in ap (λ (x : ℕ). (r, n) ∷ found_by x m t (r.place + r.len) (n + 1)) g
+    found_mark r false = ih (r.place + r.len)
+
+    found_read : (q : Read) → then_found m q n (λ p. found_by f m t p (n + 1)) ≡ follow m t (then_next m q n (λ p. next_by f m t p (n + 1)))
+    unfolding follow then_found then_next end_of
+    found_read (Is r) = found_mark r (same_mark r.mark m)
+    found_read Faulty = refl
+    found_read End = refl
+
+  follow_by : (f at n : ℕ) → 64 - n ≡ f → found_by f m t at n ≡ follow m t (next_by f m t at n)
+  unfolding follow found_by next_by
+  follow_by zero at n e = refl
+  follow_by (suc f) at n e = found_read n f e (λ p. follow_by f p (n + 1) (omega arith)) (record_at t at)
+
+  found_follows : (at n : ℕ) → found m t at n ≡ follow m t (next_of m t at n)
+  unfolding found next_of
+  found_follows at n = follow_by (64 - n) at n refl
+
+  pub found_none : (at n : ℕ) → next_of m t at n ≡ None → found m t at n ≡ []
+  unfolding follow
+  found_none at n e = found_follows at n ∙ ap (follow m t) e
+
+  pub found_some : (at n : ℕ) (r : Record) (k : ℕ) → next_of m t at n ≡ Some (r, k) → found m t at n ≡ (r, k) ∷ found m t (r.place + r.len) (k + 1)
+  unfolding follow
+  found_some at n r k e = found_follows at n ∙ ap (follow m t) e
+
+  -- What a walk over the records says of the entries: where it ends there are none; the first that it gives is the next, and the others are found behind it.
+  none_found : (at n : ℕ) (q : Option (Record × ℕ)) → q ≡ next_of m t at n → follow m t q ≡ [] → entries m t at n ≡ []
+  unfolding follow
+  none_found at n None p e = next_nothing m t at n None p refl
+  none_found at n (Some (r, k)) p e = cc
+
+  pub walk_ends : (at n : ℕ) → found m t at n ≡ [] → entries m t at n ≡ []
+  walk_ends at n e = none_found at n (next_of m t at n) refl (sym (found_follows at n) ∙ e)
+
+  first_found : (at n : ℕ) (q : Option (Record × ℕ)) → q ≡ next_of m t at n → (r : Record) (k : ℕ) (l : List (Record × ℕ)) → follow m t q ≡ (r, k) ∷ l → NextIs m t at n r k × (l ≡ found m t (r.place + r.len) (k + 1))
+  unfolding follow
+  first_found at n None p r k l e = cc
+  first_found at n (Some (x, j)) p r k l e =
+      let a : ◌≡◌ {A = Record × ℕ} (x, j) (r, k) = cc in
+      let b : found m t (x.place + x.len) (j + 1) ≡ l = cc in
+      (next_first m t at n (Some (x, j)) p r k (ap (λ (y : Record × ℕ). Some y) a), sym b ∙ ap (λ (y : Record × ℕ). found m t (y.0.place + y.0.len) (y.1 + 1)) a)
+
+  pub walk_next : (at n : ℕ) (r : Record) (k : ℕ) (l : List (Record × ℕ)) → found m t at n ≡ (r, k) ∷ l → NextIs m t at n r k × (l ≡ found m t (r.place + r.len) (k + 1))
+  walk_next at n r k l e = first_found at n (next_of m t at n) refl r k l (sym (found_follows at n) ∙ e)
+
+-- The entries are those of the records found.
+module _ (m : Mark) (t : List ℕ) where
+  module _ (n f : ℕ) (ih : (p : ℕ) → of_mark m (n + 1) (tokens_by f t p) ≡ entries_of t (found_by f m t p (n + 1))) where
+    entries_mark : (r : Record) (b : Bool) → (if b then entry_of (token_of t r) n ∷ of_mark m (n + 1) (tokens_by f t (r.place + r.len)) else of_mark m (n + 1) (tokens_by f t (r.place + r.len))) ≡ entries_of t (if b then (r, n) ∷ found_by f m t (r.place + r.len) (n + 1) else found_by f m t (r.place + r.len) (n + 1))
+    unfolding entries_of
+    entries_mark r true = ap (λ (l : List Entry). entry_of (token_of t r) n ∷ l) (ih (r.place + r.len))
+    entries_mark r false = ih (r.place + r.len)
+
+    entries_read : (q : Read) → of_mark m n (then_tokens t q (λ p. tokens_by f t p)) ≡ entries_of t (then_found m q n (λ p. found_by f m t p (n + 1)))
+    unfolding of_mark then_tokens then_found end_of token_of entries_of
+    entries_read (Is r) = entries_mark r (same_mark r.mark m)
+    entries_read Faulty = refl
+    entries_read End = refl
+
+  entries_by : (f at n : ℕ) → of_mark m n (tokens_by f t at) ≡ entries_of t (found_by f m t at n)
+  unfolding of_mark tokens_by found_by entries_of
+  entries_by zero at n = refl
+  entries_by (suc f) at n = entries_read n f (λ p. entries_by f p (n + 1)) (record_at t at)
+
+  pub entries_found : (at n : ℕ) → entries m t at n ≡ entries_of t (found m t at n)
+  unfolding entries found
+  entries_found at n = entries_by (64 - n) at n
 
 -- every text of the tokens, and so of those with a mark, keeps the rules
 abbrev pub Texts : List Token → Type 0

@@ -1,11 +1,13 @@
 -- The token table: its records as they lie, what a good table is, and the tokens that the digester goes by.
 use Rattle.std.specs.Prelude.{Option, Some, None, Result, Ok, Err, Bool, true, ◌&&◌, not, List, [], ◌∷◌, ℕ, zero, suc, ◌+◌, ◌-◌, length, get_or, eqb, leb, ltb, if◌then◌else◌}
+use Rattle.std.specs.Borrow.{Bor}
 use Rattle.text.specs.Bytes.{bytes}
 use Rattle.text.specs.Text.{stands, part_of}
 use Rattle.outcome.specs.Outcome.{Outcome, answered, refused}
 use Rattle.table.specs.declared.Mark.{Mark}
 use Rattle.table.specs.declared.Mark.TheVariants.{Notice, Success, Error, Prompt}
 use Rattle.table.specs.declared.Record.{Record}
+use Rattle.table.specs.declared.Walk.{Walk}
 use Rattle.table.specs.declared.Read.{Read}
 use Rattle.table.specs.declared.Read.TheVariants.{Is, Faulty, End}
 use Rattle.table.specs.declared.TableError.{TableError}
@@ -116,6 +118,31 @@ unfoldable pub next_of : Mark → List ℕ → ℕ → ℕ → Option (Record ×
 unfolding next_by
 next_of m t at n = next_by (64 - n) m t at n
 
+-- the records with the mark m, each with its number, from `at` on, where record number n begins
+unfoldable pub then_found : Mark → Read → ℕ → (ℕ → List (Record × ℕ)) → List (Record × ℕ)
+unfolding end_of
+then_found m (Is r) n f = let l = f (end_of r) in if same_mark r.mark m then (r, n) ∷ l else l
+then_found m Faulty n f = []
+then_found m End n f = []
+
+unfoldable pub found_by : ℕ → Mark → List ℕ → ℕ → ℕ → List (Record × ℕ)
+unfolding then_found record_at
+found_by zero m t at n = []
+found_by (suc more) m t at n = then_found m (record_at t at) n (λ p. found_by more m t p (n + 1))
+
+unfoldable pub found : Mark → List ℕ → ℕ → ℕ → List (Record × ℕ)
+unfolding found_by
+found m t at n = found_by (64 - n) m t at n
+
+-- the walk over the records with the mark m, from the table's front on
+unfoldable pub walk_of : Bor (List ℕ) → Mark → Walk
+walk_of t m = record { table = t; mark = m; place = 0; number = 0 }
+
+-- the records that a walk has left
+unfoldable pub rest : Walk → List (Record × ℕ)
+unfolding found
+rest x = found x.mark x.table.now x.place x.number
+
 -- What the digester goes by: a record's mark, prompt byte and text.
 pub record Token : Type 0 where
   pub mark : Mark
@@ -150,6 +177,12 @@ pub record Entry : Type 0 where
 
 unfoldable pub entry_of : Token → ℕ → Entry
 entry_of x n = record { number = n; prompt = x.prompt; text = x.text }
+
+-- the entries of records in the table t, each with its number
+unfoldable pub entries_of : List ℕ → List (Record × ℕ) → List Entry
+unfolding entry_of token_of
+entries_of t [] = []
+entries_of t ((r, n) ∷ l) = entry_of (token_of t r) n ∷ entries_of t l
 
 -- those with the mark m, in table order, where the first token has the number n
 unfoldable pub of_mark : Mark → ℕ → List Token → List Entry

@@ -4,7 +4,8 @@
 #![tactic(auto)]
 
 ghost use Rattle.std.specs.Prelude.{◌≡◌, ◌+◌, ◌*◌, ◌≤◌, length, take, drop};
-ghost use Rattle.table.specs.Table.{all_plain, is_text, text_at, prompt_at, record_at, good_at, ruling, outcome, next_of};
+ghost use Rattle.table.specs.Table.{all_plain, is_text, text_at, prompt_at, record_at, good_at, ruling, outcome, next_of, found, walk_of, rest};
+ghost use Rattle.std.specs.Iterator.{YieldsFirst, item_count};
 
 // What a record stands for: UR, CS, CE, CP.
 #[derive(Clone, Copy, PartialEq, Eq)]
@@ -183,4 +184,42 @@ pub fn next_of(t: &[u8], mark: Mark, at: usize, n: usize) -> Option<(Record, usi
         place = r.place + r.len;
     }
     None
+}
+
+// A walk over the records with a mark, as `next_of` finds one after the other: those from a place on are left.
+#[derive(Clone, Copy)]
+pub struct Walk<'a> {
+    table: &'a [u8],
+    mark: Mark,
+    place: usize,
+    number: usize,
+}
+
+impl<'a> Iterator for Walk<'a> {
+    type Item = (Record, usize);
+
+    ghost next_gives = { YieldsFirst rest };
+
+    ghost remaining = { item_count rest };
+
+    fn next(&mut self) -> Option<(Record, usize)> {
+        let (r, k) = next_of(self.table, self.mark, self.place, self.number)?;
+        self.place = r.place + r.len;
+        self.number = k + 1;
+        Some((r, k))
+    }
+}
+
+// The table's records with the mark, each with its number, up to the first that can't be read.
+#[tactic(auto, unfolding(crate::specs::Table::rest, crate::specs::Table::walk_of))]
+pub fn records<'a>(table: &'a [u8], mark: Mark) -> Walk<'a>
+    ensures is { result ≡ walk_of table.entry mark }
+    ensures left { rest result ≡ found mark table.now 0 0 }
+{
+    Walk {
+        table,
+        mark,
+        place: 0,
+        number: 0,
+    }
 }
