@@ -1,7 +1,7 @@
 -- Any two results that a contract of this crate allows are equal.
 use Rattle.outcome.specs.One.{One}
 use Rattle.text.specs.Logic.{determined}
-use Rattle.numeric.specs.Calls.{outcome_one}
+use Rattle.answers.specs.Laws.{outcome_one}
 use Rattle.numeric.proofs as calls
 
 pub digest_unchecked_one : One calls.digest_unchecked.Reads.Post

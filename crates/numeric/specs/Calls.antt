@@ -1,5 +1,5 @@
 -- The calls that a user makes: the ways out of their programs, their refusals, and what they heard.
-use Rattle.std.specs.Prelude.{Option, Some, None, Result, Ok, Err, ◌≡◌, true, List, [], ◌∷◌, ℕ, ◌+◌, ◌≤◌, ◌<◌, length, get_or, ltb}
+use Rattle.std.specs.Prelude.{Option, Some, None, ◌≡◌, true, List, [], ◌∷◌, ℕ, ◌+◌, ◌≤◌, ◌<◌, length, get_or, ltb}
 use Rattle.std.proofs.Math.Path.{refl}
 use Rattle.std.proofs.Common.{sym, ap, ◌∙◌, le-ltb, lt-ltb}
 use native.Mathlib.Omega.{arith}
@@ -14,31 +14,10 @@ use Rattle.answers.specs.declared.Kind.{Kind}
 use Rattle.answers.specs.declared.Answer.{Answer}
 use Rattle.answers.specs.Answer.{Number, has_number, stored, is_found, nothing, with_payload, Within}
 use Rattle.answers.specs.Laws.{nothing_within, payload_within}
-use Rattle.answers.specs.declared.DigestError.{DigestError}
-use Rattle.answers.specs.declared.DigestError.TheVariants as cases
-use Rattle.numeric.specs.Numeric.{kind_of, code_at, leftmost, behind, along, ring, said, said_of, digest_unchecked, ruled, under_table, digest, outcome}
+use Rattle.numeric.specs.declared.Line.{Line}
+use Rattle.numeric.specs.Numeric.{kind_of, code_at, leftmost, behind, along, ring, said, said_of, digest_unchecked, ruled, under_table, digest}
 use Rattle.numeric.specs.Heard.{NoCode, Heard, HeardIn}
 use Rattle.numeric.specs.Laws.{coded, LeastSays, least_says, behind_is, code_parts, code_fits, code_rest}
-
--- no two answers of `digest` have the same outcome
-pub outcome_one : (r q : Result Answer DigestError) → outcome r ≡ outcome q → r ≡ q
-outcome_one (Ok a) (Ok b) e = cc
-outcome_one (Ok a) (Err cases.TooLong) e = let z : ◌≡◌ {A = ℕ} 0 1 = cc in absurd (omega arith)
-outcome_one (Ok a) (Err cases.BadTable) e = let z : ◌≡◌ {A = ℕ} 0 1 = cc in absurd (omega arith)
-outcome_one (Err cases.TooLong) (Ok a) e = let z : ◌≡◌ {A = ℕ} 0 1 = cc in absurd (omega arith)
-outcome_one (Err cases.TooLong) (Err cases.TooLong) e = refl
-outcome_one (Err cases.TooLong) (Err cases.BadTable) e = let z : ◌≡◌ {A = ℕ} 0 1 = cc in absurd (omega arith)
-outcome_one (Err cases.BadTable) (Ok a) e = let z : ◌≡◌ {A = ℕ} 0 1 = cc in absurd (omega arith)
-outcome_one (Err cases.BadTable) (Err cases.TooLong) e = let z : ◌≡◌ {A = ℕ} 0 1 = cc in absurd (omega arith)
-outcome_one (Err cases.BadTable) (Err cases.BadTable) e = refl
-
-abbrev place_of_lem : Option Line → ℕ
-place_of_lem (Some (p, from)) = p
-place_of_lem None = 0
-
-abbrev start_of : Option Line → ℕ
-start_of (Some (p, from)) = from
-start_of None = 0
 
 module _ (s : List ℕ) where
   -- the way out of `said`
@@ -52,27 +31,27 @@ module _ (s : List ℕ) where
   says = least_says (code_at s) (length s) 0
 
   -- what the walk came to
-  came_to : (f : Option ℕ) → LeastSays (code_at s) (length s) 0 f → (p from : ℕ) → Some (p, from) ≡ coded s f → (f ≡ Some p) × ((code_at s p ≡ true) × (from ≡ behind s p))
-  came_to (Some k) w p from e =
-      let z : k ≡ p = sym (ap place_of_lem e) in
-      (ap Some z, (ap (code_at s) (sym z) ∙ w.here, ap start_of e ∙ ap (behind s) z))
-  came_to None w p from e = let z : ◌≡◌ {A = ℕ} 0 1 = cc in absurd (omega arith)
+  came_to : (f : Option ℕ) → LeastSays (code_at s) (length s) 0 f → (l : Line) → Some l ≡ coded s f → (f ≡ Some l.start) × ((code_at s l.start ≡ true) × (l.from ≡ behind s l.start))
+  came_to (Some k) w l e =
+      let z : l ≡ record { start = k; from = behind s k } = cc in
+      rw z (refl, (w.here, refl))
+  came_to None w l e = cc
 
   came_none : (f : Option ℕ) → None ≡ coded s f → f ≡ None
-  came_none (Some k) e = let z : ◌≡◌ {A = ℕ} 0 1 = cc in absurd (omega arith)
+  came_none (Some k) e = cc
   came_none None e = refl
 
   -- the ways out of `digest_unchecked`, r being what the walk answered
   module _ (r : Option Line) (e : r ≡ coded s (leftmost s)) where
-    at_code : (p from : ℕ) → r ≡ Some (p, from) → (leftmost s ≡ Some p) × ((code_at s p ≡ true) × (from ≡ behind s p))
-    at_code p from q = came_to (leftmost s) says p from (sym q ∙ e)
+    at_code : (l : Line) → r ≡ Some l → (leftmost s ≡ Some l.start) × ((code_at s l.start ≡ true) × (l.from ≡ behind s l.start))
+    at_code l q = came_to (leftmost s) says l (sym q ∙ e)
 
-    pub said_room : (p from : ℕ) → r ≡ Some (p, from) → (p + 2 ≤ length s) × (from ≡ behind s p)
-    said_room p from q = let w = at_code p from q in (code_fits s p w.1.0, w.1.1)
+    pub said_room : (l : Line) → r ≡ Some l → (l.start + 2 ≤ length s) × (l.from ≡ behind s l.start)
+    said_room l q = let w = at_code l q in (code_fits s l.start w.1.0, w.1.1)
 
-    pub unchecked_at : (p from : ℕ) → r ≡ Some (p, from) → (a : Answer) → a ≡ said s p → a ≡ digest_unchecked s
+    pub unchecked_at : (l : Line) → r ≡ Some l → (a : Answer) → a ≡ said s l.start → a ≡ digest_unchecked s
     unfolding digest_unchecked said_of
-    unchecked_at p from q a f = rw (at_code p from q).0 f
+    unchecked_at l q a f = rw (at_code l q).0 f
 
     pub unchecked_none : r ≡ None → (a : Answer) → a ≡ nothing 0 → a ≡ digest_unchecked s
     unfolding digest_unchecked said_of

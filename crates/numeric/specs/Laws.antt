@@ -1,5 +1,5 @@
 -- Laws of the definitions, for the programs and for those above. The walk goes from line start to line start: between a line start and the next CR there is none.
-use Rattle.std.specs.Prelude.{Option, Some, None, ◌≡◌, ◌⊎◌, Bool, false, ◌&&◌, ◌||◌, not, List, length, eqb, leb, if◌then◌else◌}
+use Rattle.std.specs.Prelude.{Option, Some, None, ◌≡◌, Bool, false, ◌&&◌, ◌||◌, not, List, length, if◌then◌else◌}
 use Rattle.std.proofs.Math.Path.{refl, sym, ap}
 use Rattle.std.proofs.Common.{◌∙◌, add-zero, eq-or-lt_of_le}
 use Rattle.std.proofs.Math.Logic.{inl, inr, ⊎_elim}
@@ -8,13 +8,13 @@ use Prim.Native.Nat.{ℕ, zero, suc, ◌+◌, ◌-◌, ◌≤◌, ◌<◌}
 use Rattle.std.proofs.Math.Numerals.{add-one, sub-one}
 use native.Mathlib.Omega.{arith}
 use Rattle.std.proofs.Math.ListN.{get_or, get_or-eq_default}
-use borrow.Author.Tests.{le-leb, lt-leb, eq-eqb, ne_eqb, eqb-true, eqb-false, not-true, not-false}
+use borrow.Author.Tests.{eq-eqb, ne_eqb, eqb-true, eqb-false, not-true, not-false}
 use Rattle.outcome.specs.Laws.{ways}
 use Rattle.text.specs.Logic.{false_true, not_true_false, and_both, order}
 use Rattle.text.specs.Text.{past}
 use Rattle.text.specs.Laws.{past_bounds, past_passes, past_stops}
 use Rattle.numeric.specs.declared.Line.{Line}
-use Rattle.numeric.specs.Numeric.{is_cr, is_lf, lone_cr, line_start, kind_of, is_listed, code_at, least, leftmost, behind}
+use Rattle.numeric.specs.Numeric.{is_cr, is_lf, lone_cr, line_start, is_listed, code_at, least, leftmost, behind}
 use Rattle.numeric.specs.Heard.{Behind}
 
 -- what the search for the next CR passes over
@@ -27,41 +27,8 @@ line_behind s i from = if lone_cr s i then record { start = i + 1; from = i + 1 
 
 -- a code's place, and where what stands before it begins
 abbrev pub coded : List ℕ → Option ℕ → Option Line
-coded s (Some p) = Some (p, (behind s p))
+coded s (Some p) = Some (record { start = p; from = behind s p })
 coded s None = None
-
--- the codes are 0 to 8 without 5
-listed_from : (d : ℕ) → d ≤ 8 → (d ≡ 5 → ⊥) → is_listed (48 + d) ≡ true
-unfolding kind_of
-listed_from zero h n = refl
-listed_from (suc zero) h n = refl
-listed_from (suc (suc zero)) h n = refl
-listed_from (suc (suc (suc zero))) h n = refl
-listed_from (suc (suc (suc (suc zero)))) h n = refl
-listed_from (suc (suc (suc (suc (suc zero))))) h n = absurd (n refl)
-listed_from (suc (suc (suc (suc (suc (suc zero)))))) h n = refl
-listed_from (suc (suc (suc (suc (suc (suc (suc zero))))))) h n = refl
-listed_from (suc (suc (suc (suc (suc (suc (suc (suc zero)))))))) h n = refl
-listed_from (suc (suc (suc (suc (suc (suc (suc (suc (suc d))))))))) h n = absurd (omega arith)
-
-listed_is : (b : ℕ) → (b ≡ 53 → ⊥) → 48 ≤ b → b ≤ 56 → is_listed b ≡ true
-listed_is b n h g =
-    let e : 48 + (b - 48) ≡ b = omega arith in
-    ap is_listed (sym e) ∙ listed_from (b - 48) (omega arith) (λ z. n (omega arith))
-
-pub listed_none : (b : ℕ) → (b ≡ 53) ⊎ ((b < 48) ⊎ (56 < b)) → is_listed b ≡ false
-unfolding kind_of
-listed_none b (inl e) = rw e
-listed_none b (inr h) =
-    let n : (k : ℕ) → 48 ≤ k → k ≤ 56 → eqb b k ≡ false = λ k x y. ne_eqb b k (λ e. ⊎_elim (λ (z : b < 48). absurd (omega arith)) (λ (z : 56 < b). absurd (omega arith)) h) in
-    rw (n 48 (omega arith) (omega arith), n 49 (omega arith) (omega arith), n 50 (omega arith) (omega arith), n 51 (omega arith) (omega arith), n 52 (omega arith) (omega arith), n 54 (omega arith) (omega arith), n 55 (omega arith) (omega arith), n 56 (omega arith) (omega arith))
-
-pub listed_upto : (b : ℕ) → (b ≡ 53 → ⊥) → 48 ≤ b → leb b 56 ≡ is_listed b
-listed_upto b n h =
-    ⊎_elim
-    (λ (q : 56 < b). lt-leb b 56 q ∙ sym (listed_none b (inr (inr q))))
-    (λ (q : b ≤ 56). le-leb b 56 q ∙ sym (listed_is b n h q))
-    (order 56 b)
 
 -- the least place that passes
 module _ (f : ℕ → Bool) where
@@ -133,18 +100,12 @@ module _ (s : List ℕ) where
   unfolding lone_cr
   lone_is i e n = rw (eq-eqb (get_or s i 0) 13 e, ne_eqb (get_or s (i + 1) 0) 10 n)
 
-  pub lone_end : (i : ℕ) → get_or s i 0 ≡ 13 → length s ≤ i + 1 → lone_cr s i ≡ true
-  lone_end i e h = lone_is i e (none_past (i + 1) 10 h (omega arith))
-
   lf_behind : (i : ℕ) → get_or s i 0 ≡ 13 → lone_cr s i ≡ false → get_or s (i + 1) 0 ≡ 10
   unfolding lone_cr
   lf_behind i e h = eqb-true (get_or s (i + 1) 0) 10 (not-false (is_lf (get_or s (i + 1) 0)) (rw (eq-eqb (get_or s i 0) 13 e) at h))
 
   pub lone_not : (i : ℕ) → (get_or s i 0 ≡ 13 → get_or s (i + 1) 0 ≡ 10) → lone_cr s i ≡ false
   lone_not i h = not_true_false (lone_cr s i) (λ e. (lone_cr_lem i e).1 (h (lone_cr_lem i e).0))
-
-  pub lone_none : (i : ℕ) → length s ≤ i → lone_cr s i ≡ false
-  lone_none i h = lone_not i (λ e. absurd (none_past i 13 h (omega arith) e))
 
   two_ways : (i : ℕ) (b : Bool) → is_cr (get_or s i 0) && is_lf (get_or s (suc i) 0) ≡ b → b || lone_cr s (suc i) ≡ true → Opened s (suc (suc i))
   two_ways i true e h =
@@ -269,11 +230,11 @@ module _ (s : List ℕ) where
 
   module _ (p from : ℕ) (w : Walked p from) where
     -- a code here is the leftmost
-    pub walk_found : is_listed (get_or s p 0) && lone_cr s (p + 1) ≡ true → Some (p, from) ≡ coded s (leftmost s)
+    pub walk_found : is_listed (get_or s p 0) && lone_cr s (p + 1) ≡ true → Some (record { start = p; from = from }) ≡ coded s (leftmost s)
     unfolding leftmost code_at
     walk_found e =
         let c : code_at s p ≡ true = rw w.start e in
-        ap (codes.At p) w.begins ∙ ap (coded s) (least_at (code_at s) (length s) 0 p (omega arith) (omega (arith, code_fits p c)) c (λ j x y. w.none j y))
+        ap (λ (n : ℕ). let l : Line = record { start = p; from = n } in Some l) w.begins ∙ ap (coded s) (least_at (code_at s) (length s) 0 p (omega arith) (omega (arith, code_fits p c)) c (λ j x y. w.none j y))
 
     pub walk_end : length s ≤ p → None ≡ coded s (leftmost s)
     unfolding leftmost

@@ -1,15 +1,13 @@
 -- The digester for modems in V0 (R-1), in the request's words. It computes. Past the input's end `get_or` gives 0, which is no CR, no LF and no digit.
-use Rattle.std.specs.Prelude.{Option, Some, Result, Err, Bool, true, ◌&&◌, ◌||◌, not, List, [], ◌∷◌, ℕ, zero, suc, ◌+◌, length, get_or, eqb, ltb, if◌then◌else◌}
+use Rattle.std.specs.Prelude.{Option, Some, None, Bool, true, ◌&&◌, ◌||◌, not, List, [], ◌∷◌, ℕ, zero, suc, ◌+◌, length, get_or, eqb, ltb, if◌then◌else◌}
 use Rattle.outcome.specs.Outcome.{Outcome, answered, refused}
 use Rattle.text.specs.Bytes.{bytes}
 use Rattle.text.specs.Text.{among, trimmed_part}
 use Rattle.text.specs.declared.Span.{Span}
 use Rattle.answers.specs.declared.Kind.{Kind}
-use Rattle.answers.specs.declared.Kind.TheVariants.{None, Ok, Error, NoCarrier, Busy, NoAnswer, NoDialtone, Notice}
+use Rattle.answers.specs.declared.Kind.TheVariants as kind
 use Rattle.answers.specs.declared.Answer.{Answer}
 use Rattle.answers.specs.Answer.{kind_found, nothing, with_payload}
-use Rattle.answers.specs.declared.DigestError.{DigestError}
-use Rattle.answers.specs.declared.DigestError.TheVariants as says
 
 abbrev pub is_cr : ℕ → Bool
 is_cr b = eqb b 13
@@ -32,14 +30,14 @@ line_start s (suc (suc i)) = (is_cr (get_or s i 0) && is_lf (get_or s (suc i) 0)
 unfoldable pub kind_of : ℕ → Kind
 unfolding among
 kind_of b =
-    if among (bytes "01") b then Ok
-    else if among (bytes "2") b then Notice
-    else if among (bytes "3") b then NoCarrier
-    else if among (bytes "4") b then Error
-    else if among (bytes "6") b then NoDialtone
-    else if among (bytes "7") b then Busy
-    else if among (bytes "8") b then NoAnswer
-    else None
+    if among (bytes "01") b then kind.Ok
+    else if among (bytes "2") b then kind.Notice
+    else if among (bytes "3") b then kind.NoCarrier
+    else if among (bytes "4") b then kind.Error
+    else if among (bytes "6") b then kind.NoDialtone
+    else if among (bytes "7") b then kind.Busy
+    else if among (bytes "8") b then kind.NoAnswer
+    else kind.None
 
 -- one of these digits
 abbrev pub is_listed : ℕ → Bool
@@ -106,9 +104,3 @@ under_table (refused n v) s = refused n v
 unfoldable pub digest : List ℕ → List ℕ → Outcome Answer
 unfolding digest_unchecked
 digest t s = if ltb 4096 (length s) then refused 1 [] else under_table (ruled t) s
-
--- the number and values for each case of the answer
-abbrev pub outcome : Result Answer DigestError → Outcome Answer
-outcome (Ok a) = answered a
-outcome (Err says.TooLong) = refused 1 []
-outcome (Err says.BadTable) = refused 2 (0 ∷ [])

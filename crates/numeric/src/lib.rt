@@ -6,20 +6,21 @@
 
 ghost use Rattle.std.specs.Prelude.{◌≡◌, ◌&&◌, ◌≤◌, ◌<◌, ◌+◌, length, get_or};
 ghost use Rattle.text.specs.Text.{past};
-ghost use Rattle.numeric.specs.Numeric.{lone_cr, kind_of, is_listed, leftmost, behind, along, said, digest_unchecked, digest, outcome};
+ghost use Rattle.answers.specs.Answer.{outcome};
+ghost use Rattle.numeric.specs.Numeric.{lone_cr, kind_of, is_listed, leftmost, behind, along, said, digest_unchecked, digest};
 ghost use Rattle.numeric.specs.Heard.{HeardIn};
 ghost use Rattle.numeric.specs.Laws.{not_cr, line_behind, coded};
 
-use answers::{Answer, Kind};
+use answers::{Answer, DigestError, Kind};
 use text::Span;
 
 // The kind that a code stands for: CONNECT is an Ok, RING a notice; None for a byte that is no code.
+#[tactic(auto, unfolding(crate::specs::Numeric::kind_of))]
 fn kind_of(b: u8) -> Kind
     ensures { result ≡ kind_of b }
 {
     match b {
-        b'0' => Kind::Ok,
-        b'1' => Kind::Ok,
+        b'0' | b'1' => Kind::Ok,
         b'2' => Kind::Notice,
         b'3' => Kind::NoCarrier,
         b'4' => Kind::Error,
@@ -31,32 +32,19 @@ fn kind_of(b: u8) -> Kind
 }
 
 // Is there a CR at i with no LF behind it? At the input's end there is none.
+#[tactic(auto, unfolding(crate::specs::Numeric::lone_cr))]
 fn is_lone(s: &[u8], i: usize) -> bool
     ensures { result ≡ lone_cr s.now i }
 {
-    if s.len() <= i {
-        return false;
-    }
-    if s[i] != b'\r' {
-        return false;
-    }
-    if s.len() - i == 1 {
-        return true;
-    }
-    s[i + 1] != b'\n'
+    i < s.len() && s[i] == b'\r' && text::byte_at(s, i + 1) != b'\n'
 }
 
 // Is b one of the digits that are codes?
+#[tactic(auto, unfolding(crate::specs::Numeric::kind_of))]
 fn is_listed(b: u8) -> bool
     ensures { result ≡ is_listed b }
 {
-    if b == b'5' {
-        return false;
-    }
-    if b < b'0' {
-        return false;
-    }
-    b <= b'8'
+    matches!(b, b'0'..=b'4' | b'6'..=b'8')
 }
 
 // Is the line start p a code: one of the digits, then a lone CR?
@@ -64,24 +52,19 @@ fn is_code(s: &[u8], p: usize) -> bool
     requires { p < length s.now }
     ensures { result ≡ is_listed (get_or s.now p 0) && lone_cr s.now (p + 1) }
 {
-    if !is_listed(s[p]) {
-        return false;
-    }
-    is_lone(s, p + 1)
+    is_listed(s[p]) && is_lone(s, p + 1)
 }
 
 // The first CR at or after `from`, or the end.
 fn next_cr(s: &[u8], from: usize) -> usize
     ensures { result ≡ past not_cr s.now from }
 {
-    let mut place = from;
-    while place < s.len() {
+    for place in from..s.len() {
         if s[place] == b'\r' {
             return place;
         }
-        place += 1;
     }
-    place
+    from.max(s.len())
 }
 
 // A line start, and where what stands before it begins: behind the last lone CR, or at the first byte.
@@ -92,6 +75,7 @@ pub struct Line {
 }
 
 // The line behind the CR at `cr`, of which what stands before began at `from` so far.
+#[tactic(auto, unfolding(crate::specs::Laws::line_behind))]
 fn line_behind(s: &[u8], cr: usize, from: usize) -> Line
     requires { cr < length s.now }
     ensures { result ≡ line_behind s.now cr from }
@@ -103,10 +87,9 @@ fn line_behind(s: &[u8], cr: usize, from: usize) -> Line
             from: next,
         };
     }
-    let after = cr + 2;
     Line {
-        start: after,
-        from: from,
+        start: cr + 2,
+        from,
     }
 }
 
@@ -114,31 +97,28 @@ fn line_behind(s: &[u8], cr: usize, from: usize) -> Line
 fn leftmost(s: &[u8]) -> Option<Line>
     ensures { result ≡ coded s.now (leftmost s.now) }
 {
-    let mut p = 0;
-    let mut from = 0;
-    while p < s.len() {
-        if is_code(s, p) {
-            return Some((p, from));
+    let mut line = Line { start: 0, from: 0 };
+    while line.start < s.len() {
+        if is_code(s, line.start) {
+            return Some(line);
         }
-        let cr = next_cr(s, p);
+        let cr = next_cr(s, line.start);
         if cr == s.len() {
             return None;
         }
-        let line = line_behind(s, cr, from);
-        p = line.start;
-        from = line.from;
+        line = line_behind(s, cr, line.from);
     }
     None
 }
 
 // What goes along with the code b at p: with an Ok what stands before it, from `from` on, trimmed; with a RING the digit; with another nothing.
+#[tactic(auto, unfolding(crate::specs::Numeric::along))]
 fn along(s: &[u8], p: usize, from: usize, b: u8) -> Span
     requires { from ≡ behind s.now p }
     ensures { result ≡ along s.now p b }
 {
     match b {
-        b'0' => text::trimmed_part(s, from, p),
-        b'1' => text::trimmed_part(s, from, p),
+        b'0' | b'1' => text::trimmed_part(s, from, p),
         b'2' => Span { start: p, len: 1 },
         _ => Span { start: 0, len: 0 },
     }
@@ -147,13 +127,14 @@ fn along(s: &[u8], p: usize, from: usize, b: u8) -> Span
 // RING is a notice under a number that no table's record has.
 const RING: u32 = 255;
 
-// What the code at p says; it is consumed through its CR.
-fn said(s: &[u8], p: usize, from: usize) -> Answer
-    requires { (p + 2 ≤ length s.now) × (from ≡ behind s.now p) }
-    ensures { result ≡ said s.now p }
+// What the code at the line says; it is consumed through its CR.
+fn said(s: &[u8], line: Line) -> Answer
+    requires { (line.start + 2 ≤ length s.now) × (line.from ≡ behind s.now line.start) }
+    ensures { result ≡ said s.now line.start }
 {
-    let b = s[p];
-    answers::with_payload(kind_of(b), RING, along(s, p, from, b), p + 2)
+    let Line { start, from } = line;
+    let b = s[start];
+    answers::with_payload(kind_of(b), RING, along(s, start, from, b), start + 2)
 }
 
 // What the input was, by its leftmost code; with none it is None, 0. It asks for no table: the ingress has checked that there is none.
@@ -161,12 +142,12 @@ pub fn digest_unchecked(input: &[u8]) -> Answer
     ensures { result ≡ digest_unchecked input.now }
 {
     match leftmost(input) {
-        Some((p, from)) => said(input, p, from),
+        Some(line) => said(input, line),
         None => answers::nothing(0),
     }
 }
 
-// What the input was, or the refusal. There are no tokens in V0, so the table is to be empty.
+// What the input was, or the refusal. There are no tokens in V0, so the table is to be empty; another is faulty from its first record on.
 // None exactly when no line start of the input holds a code; else the leftmost code decides, and the rest begins at a line start (`HeardIn`).
 pub fn digest(table: &[u8], input: &[u8]) -> Result<Answer, DigestError>
     ensures is { outcome result ≡ digest table.now input.now }
@@ -176,7 +157,7 @@ pub fn digest(table: &[u8], input: &[u8]) -> Result<Answer, DigestError>
         return Err(DigestError::TooLong);
     }
     if 0 < table.len() {
-        return Err(DigestError::BadTable);
+        return Err(DigestError::BadTable(0));
     }
     Ok(digest_unchecked(input))
 }

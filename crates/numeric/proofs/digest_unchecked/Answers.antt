@@ -4,12 +4,12 @@ use Rattle.numeric.proofs.digest_unchecked.Goals as goal
 
 pub said-requires : goal.said-requires
 said-requires c =
-    said_room c.args.input.now _ c.leftmost.ensures _ _ c.in-At.is
+    said_room c.args.input.now _ c.leftmost.ensures _ c.in-Some.is
 
-pub returns-in-At : goal.returns-in-At
-returns-in-At c =
-    unchecked_at c.args.input.now _ c.leftmost.ensures _ _ c.in-At.is _ c.said.ensures
+pub returns-in-Some : goal.returns-in-Some
+returns-in-Some c =
+    unchecked_at c.args.input.now _ c.leftmost.ensures _ c.in-Some.is _ c.said.ensures
 
-pub returns-in-Nothing : goal.returns-in-Nothing
-returns-in-Nothing c =
-    unchecked_none c.args.input.now _ c.leftmost.ensures c.in-Nothing.is _ c.nothing.ensures
+pub returns-in-None : goal.returns-in-None
+returns-in-None c =
+    unchecked_none c.args.input.now _ c.leftmost.ensures c.in-None.is _ c.nothing.ensures

@@ -1,10 +1,9 @@
-use Prim.Native.Nat.{◌-◌}
-use lib.ListN.{length}
+use Rattle.std.proofs.Common.{◌-◌, length}
 use Rattle.numeric.specs.Laws.{Walked}
 use Rattle.numeric.proofs.leftmost.Given as goal
 
-abbrev pub invariant-loop-p : goal.invariant-loop-p
-invariant-loop-p l = Walked l.s l.p l.from
+abbrev pub invariant-loop-line : goal.invariant-loop-line
+invariant-loop-line l = Walked l.s l.line.start l.line.from
 
-abbrev pub decreases-loop-p : goal.decreases-loop-p
-decreases-loop-p l = length l.s - l.p
+abbrev pub decreases-loop-line : goal.decreases-loop-line
+decreases-loop-line l = length l.s - l.line.start
