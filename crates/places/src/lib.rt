@@ -5,7 +5,7 @@
 
 ghost use Rattle.std.specs.Prelude.{◌≡◌};
 ghost use Rattle.lines.specs.Lines.{fixed_text, earlier, connect_place};
-ghost use Rattle.places.specs.Places.{is_line, line_end, is_head, head_end, place_of, place_in, line_in, unsought};
+ghost use Rattle.places.specs.Places.{line_end, head_end, place_of, place_in, line_in, unsought};
 
 use lines::{Digester, Fixed};
 
@@ -21,14 +21,19 @@ pub struct Lines {
     pub dialtone: usize,
 }
 
-// The first places of the heads: from where they are sought, whether the pass found them, and if so where the first occurrence of each ends, 0 for none.
+// Where the first occurrence of each head ends, 0 for none.
 #[derive(Clone, Copy)]
-pub struct Places {
-    pub from: usize,
-    pub passed: bool,
+pub struct Heads {
     pub cme: usize,
     pub cms: usize,
     pub modem: usize,
+}
+
+// The first places of the heads: from where they are sought, and, where the pass found them, where they end.
+#[derive(Clone, Copy)]
+pub struct Places {
+    pub from: usize,
+    pub heads: Option<Heads>,
 }
 
 // The first places of the heads at or after e, each to be sought when it is asked for.
@@ -37,149 +42,83 @@ pub fn unsought(e: usize) -> Places
 {
     Places {
         from: e,
-        passed: false,
-        cme: 0,
-        cms: 0,
-        modem: 0,
+        heads: None,
     }
 }
 
-// Is the text one of the lines whose ends these are?
-fn is_line(text: Fixed) -> bool
-    ensures { result ≡ is_line text }
-{
-    match text {
-        Fixed::Ok => false,
-        Fixed::Connect => true,
-        Fixed::Error => true,
-        Fixed::CommandNotSupport => true,
-        Fixed::NoCarrier => true,
-        Fixed::Busy => true,
-        Fixed::NoAnswer => true,
-        Fixed::NoDialtone => true,
-        Fixed::Na => false,
-        Fixed::Cme => false,
-        Fixed::Cms => false,
-        Fixed::Modem => false,
-        Fixed::ConnectText => false,
-    }
-}
-
-// Where the line ends, as the pass found it.
-fn line_end(lines: Lines, text: Fixed) -> usize
+// Where the line ends, as the pass found it; nothing of a text that isn't one of its lines.
+fn line_end(lines: Lines, text: Fixed) -> Option<usize>
     ensures { result ≡ line_end lines text }
 {
     match text {
-        Fixed::Ok => 0,
-        Fixed::Connect => lines.connect,
-        Fixed::Error => lines.error,
-        Fixed::CommandNotSupport => lines.unsupported,
-        Fixed::NoCarrier => lines.carrier,
-        Fixed::Busy => lines.busy,
-        Fixed::NoAnswer => lines.answer,
-        Fixed::NoDialtone => lines.dialtone,
-        Fixed::Na => 0,
-        Fixed::Cme => 0,
-        Fixed::Cms => 0,
-        Fixed::Modem => 0,
-        Fixed::ConnectText => 0,
+        Fixed::Connect => Some(lines.connect),
+        Fixed::Error => Some(lines.error),
+        Fixed::CommandNotSupport => Some(lines.unsupported),
+        Fixed::NoCarrier => Some(lines.carrier),
+        Fixed::Busy => Some(lines.busy),
+        Fixed::NoAnswer => Some(lines.answer),
+        Fixed::NoDialtone => Some(lines.dialtone),
+        _ => None,
     }
 }
 
-// Is it one of the heads?
-fn is_head(text: Fixed) -> bool
-    ensures { result ≡ is_head text }
-{
-    match text {
-        Fixed::Ok => false,
-        Fixed::Connect => false,
-        Fixed::Error => false,
-        Fixed::CommandNotSupport => false,
-        Fixed::NoCarrier => false,
-        Fixed::Busy => false,
-        Fixed::NoAnswer => false,
-        Fixed::NoDialtone => false,
-        Fixed::Na => false,
-        Fixed::Cme => true,
-        Fixed::Cms => true,
-        Fixed::Modem => true,
-        Fixed::ConnectText => false,
-    }
-}
-
-// Where the head ends, as the pass found it.
-fn head_end(places: Places, text: Fixed) -> usize
+// Where the head ends, as the pass found it; nothing of a text that isn't one of the heads, or where there was no pass.
+fn head_end(places: Places, text: Fixed) -> Option<usize>
     ensures { result ≡ head_end places text }
 {
+    let heads = places.heads?;
     match text {
-        Fixed::Ok => 0,
-        Fixed::Connect => 0,
-        Fixed::Error => 0,
-        Fixed::CommandNotSupport => 0,
-        Fixed::NoCarrier => 0,
-        Fixed::Busy => 0,
-        Fixed::NoAnswer => 0,
-        Fixed::NoDialtone => 0,
-        Fixed::Na => 0,
-        Fixed::Cme => places.cme,
-        Fixed::Cms => places.cms,
-        Fixed::Modem => places.modem,
-        Fixed::ConnectText => 0,
+        Fixed::Cme => Some(heads.cme),
+        Fixed::Cms => Some(heads.cms),
+        Fixed::Modem => Some(heads.modem),
+        _ => None,
     }
 }
 
-// The first place of a text at or after `from`. Where it is known to end at `end`, or nowhere, it counts only where the text stands there, and not before `from`; else it is sought.
-fn place_of(s: &[u8], from: usize, text: Fixed, known: bool, end: usize) -> Option<usize>
-    ensures { result ≡ place_of (fixed_text text) s.now from known end }
+// The first place of a text at or after `from`. Where the pass found its end, or 0 for nowhere, it counts only where the text stands there, and not before `from`; else it is sought.
+#[tactic(auto, unfolding(crate::specs::Places::place_of))]
+fn place_of(s: &[u8], from: usize, text: Fixed, found: Option<usize>) -> Option<usize>
+    ensures { result ≡ place_of (fixed_text text) s.now from found }
 {
-    if !known {
+    let Some(end) = found else {
         return lines::find_fixed(s, from, text);
-    }
-    let len = lines::fixed_len(text);
-    if end < len {
-        return None;
-    }
-    if end - len < from {
-        return None;
-    }
-    if lines::fixed_at(s, end - len, text) {
-        return Some(end - len);
+    };
+    let place = end.checked_sub(lines::fixed_len(text))?;
+    if from <= place && lines::fixed_at(s, place, text) {
+        return Some(place);
     }
     None
 }
 
 // The first place of a head.
+#[tactic(auto, unfolding(crate::specs::Places::place_in))]
 pub fn place(s: &[u8], places: Places, text: Fixed) -> Option<usize>
     ensures { result ≡ place_in s.now places text }
 {
-    let known = places.passed & is_head(text);
-    place_of(s, places.from, text, known, head_end(places, text))
+    place_of(s, places.from, text, head_end(places, text))
 }
 
 // The first place of a line at or after e.
+#[tactic(auto, unfolding(crate::specs::Places::line_in))]
 pub fn line(s: &[u8], e: usize, lines: Lines, text: Fixed) -> Option<usize>
     ensures { result ≡ line_in s.now e lines text }
 {
-    place_of(s, e, text, is_line(text), line_end(lines, text))
+    place_of(s, e, text, line_end(lines, text))
 }
 
 // The earlier of two places.
+#[tactic(auto, unfolding(lines::specs::Lines::earlier))]
 fn earlier(a: Option<usize>, b: Option<usize>) -> Option<usize>
     ensures { result ≡ earlier a b }
 {
-    let Some(j) = a else {
-        return b;
-    };
-    let Some(k) = b else {
-        return a;
-    };
-    if j <= k {
-        return a;
+    match (a, b) {
+        (Some(j), Some(k)) => Some(j.min(k)),
+        _ => a.or(b),
     }
-    b
 }
 
 // CONNECT's first place: that of its line or, where the digester hears it (R-3), of one with text, whichever is earlier.
+#[tactic(auto, unfolding(lines::specs::Lines::connect_place))]
 pub fn connect(digester: Digester, s: &[u8], e: usize, lines: Lines) -> Option<usize>
     ensures { result ≡ connect_place digester (line_in s.now e lines) }
 {
