@@ -2,116 +2,62 @@
 // It is part of a harness and promises only that it doesn't trip.
 #![tactic(auto)]
 
-use fields::{LENGTH, Memory};
+ghost use Rattle.std.specs.Prelude.{◌≤◌, length, IfSome};
 
-// A digit's value, 16 for what is none.
-fn nibble(b: u8) -> u8 {
-    match b {
-        48..=57 => b - 48,
-        65..=70 => b - 55,
-        97..=102 => b - 87,
-        _ => 16,
-    }
-}
+use fields::Memory;
 
-// The byte of the two digits from i on.
-fn hex_at(s: &[u8], i: usize) -> Byte {
-    let high = nibble(text::byte_at(s, i));
-    let low = nibble(text::byte_at(s, fields::plus(i, 1)));
-    if 15 < high {
-        return None;
-    }
-    if 15 < low {
-        return None;
-    }
-    Some(high * 16 + low)
-}
-
-// Bytes in hex, into the memory from `at` on.
-pub fn plain(s: &[u8], mem: &mut Memory, at: usize) -> Filled {
-    let mut to = at;
-    let mut i = 0;
-    while i < s.len() {
-        let Some(b) = hex_at(s, i) else {
-            return None;
-        };
-        if LENGTH <= to {
-            return None;
-        }
-        mem[to] = b;
-        to += 1;
-        i += 2;
-    }
-    Some(to)
-}
-
-// One byte, many times, into the memory from `at` on.
-fn repeat(mem: &mut Memory, at: usize, count: u32, b: u8) -> Filled {
-    let mut left = count;
-    let mut i = at;
-    while 0 < left {
-        if LENGTH <= i {
-            return None;
-        }
-        mem[i] = b;
-        i += 1;
-        left -= 1;
-    }
-    Some(i)
-}
-
-// COUNT*HH, the count's end being known, into the memory from `at` on.
-fn repeated(s: &[u8], star: usize, mem: &mut Memory, at: usize) -> Filled {
-    let Some(count) = fields::number(fields::between(s, 0, star), 65536) else {
+// The byte of two digits.
+fn byte_of(pair: &[u8]) -> Option<u8> {
+    let [high, low] = pair else {
         return None;
     };
-    let byte = fields::between(s, fields::plus(star, 1), s.len());
-    if byte.len() != 2 {
-        return None;
-    }
-    let Some(b) = hex_at(byte, 0) else {
-        return None;
-    };
-    repeat(mem, at, count, b)
+    let high = char::from(*high).to_digit(16)?;
+    let low = char::from(*low).to_digit(16)?;
+    u8::try_from(high * 16 + low).ok()
 }
 
-// One part of a field, which isn't empty, into the memory from `at` on.
-fn data_part(s: &[u8], mem: &mut Memory, at: usize) -> Filled {
-    if s.len() == 0 {
-        return None;
+// Bytes in hex, put at the front of the memory; how many they are, if they fit.
+pub fn plain(s: &[u8], mem: &mut [u8]) -> Option<usize>
+    ensures { IfSome result (λ n. n ≤ length mem.new) }
+{
+    let mut n = 0;
+    for pair in s.chunks(2) {
+        *mem.get_mut(n)? = byte_of(pair)?;
+        n += 1;
     }
-    let star = fields::seek(s, 0, b'*');
-    if star < s.len() {
-        return repeated(s, star, mem, at);
-    }
-    plain(s, mem, at)
+    Some(n)
 }
 
-// The parts of a field, one behind the other.
-fn data_parts(s: &[u8], mem: &mut Memory) -> Filled {
-    let mut at = 0;
-    let mut from = 0;
-    let mut left = fields::parts(s, b'+');
-    while 0 < left {
-        let to = fields::seek(s, from, b'+');
-        match data_part(fields::between(s, from, to), mem, at) {
-            None => {
-                return None;
-            }
-            Some(next) => {
-                at = next;
-            }
+// COUNT*HH: one byte, many times.
+fn repeated(count: &[u8], byte: &[u8], mem: &mut [u8]) -> Option<usize>
+    ensures { IfSome result (λ n. n ≤ length mem.new) }
+{
+    let n = fields::number(count, 65536)? as usize;
+    let b = byte_of(byte)?;
+    mem.get_mut(..n)?.fill(b);
+    Some(n)
+}
+
+// One part of a field, which isn't empty.
+fn data_part(s: &[u8], mem: &mut [u8]) -> Option<usize>
+    ensures { IfSome result (λ n. n ≤ length mem.new) }
+{
+    if s.is_empty() {
+        return None;
+    }
+    match fields::split_once(s, b'*') {
+        Some((count, byte)) => repeated(count, byte, mem),
+        None => plain(s, mem),
+    }
+}
+
+// A field of bytes, put at the front of the memory, as a part of it.
+pub fn data<'a>(s: &[u8], mem: &'a mut Memory) -> Option<&'a mut [u8]> {
+    let mut n = 0;
+    if !fields::is_none(s) {
+        for part in s.split(|b| *b == b'+') {
+            n += data_part(part, &mut mem[n..])?;
         }
-        from = fields::plus(to, 1);
-        left -= 1;
     }
-    Some(at)
-}
-
-// A field of bytes, into the front of the memory.
-pub fn data(s: &[u8], mem: &mut Memory) -> Filled {
-    if fields::is_none(s) {
-        return Some(0);
-    }
-    data_parts(s, mem)
+    mem.get_mut(..n)
 }
