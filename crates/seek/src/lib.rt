@@ -145,8 +145,11 @@ fn column(s: &[u8], at: usize) -> u8
     ensures { ColumnAbove s.now at 32 result }
 {
     let mut m = u8::MAX;
-    for i in 0..ROWS {
-        m = m.min(s[at + i * BLOCK]);
+    // counted on: the place as a product would be a multiply
+    let mut p = at;
+    for _row in 0..ROWS {
+        m = m.min(s[p]);
+        p += BLOCK;
     }
     m
 }
