@@ -25,18 +25,9 @@ use Rattle.parser.specs.Parser.{line_ending, is_digit, value, run_at, digits_at,
 
 -- `line_ending`
 module _ (s : List ℕ) (p : ℕ) where
-  pub ending_lf : stands (bytes "\n") s p ≡ true → 1 ≡ line_ending s p
+  pub ending_crlf : stands (bytes "\n") s p ≡ false → stands crlf s p ≡ true → 2 ≡ line_ending s p
   unfolding line_ending
-  ending_lf h = rw h
-
-  module _ (g : stands (bytes "\n") s p ≡ false) where
-    pub ending_crlf : stands crlf s p ≡ true → 2 ≡ line_ending s p
-    unfolding line_ending
-    ending_crlf h = rw (g, h)
-
-    pub ending_none : stands crlf s p ≡ false → 0 ≡ line_ending s p
-    unfolding line_ending
-    ending_none h = rw (g, h)
+  ending_crlf g h = rw (g, h)
 
   -- a line ending lies in the list
   pub ending_fits : 0 < line_ending s p → p + line_ending s p ≤ length s
@@ -49,10 +40,6 @@ module _ (s : List ℕ) (p : ℕ) where
       go false e false f l = absurd (omega arith)
 
 -- `is_digit` and the run of digits
-pub digit_low : (b : ℕ) → b < 48 → false ≡ is_digit b
-unfolding is_digit
-digit_low b h = rw (lt-leb 48 b h)
-
 pub digit_from : (b : ℕ) → 48 ≤ b → leb b 57 ≡ is_digit b
 unfolding is_digit
 digit_from b h = rw (le-leb 48 b h)
@@ -88,27 +75,27 @@ pub record Sofar (most : ℕ) (s : List ℕ) (p i a : ℕ) : Type 0 where
 pub sofar_none : (most : ℕ) (s : List ℕ) (p : ℕ) → Sofar most s p p 0
 sofar_none most s p = record { small = omega arith; digits = refl; is = refl }
 
-module _ {A : Type 0} (is : ℕ → ℕ → A) (larger : A) (most : ℕ) (s : List ℕ) (p i a : ℕ) (w : Sofar most s p i a) where
-  run_is : past is_digit s i ≡ i → value a (drop i s) ≡ a → is a i ≡ run_at is larger most s p
+module _ (most : ℕ) (s : List ℕ) (p i a : ℕ) (w : Sofar most s p i a) where
+  run_is : past is_digit s i ≡ i → value a (drop i s) ≡ a → Some (a, i) ≡ run_at most s p
   unfolding run_at
   run_is h g = rw (w.is ∙ g, w.digits ∙ h, le-leb a most w.small)
 
-  pub run_end : length s ≤ i → is a i ≡ run_at is larger most s p
+  pub run_end : length s ≤ i → Some (a, i) ≡ run_at most s p
   run_end h = run_is (past_end is_digit s i h) (value_end s i a h)
 
   module _ (h : i < length s) where
-    pub run_stop : is_digit (get_or s i 0) ≡ false → is a i ≡ run_at is larger most s p
+    pub run_stop : is_digit (get_or s i 0) ≡ false → Some (a, i) ≡ run_at most s p
     run_stop e = run_is (past_stop is_digit s i h e) (value_stop s i a h e)
 
-    module _ (d : is_digit (get_or s i 0) ≡ true) (x : ℕ) (v : x ≡ get_or s i 0) where
-      value_on : value 0 (drop p s) ≡ value (a * 10 + (x - 48)) (drop (i + 1) s)
+    module _ (d : is_digit (get_or s i 0) ≡ true) (x : ℕ) (v : x ≡ get_or s i 0 - 48) where
+      value_on : value 0 (drop p s) ≡ value (a * 10 + x) (drop (i + 1) s)
       value_on = rw v (w.is ∙ value_more s i a h d)
 
-      pub run_large : most < a * 10 + (x - 48) → larger ≡ run_at is larger most s p
+      pub run_large : most < a * 10 + x → None ≡ run_at most s p
       unfolding run_at
-      run_large g = rw (lt-leb (value 0 (drop p s)) most (omega (arith, value_on, value_grows (a * 10 + (x - 48)) (drop (i + 1) s))))
+      run_large g = rw (lt-leb (value 0 (drop p s)) most (omega (arith, value_on, value_grows (a * 10 + x) (drop (i + 1) s))))
 
-      pub run_more : a * 10 + (x - 48) ≤ most → Sofar most s p (i + 1) (a * 10 + (x - 48))
+      pub run_more : a * 10 + x ≤ most → Sofar most s p (i + 1) (a * 10 + x)
       run_more g = record { small = g; digits = w.digits ∙ past_more is_digit s i h d; is = value_on }
 
 -- the ways out of `tail_at`

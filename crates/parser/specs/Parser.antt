@@ -4,6 +4,7 @@ use Rattle.text.specs.Bytes.{bytes}
 use Rattle.text.specs.Text.{is_blank, past, keep, begins, stands, find_in}
 use Rattle.text.specs.declared.Blanks.TheVariants as blanks
 use Rattle.lines.specs.Lines.{crlf}
+use Rattle.parser.specs.declared.Digits.{Digits}
 use Rattle.parser.specs.declared.Notice.{Notice}
 use Rattle.parser.specs.declared.Notice.TheVariants as notice
 
@@ -66,14 +67,14 @@ unfolding is_digit
 value a [] = a
 value a (x ∷ s) = let r = value (a * 10 + (x - 48)) s in if is_digit x then r else a
 
--- a longest run of digits of at most `most` (leading zeros are fine), from the place p on: what is made of its value and its end, or of its being larger
-unfoldable pub run_at : {A : Type 0} → (ℕ → ℕ → A) → A → ℕ → List ℕ → ℕ → A
+-- a longest run of digits (leading zeros are fine) from the place p on: its value and its end, or none where the value is over `most`
+unfoldable pub run_at : ℕ → List ℕ → ℕ → Option (ℕ × ℕ)
 unfolding value
-run_at is larger most s p = let v = value 0 (drop p s) in if leb v most then is v (past is_digit s p) else larger
+run_at most s p = let v = value 0 (drop p s) in if leb v most then Some (v, past is_digit s p) else None
 
 -- rule 5: of at most 65,535
 abbrev pub digits_at : List ℕ → ℕ → Option (ℕ × ℕ)
-digits_at s p = run_at Some (None, 65535) s p
+digits_at = run_at 65535
 
 -- the run of digits starts at a; then LF or CRLF
 unfoldable pub ended_run : List ℕ → ℕ → Option (ℕ × ℕ) → Option Digits

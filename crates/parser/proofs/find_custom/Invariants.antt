@@ -1,12 +1,7 @@
 use mathlib.Core.Path.{◌≡◌}
-use Prim.Native.Nat.{◌-◌}
-use lib.ListN.{length}
 use Rattle.text.specs.Text.{find_in}
 use Rattle.parser.specs.Parser.{wrapped}
 use Rattle.parser.proofs.find_custom.Given as goal
 
 abbrev pub invariant-loop-place : goal.invariant-loop-place
 invariant-loop-place l = find_in (wrapped l.x) l.buf l.from ≡ find_in (wrapped l.x) l.buf l.place
-
-abbrev pub decreases-loop-place : goal.decreases-loop-place
-decreases-loop-place l = length l.buf - l.place
