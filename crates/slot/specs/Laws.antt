@@ -2,16 +2,15 @@
 use Rattle.std.proofs.Math.Path.{◌≡◌, refl, sym, ap}
 use Rattle.std.proofs.Common.{Result, Ok, Err, ◌∙◌, arith}
 use Rattle.std.specs.Prelude.{Bool, true, false, not, List, [], ℕ, ◌≤◌, ◌<◌, length, ltb, eqb}
-use borrow.Author.Tests.{le-ltb, lt-ltb, ltb-true, ltb-false, eq-eqb, ne_eqb}
+use borrow.Author.Tests.{le-ltb, ltb-true, ltb-false, ne_eqb}
 use Rattle.text.specs.Logic.{false_true}
-use Rattle.moves.specs.Moves.{put, one_more}
+use Rattle.moves.specs.Moves.{put}
 use Rattle.moves.specs.Laws.{put_length}
 use Rattle.outcome.specs.Outcome.{Outcome, answered, refused}
 use Rattle.outcome.specs.Laws.{ways}
-use Rattle.answers.specs.Answer.{numbered, stored, is_numeric}
+use Rattle.answers.specs.Answer.{is_numeric}
 use Rattle.answers.specs.declared.Kind.{Kind}
 use Rattle.answers.specs.declared.Answer.{Answer}
-use Rattle.slot.specs.declared.Held.TheVariants.{Heard, Capacity}
 use Rattle.slot.specs.declared.Slot.{Slot}
 use Rattle.slot.specs.declared.SlotError.{SlotError}
 use Rattle.slot.specs.declared.SlotError.TheVariants as turns
@@ -24,19 +23,19 @@ use Rattle.slot.specs.Slot.{is_response, carries, new_slot, lost_one, filled, ov
 -- two answers with the same outcome are equal
 pub outcome_one : (r q : Result Slot SlotError) → outcome r ≡ outcome q → r ≡ q
 outcome_one (Ok x) (Ok y) e = cc
-outcome_one (Ok x) (Err turns.BadLength) e = let z : ◌≡◌ {A = ℕ} 0 1 = cc in absurd (omega arith)
-outcome_one (Err turns.BadLength) (Ok y) e = let z : ◌≡◌ {A = ℕ} 0 1 = cc in absurd (omega arith)
+outcome_one (Ok x) (Err turns.BadLength) e = cc
+outcome_one (Err turns.BadLength) (Ok y) e = cc
 outcome_one (Err turns.BadLength) (Err turns.BadLength) e = refl
 
 pub resetting_one : (r q : Result Slot ResetError) → resetting r ≡ resetting q → r ≡ q
 resetting_one (Ok x) (Ok y) e = cc
-resetting_one (Ok x) (Err resets.BadLength) e = let z : ◌≡◌ {A = ℕ} 0 1 = cc in absurd (omega arith)
-resetting_one (Ok x) (Err resets.Repeated) e = let z : ◌≡◌ {A = ℕ} 0 1 = cc in absurd (omega arith)
-resetting_one (Err resets.BadLength) (Ok y) e = let z : ◌≡◌ {A = ℕ} 0 1 = cc in absurd (omega arith)
+resetting_one (Ok x) (Err resets.BadLength) e = cc
+resetting_one (Ok x) (Err resets.Repeated) e = cc
+resetting_one (Err resets.BadLength) (Ok y) e = cc
 resetting_one (Err resets.BadLength) (Err resets.BadLength) e = refl
-resetting_one (Err resets.BadLength) (Err resets.Repeated) e = let z : ◌≡◌ {A = ℕ} 3 15 = cc in absurd (omega arith)
-resetting_one (Err resets.Repeated) (Ok y) e = let z : ◌≡◌ {A = ℕ} 0 1 = cc in absurd (omega arith)
-resetting_one (Err resets.Repeated) (Err resets.BadLength) e = let z : ◌≡◌ {A = ℕ} 3 15 = cc in absurd (omega arith)
+resetting_one (Err resets.BadLength) (Err resets.Repeated) e = cc
+resetting_one (Err resets.Repeated) (Ok y) e = cc
+resetting_one (Err resets.Repeated) (Err resets.BadLength) e = cc
 resetting_one (Err resets.Repeated) (Err resets.Repeated) e = refl
 
 -- and so are two answers of a signal with the memories that they left
@@ -53,33 +52,19 @@ abbrev slot_of : Outcome Reading → Slot
 slot_of (answered r) = r.slot
 slot_of (refused n v) = new_slot
 
-pub reading_one : (r q : Looked) → reading r ≡ reading q → r ≡ q
-reading_one (looks.Signalled x) (looks.Signalled y) e = ap (λ (o : Outcome Reading). looks.Signalled (slot_of o)) e
-reading_one (looks.Signalled x) (looks.Nothing y) e = absurd (false_true refl (ap there_of e))
-reading_one (looks.Signalled x) looks.BadLength e = absurd (false_true refl (ap there_of e))
-reading_one (looks.Nothing x) (looks.Signalled y) e = absurd (false_true refl (sym (ap there_of e)))
-reading_one (looks.Nothing x) (looks.Nothing y) e = ap (λ (o : Outcome Reading). looks.Nothing (slot_of o)) e
-reading_one (looks.Nothing x) looks.BadLength e = let z : ◌≡◌ {A = ℕ} 0 1 = cc in absurd (omega arith)
-reading_one looks.BadLength (looks.Signalled y) e = absurd (false_true refl (sym (ap there_of e)))
-reading_one looks.BadLength (looks.Nothing y) e = let z : ◌≡◌ {A = ℕ} 0 1 = cc in absurd (omega arith)
-reading_one looks.BadLength looks.BadLength e = refl
-
--- structs, field by field
-pub filled_is : (x : Slot) (k : Kind) (n len m : ℕ) → m ≡ stored (numbered k n) → ◌≡◌ {A = Slot} (record { signalled = true; held = Heard k; number = m; len = len; lost = x.lost; serial = x.serial }) (filled x k n len)
-filled_is x k n len m e = λ i. record { signalled = true; held = Heard k; number = e i; len = len; lost = x.lost; serial = x.serial }
-
--- the two ways of bytes that are longer than the memory
-pub overflow_digits : (x : Slot) (k : Kind) (n : ℕ) → is_numeric k ≡ true → filled x k n 0 ≡ overflowing x k n
-overflow_digits x k n e = rw e
-
-pub overflow_payload : (x : Slot) (k : Kind) (n : ℕ) → is_numeric k ≡ false → ◌≡◌ {A = Slot} (record { signalled = true; held = Capacity; number = 0; len = 0; lost = x.lost; serial = x.serial }) (overflowing x k n)
-overflow_payload x k n e = rw e
+pub reading_one : (r q : Result Looked SlotError) → reading r ≡ reading q → r ≡ q
+reading_one (Ok (looks.Signalled x)) (Ok (looks.Signalled y)) e = ap (λ (o : Outcome Reading). Ok (looks.Signalled (slot_of o))) e
+reading_one (Ok (looks.Signalled x)) (Ok (looks.Nothing y)) e = absurd (false_true refl (ap there_of e))
+reading_one (Ok (looks.Signalled x)) (Err turns.BadLength) e = cc
+reading_one (Ok (looks.Nothing x)) (Ok (looks.Signalled y)) e = absurd (false_true refl (sym (ap there_of e)))
+reading_one (Ok (looks.Nothing x)) (Ok (looks.Nothing y)) e = ap (λ (o : Outcome Reading). Ok (looks.Nothing (slot_of o))) e
+reading_one (Ok (looks.Nothing x)) (Err turns.BadLength) e = cc
+reading_one (Err turns.BadLength) (Ok (looks.Signalled y)) e = cc
+reading_one (Err turns.BadLength) (Ok (looks.Nothing y)) e = cc
+reading_one (Err turns.BadLength) (Err turns.BadLength) e = refl
 
 overflow_leaves : (x : Slot) (k : Kind) (n : ℕ) → ((overflowing x k n).len ≡ 0) × ((overflowing x k n).serial ≡ x.serial)
 overflow_leaves x k n = ways (λ (z : Slot). (z.len ≡ 0) × (z.serial ≡ x.serial)) (is_numeric k) (λ e. (refl, refl)) (λ e. (refl, refl))
-
-pub lost_is : (x : Slot) (n : ℕ) → n ≡ one_more x.lost → with_lost x n ≡ lost_one x
-lost_is x n e = ap (with_lost x) e
 
 -- What a call leaves of a slot x with the memory m, where it is no answered reset (R-11): the number in force, and an answer that is stored.
 pub record Leaves (x : Slot) (m : List ℕ) (y : Slot) (k : List ℕ) : Type 0 where
@@ -103,33 +88,9 @@ leaves_free : (x y : Slot) (m k : List ℕ) → x.signalled ≡ false → y.seri
 leaves_free x y m k f e = record { serial = e; stands = λ t. absurd (false_true t f) }
 
 module _ (x : Slot) (a : Answer) (p m : List ℕ) where
-  pub signal_short : length m < x.len → after (refused 3 []) m ≡ signalled x a p m
+  pub signal_none : x.len ≤ length m → is_response a.kind ≡ false → after (answered x) m ≡ signalled x a p m
   unfolding signalled
-  signal_short h = rw (lt-ltb (length m) x.len h)
-
-  module _ (h : x.len ≤ length m) where
-    pub signal_none : is_response a.kind ≡ false → after (answered x) m ≡ signalled x a p m
-    unfolding signalled
-    signal_none e = rw (le-ltb (length m) x.len h, e)
-
-    module _ (r : is_response a.kind ≡ true) where
-      pub signal_lost : x.signalled ≡ true → (y : Slot) → y ≡ lost_one x → after (answered y) m ≡ signalled x a p m
-      unfolding signalled
-      signal_lost e y w = ap (λ (z : Slot). after (answered z) m) w ∙ rw (le-ltb (length m) x.len h, r, e)
-
-      module _ (t : x.signalled ≡ false) where
-        pub signal_bare : carries a.kind ≡ false → (y : Slot) → y ≡ filled x a.kind a.number 0 → after (answered y) m ≡ signalled x a p m
-        unfolding signalled
-        signal_bare e y w = ap (λ (z : Slot). after (answered z) m) w ∙ rw (le-ltb (length m) x.len h, r, t, e)
-
-        module _ (c : carries a.kind ≡ true) where
-          pub signal_over : length m < length p → (y : Slot) → y ≡ overflowing x a.kind a.number → after (answered y) m ≡ signalled x a p m
-          unfolding signalled
-          signal_over e y w = ap (λ (z : Slot). after (answered z) m) w ∙ rw (le-ltb (length m) x.len h, r, t, c, lt-ltb (length m) (length p) e)
-
-          pub signal_full : length p ≤ length m → (y : Slot) → y ≡ filled x a.kind a.number (length p) → (n : List ℕ) → n ≡ put m 0 p → after (answered y) n ≡ signalled x a p m
-          unfolding signalled
-          signal_full e y w n v = (λ i. after (answered (w i)) (v i)) ∙ rw (le-ltb (length m) x.len h, r, t, c, le-ltb (length m) (length p) e)
+  signal_none h e = rw (le-ltb (length m) x.len h, e)
 
   -- what holds of a refusal that leaves a memory too short as it was, and of every answer that fits a memory as long as it was, holds of a signal
   signal_ways : (P : After → Type 0) → (length m < x.len → P (after (refused 3 []) m)) → ((y : Slot) (k : List ℕ) → length k ≡ length m → y.len ≤ length k → Leaves x m y k → P (after (answered y) k)) → P (signalled x a p m)
@@ -169,18 +130,9 @@ module _ (x : Slot) (a : Answer) (p m : List ℕ) where
       (λ y l g h j e. let o = ap (λ (w : After). w.said) e in let z : ◌≡◌ {A = ℕ} 0 1 = cc in absurd (omega arith))
 
 module _ (x : Slot) (m : List ℕ) where
-  pub reset_short : length m < x.len → (n : ℕ) → refused 3 [] ≡ was_reset x n m
+  pub reset_is : x.len ≤ length m → (n : ℕ) → (n ≡ x.serial → ⊥) → answered (freed x n) ≡ was_reset x n m
   unfolding was_reset
-  reset_short h n = rw (lt-ltb (length m) x.len h)
-
-  module _ (h : x.len ≤ length m) (n : ℕ) where
-    pub reset_repeated : n ≡ x.serial → refused 15 [] ≡ was_reset x n m
-    unfolding was_reset
-    reset_repeated e = rw (le-ltb (length m) x.len h, eq-eqb n x.serial e)
-
-    pub reset_is : (n ≡ x.serial → ⊥) → answered (freed x n) ≡ was_reset x n m
-    unfolding was_reset
-    reset_is e = rw (le-ltb (length m) x.len h, ne_eqb n x.serial e)
+  reset_is h n e = rw (le-ltb (length m) x.len h, ne_eqb n x.serial e)
 
   -- an answered reset has freed the slot under its number
   pub reset_frees : (n : ℕ) (y : Slot) → answered y ≡ was_reset x n m → y ≡ freed x n
@@ -189,16 +141,7 @@ module _ (x : Slot) (m : List ℕ) where
       ways (λ o. answered y ≡ o → y ≡ freed x n) (ltb (length m) x.len) (λ h e. let z : ◌≡◌ {A = ℕ} 0 1 = cc in absurd (omega arith))
       (λ h. ways (λ o. answered y ≡ o → y ≡ freed x n) (eqb n x.serial) (λ r e. let z : ◌≡◌ {A = ℕ} 0 1 = cc in absurd (omega arith)) (λ r e. cc))
 
-  pub read_short : length m < x.len → refused 3 [] ≡ was_read x m
-  unfolding was_read
-  read_short h = rw (lt-ltb (length m) x.len h)
-
-  module _ (h : x.len ≤ length m) where
-    pub read_is : (b : Bool) → x.signalled ≡ b → answered (record { there = b; slot = x }) ≡ was_read x m
-    unfolding was_read
-    read_is b e = rw (le-ltb (length m) x.len h) (ap answered (λ i. record { there = sym e i; slot = x }))
-
   -- a look tells the slot as it stands
   pub read_tells : (r : Reading) → answered r ≡ was_read x m → r.slot ≡ x
   unfolding was_read
-  read_tells r = ways (λ o. answered r ≡ o → r.slot ≡ x) (ltb (length m) x.len) (λ h e. let z : ◌≡◌ {A = ℕ} 0 1 = cc in absurd (omega arith)) (λ h e. ap slot_of e)
+  read_tells r = ways (λ o. answered r ≡ o → r.slot ≡ x) (ltb (length m) x.len) (λ h e. let z : ◌≡◌ {A = ℕ} 0 1 = cc in absurd (omega arith)) (λ h e. cc)

@@ -1,5 +1,5 @@
 -- The response slot in document 01's words: what each call leaves of the slot and of its memory, and when it refuses.
-use Rattle.std.specs.Prelude.{None, Result, Ok, Err, ◌≡◌, Bool, true, false, not, List, [], ℕ, length, ltb, eqb, if◌then◌else◌}
+use Rattle.std.specs.Prelude.{Result, Ok, Err, ◌≡◌, Bool, true, false, not, List, [], ℕ, length, ltb, eqb, if◌then◌else◌}
 use Rattle.moves.specs.Moves.{put, one_more}
 use Rattle.outcome.specs.Outcome.{Outcome, answered, refused}
 use Rattle.answers.specs.Answer.{numbered, stored, is_numeric}
@@ -18,36 +18,17 @@ use Rattle.slot.specs.declared.Looked.TheVariants as looks
 -- None and notices are no answers for the slot
 abbrev pub is_response : Kind → Bool
 is_response kind.None = false
-is_response kind.Ok = true
-is_response kind.Prompt = true
-is_response kind.Cme = true
-is_response kind.Cms = true
-is_response kind.Unknown = true
-is_response kind.NotAllowed = true
-is_response kind.Error = true
-is_response kind.NoCarrier = true
-is_response kind.Busy = true
-is_response kind.NoAnswer = true
-is_response kind.NoDialtone = true
-is_response kind.Custom = true
 is_response kind.Notice = false
+is_response _ = true
 
 -- A signal's bytes are used for Ok and custom error, as the payload, and for the numeric errors, as the digits (R-2).
 abbrev pub carries : Kind → Bool
-carries kind.None = false
 carries kind.Ok = true
-carries kind.Prompt = false
 carries kind.Cme = true
 carries kind.Cms = true
 carries kind.Unknown = true
-carries kind.NotAllowed = false
-carries kind.Error = false
-carries kind.NoCarrier = false
-carries kind.Busy = false
-carries kind.NoAnswer = false
-carries kind.NoDialtone = false
 carries kind.Custom = true
-carries kind.Notice = false
+carries _ = false
 
 -- A new slot is free and holds an empty Ok, counts 0, and its serial number is 0 (R-11).
 abbrev pub new_slot : Slot
@@ -113,10 +94,10 @@ pub record Reading : Type 0 where
   pub there : Bool
   pub slot : Slot
 
-abbrev pub reading : Looked → Outcome Reading
-reading (looks.Signalled x) = answered (record { there = true; slot = x })
-reading (looks.Nothing x) = answered (record { there = false; slot = x })
-reading looks.BadLength = refused 3 []
+abbrev pub reading : Result Looked SlotError → Outcome Reading
+reading (Ok (looks.Signalled x)) = answered (record { there = true; slot = x })
+reading (Ok (looks.Nothing x)) = answered (record { there = false; slot = x })
+reading (Err turns.BadLength) = refused 3 []
 
 unfoldable pub was_read : Slot → List ℕ → Outcome Reading
 was_read x m = if ltb (length m) x.len then refused 3 [] else answered (record { there = x.signalled; slot = x })

@@ -52,44 +52,17 @@ pub enum Looked {
 fn is_response(kind: Kind) -> bool
     ensures { result ≡ is_response kind }
 {
-    match kind {
-        Kind::None => false,
-        Kind::Ok => true,
-        Kind::Prompt => true,
-        Kind::Cme => true,
-        Kind::Cms => true,
-        Kind::Unknown => true,
-        Kind::NotAllowed => true,
-        Kind::Error => true,
-        Kind::NoCarrier => true,
-        Kind::Busy => true,
-        Kind::NoAnswer => true,
-        Kind::NoDialtone => true,
-        Kind::Custom => true,
-        Kind::Notice => false,
-    }
+    !matches!(kind, Kind::None | Kind::Notice)
 }
 
 // Does the kind carry bytes? An Ok and a custom error their payload, a numeric error its digits (R-2).
 fn carries(kind: Kind) -> bool
     ensures { result ≡ carries kind }
 {
-    match kind {
-        Kind::None => false,
-        Kind::Ok => true,
-        Kind::Prompt => false,
-        Kind::Cme => true,
-        Kind::Cms => true,
-        Kind::Unknown => true,
-        Kind::NotAllowed => false,
-        Kind::Error => false,
-        Kind::NoCarrier => false,
-        Kind::Busy => false,
-        Kind::NoAnswer => false,
-        Kind::NoDialtone => false,
-        Kind::Custom => true,
-        Kind::Notice => false,
-    }
+    matches!(
+        kind,
+        Kind::Ok | Kind::Cme | Kind::Cms | Kind::Unknown | Kind::Custom
+    )
 }
 
 impl Slot {
@@ -115,9 +88,8 @@ impl Slot {
             signalled: true,
             held: Held::Heard(kind),
             number: answers::number_of(kind, n),
-            len: len,
-            lost: self.lost,
-            serial: self.serial,
+            len,
+            ..self
         }
     }
 
@@ -133,8 +105,7 @@ impl Slot {
             held: Held::Capacity,
             number: 0,
             len: 0,
-            lost: self.lost,
-            serial: self.serial,
+            ..self
         }
     }
 
@@ -142,44 +113,39 @@ impl Slot {
     fn lose(self) -> Slot
         ensures { result ≡ lost_one self }
     {
-        let held = self.held;
         Slot {
-            signalled: self.signalled,
-            held: held,
-            number: self.number,
-            len: self.len,
             lost: moves::one_more(self.lost),
-            serial: self.serial,
+            ..self
         }
     }
 
     // Signals an answer with its bytes: an Ok's or a custom error's payload, a numeric error's digits (R-2); other kinds use none. A free slot stores it;
     // on a signalled one it is lost and counted; None or a notice changes nothing on either.
+    #[tactic(auto, unfolding(crate::specs::Slot::signalled))]
     pub fn signal(self, a: Answer, p: &[u8], mem: &mut [u8]) -> Result<Slot, SlotError>
         ensures { after (outcome result) mem.new ≡ signalled self a p.now mem.old }
     {
         if mem.len() < self.len {
             return Err(SlotError::BadLength);
         }
-        let kind = a.kind;
-        if !is_response(kind) {
+        if !is_response(a.kind) {
             return Ok(self);
         }
-        let busy = self.signalled;
-        if busy {
+        if self.signalled {
             return Ok(self.lose());
         }
-        if !carries(kind) {
-            return Ok(self.fill(kind, a.number, 0));
+        if !carries(a.kind) {
+            return Ok(self.fill(a.kind, a.number, 0));
         }
         if mem.len() < p.len() {
-            return Ok(self.overflow(kind, a.number));
+            return Ok(self.overflow(a.kind, a.number));
         }
         moves::put(mem, 0, p);
-        Ok(self.fill(kind, a.number, p.len()))
+        Ok(self.fill(a.kind, a.number, p.len()))
     }
 
     // Frees the slot for the command of the next serial number (R-11), and changes nothing else. The number in force is refused; any other is good, a lower one too.
+    #[tactic(auto, unfolding(crate::specs::Slot::was_reset))]
     pub fn reset(self, serial: u32, mem: &[u8]) -> Result<Slot, ResetError>
         ensures { resetting result ≡ was_reset self serial mem.now }
     {
@@ -189,38 +155,32 @@ impl Slot {
         if serial == self.serial {
             return Err(ResetError::Repeated);
         }
-        let stored = self.held;
         Ok(Slot {
             signalled: false,
-            held: stored,
-            number: self.number,
-            len: self.len,
-            lost: self.lost,
-            serial: serial,
+            serial,
+            ..self
         })
     }
 
     // Looks at the slot, which tells its answer and the serial number that this bears (R-11). Looking doesn't free it; a free one answers nothing.
-    pub fn lookup(self, mem: &[u8]) -> Looked
+    #[tactic(auto, unfolding(crate::specs::Slot::was_read))]
+    pub fn lookup(self, mem: &[u8]) -> Result<Looked, SlotError>
         ensures { reading result ≡ was_read self mem.now }
     {
         if mem.len() < self.len {
-            return Looked::BadLength;
+            return Err(SlotError::BadLength);
         }
         if self.signalled {
-            return Looked::Signalled(self);
+            return Ok(Looked::Signalled(self));
         }
-        Looked::Nothing(self)
+        Ok(Looked::Nothing(self))
     }
 
     // How many bytes of the memory's front can be read: what a signalled slot stores; a free one answers nothing.
     fn readable(self) -> usize
         ensures { result ≡ readable self }
     {
-        if self.signalled {
-            return self.len;
-        }
-        0
+        if self.signalled { self.len } else { 0 }
     }
 
     // The payload, or digits, of the answer that can be read, as a part of the caller's memory. A free slot gives the empty front part, and so does
