@@ -9,6 +9,7 @@ use Rattle.lines.specs.declared.Fixed.TheVariants as fixed
 use Rattle.parser.specs.Parser.{prompt_from, only_blanks, at_found, numeric_error}
 use Rattle.places.specs.Places.{place_in}
 use Rattle.places.specs.declared.Places.{Places}
+use Rattle.answers.specs.declared.Answer.{Answer}
 use Rattle.items.specs.declared.First.{First}
 use Rattle.items.specs.declared.First.TheVariants as first
 use Rattle.items.specs.declared.Hints.{Hints}
@@ -73,35 +74,39 @@ abbrev pub NoPrompt : List ℕ → ℕ → Bool → Type 0
 NoPrompt s e true = (find_in (bytes ">") s e ≡ None) × (find_in (bytes "@") s e ≡ None)
 NoPrompt s e false = Unit {0}
 
+-- What a level gives: an answer, or where buf begins and the hints for the level below.
+abbrev pub Level : Type 0
+Level = ControlFlow Answer (ℕ × Hints)
+
 -- What of a level comes next: behind a rule without a hint; behind one with a hint, which goes on; behind some with theirs.
-unfoldable pub before : Option Answer → ControlFlow Answer (ℕ × Hints) → ControlFlow Answer (ℕ × Hints)
+unfoldable pub before : Option Answer → Level → Level
 before (Some a) r = Break a
 before None r = r
 
-unfoldable pub hinted : ControlFlow Answer ℕ → (ℕ → ControlFlow Answer (ℕ × Hints)) → ControlFlow Answer (ℕ × Hints)
+unfoldable pub hinted : ControlFlow Answer ℕ → (ℕ → Level) → Level
 hinted (Break a) f = Break a
 hinted (Continue d) f = f d
 
-unfoldable pub onward : ControlFlow Answer (ℕ × Hints) → (Hints → ControlFlow Answer (ℕ × Hints)) → ControlFlow Answer (ℕ × Hints)
+unfoldable pub onward : Level → (Hints → Level) → Level
 onward (Break a) f = Break a
 onward (Continue (e, h)) f = f h
 
 -- Rule 4 behind the custom prompts: `>`, then `@`, with the hints h.
-unfoldable pub prompt_bytes : List ℕ → ℕ → Places → Hints → ControlFlow Answer (ℕ × Hints)
+unfoldable pub prompt_bytes : List ℕ → ℕ → Places → Hints → Level
 unfolding hinted first_from
 prompt_bytes s e p h =
     hinted (first_from first.Greater s e p h.greater) (λ g. hinted (first_from first.Sign s e p h.sign) (λ n.
-    Continue (e, (record { greater = g; sign = n; cme = h.cme; cms = h.cms; modem = h.modem }))))
+    Continue (e, record h { greater = g; sign = n })))
 
 -- Rule 5: CME, CMS, MODEM ERROR.
-unfoldable pub numerics : List ℕ → ℕ → Places → Hints → ControlFlow Answer (ℕ × Hints)
+unfoldable pub numerics : List ℕ → ℕ → Places → Hints → Level
 unfolding hinted first_from
 numerics s e p h =
     hinted (first_from first.Cme s e p h.cme) (λ a. hinted (first_from first.Cms s e p h.cms) (λ b. hinted (first_from first.Modem s e p h.modem) (λ c.
-    Continue (e, (record { greater = h.greater; sign = h.sign; cme = a; cms = b; modem = c })))))
+    Continue (e, record h { cme = a; cms = b; modem = c }))))
 
 -- The five, between which nothing stands on a level of the retry.
-unfoldable pub firsts : List ℕ → ℕ → Places → Hints → ControlFlow Answer (ℕ × Hints)
+unfoldable pub firsts : List ℕ → ℕ → Places → Hints → Level
 unfolding onward prompt_bytes numerics
 firsts s e p h = onward (prompt_bytes s e p h) (numerics s e p)
 
@@ -125,6 +130,6 @@ abbrev pub Known : List ℕ → ℕ → Hints → Type 0
 Known s e h = (x : First) → Idle (given x s) s e (hint_of h x)
 
 -- A level r says what the rules t give from e on: their answer, or hints that are right.
-abbrev pub Says : List ℕ → ℕ → Option Answer → ControlFlow Answer (ℕ × Hints) → Type 0
+abbrev pub Says : List ℕ → ℕ → Option Answer → Level → Type 0
 Says s e t (Break a) = t ≡ Some a
 Says s e t (Continue (k, h)) = (t ≡ None) × ((k ≡ e) × Known s e h)

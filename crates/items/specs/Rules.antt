@@ -1,6 +1,6 @@
 -- Rules 1 to 5 of one digest, in document 01's order. They compute.
 -- The input is s; `buf` is what stands from the place e on, so a place in `buf` is a place of s at or after e.
-use Rattle.std.specs.Prelude.{Option, Some, None, Ok, Bool, ◌&&◌, List, [], ◌∷◌, ℕ, ◌+◌, ◌-◌, length, if◌then◌else◌}
+use Rattle.std.specs.Prelude.{Option, Some, None, Bool, ◌&&◌, List, [], ◌∷◌, ℕ, ◌+◌, ◌-◌, length, if◌then◌else◌}
 use Rattle.text.specs.Text.{is_blank, past, trimmed_part, stands, find_in}
 use Rattle.text.specs.declared.Blanks.TheVariants as blanks
 use Rattle.table.specs.Table.{Token, Entry, of_mark}
@@ -10,11 +10,14 @@ use Rattle.lines.specs.declared.Digester.{Digester}
 use Rattle.lines.specs.declared.Fixed.{Fixed}
 use Rattle.lines.specs.declared.Fixed.TheVariants as fixed
 use Rattle.parser.specs.Parser.{numeric_error, prompt_from, custom_prompt, wrapped, notice_at}
+use Rattle.parser.specs.declared.Digits.{Digits}
 use Rattle.parser.specs.declared.Notice.{Notice}
 use Rattle.parser.specs.declared.Notice.TheVariants as notice
 use Rattle.answers.specs.declared.Kind.{Kind}
 use Rattle.answers.specs.declared.Kind.TheVariants as kind
+use Rattle.answers.specs.declared.Answer.{Answer}
 use Rattle.answers.specs.Answer.{bare, nothing, with_number, with_digits, with_payload, with_text}
+use Rattle.items.specs.declared.Occurrence.{Occurrence}
 
 -- the first of the two that answers
 unfoldable pub or_else : Option Answer → Option Answer → Option Answer
@@ -49,11 +52,11 @@ notices [] s e = None
 notices (x ∷ l) s e = or_else (heard (notice_at x.text s e) x.number s e) (notices l s e)
 
 -- the first record whose CRLF text CRLF occurs in buf: its number, its text's length and the first occurrence's place
-unfoldable pub occurs_or : Option ℕ → Entry → Option (ℕ × ℕ × ℕ) → Option (ℕ × ℕ × ℕ)
-occurs_or (Some k) x r = Some (x.number, (length x.text), k)
+unfoldable pub occurs_or : Option ℕ → Entry → Option Occurrence → Option Occurrence
+occurs_or (Some k) x r = Some (record { number = x.number; len = length x.text; place = k })
 occurs_or None x r = r
 
-unfoldable pub first_custom : List Entry → List ℕ → ℕ → Option (ℕ × ℕ × ℕ)
+unfoldable pub first_custom : List Entry → List ℕ → ℕ → Option Occurrence
 unfolding occurs_or
 first_custom [] s e = None
 first_custom (x ∷ l) s e = occurs_or (find_in (wrapped x.text) s e) x (first_custom l s e)
@@ -79,9 +82,9 @@ unfoldable pub success : List ℕ → ℕ → ℕ → ℕ → Option Answer
 success s e k end = Some (with_payload kind.Ok 0 (trimmed_part s e k) end)
 
 -- CRLF, the text and CRLF are four bytes more than the text.
-unfoldable pub custom_success : Option (ℕ × ℕ × ℕ) → List ℕ → ℕ → Option Answer
+unfoldable pub custom_success : Option Occurrence → List ℕ → ℕ → Option Answer
 unfolding success
-custom_success (Some (n, len, k)) s e = success s e k (k + (len + 4))
+custom_success (Some o) s e = success s e o.place (o.place + (o.len + 4))
 custom_success None s e = None
 
 unfoldable pub line_success : List ℕ → ℕ → Fixed → Option ℕ → Option Answer
@@ -138,8 +141,8 @@ unfolding or_else custom_prompts prompt_tried
 prompts l s e = or_else (custom_prompts l s e) (or_else (prompt_tried (prompt_from 62 s e) 62 s) (prompt_tried (prompt_from 64 s e) 64 s))
 
 -- Rule 5. A custom error's payload is the text itself.
-unfoldable pub custom_error : Option (ℕ × ℕ × ℕ) → Option Answer
-custom_error (Some (n, len, k)) = Some (with_payload kind.Custom n (record { start = k + 2; len = len }) (k + (len + 4)))
+unfoldable pub custom_error : Option Occurrence → Option Answer
+custom_error (Some o) = Some (with_payload kind.Custom o.number (record { start = o.place + 2; len = o.len }) (o.place + (o.len + 4)))
 custom_error None = None
 
 -- CME, CMS, MODEM ERROR: through the end of the numeric error, with its digits as they came (R-2)

@@ -13,11 +13,12 @@ use Rattle.lines.specs.declared.Fixed.TheVariants as fixed
 use Rattle.parser.specs.Parser.{only_blanks, prompt_from, at_found, numeric_error}
 use Rattle.places.specs.Places.{FirstPlaces}
 use Rattle.places.specs.declared.Places.{Places}
+use Rattle.answers.specs.declared.Answer.{Answer}
 use Rattle.items.specs.declared.First.{First}
 use Rattle.items.specs.declared.First.TheVariants as first
 use Rattle.items.specs.declared.Hints.{Hints}
 use Rattle.items.specs.Rules.{or_else, first_of, prompt_tried, numeric_tried, numeric_errors}
-use Rattle.items.specs.Hints.{given, sought, first_place, decided, Idle, or_hint, found_hint, first_from, before, hinted, onward, prompt_bytes, numerics, firsts, unknown, hint_of, Known, Says}
+use Rattle.items.specs.Hints.{Level, given, sought, first_place, decided, Idle, or_hint, found_hint, first_from, before, hinted, onward, prompt_bytes, numerics, firsts, unknown, hint_of, Known, Says}
 use Rattle.items.specs.Laws.{or_next_lem, place_within}
 
 -- a search from further on, but not past what was found, finds the same
@@ -83,17 +84,17 @@ module _ (x : First) (s : List ℕ) (e : ℕ) where
 
 -- a level's parts, one before the other
 module _ (s : List ℕ) (e : ℕ) where
-  pub before_says : (t u : Option Answer) (r : ControlFlow Answer (ℕ × Hints)) → Says s e u r → Says s e (or_else t u) (before t r)
+  pub before_says : (t u : Option Answer) (r : Level) → Says s e u r → Says s e (or_else t u) (before t r)
   unfolding or_else before
   before_says (Some a) u r w = refl
   before_says None u r w = w
 
-  hinted_says : (x : First) (r : ControlFlow Answer ℕ) (u : Option Answer) (f : ℕ → ControlFlow Answer (ℕ × Hints)) → HintSays x s e r → ((n : ℕ) → Idle (given x s) s e n → Says s e u (f n)) → Says s e (or_else (given x s e) u) (hinted r f)
+  hinted_says : (x : First) (r : ControlFlow Answer ℕ) (u : Option Answer) (f : ℕ → Level) → HintSays x s e r → ((n : ℕ) → Idle (given x s) s e n → Says s e u (f n)) → Says s e (or_else (given x s e) u) (hinted r f)
   unfolding or_else hinted
   hinted_says x (Break a) u f w g = rw w
   hinted_says x (Continue n) u f w g = rw w.0 (g n w.1)
 
-  pub onward_says : (t u : Option Answer) (r : ControlFlow Answer (ℕ × Hints)) (f : Hints → ControlFlow Answer (ℕ × Hints)) → Says s e t r → ((h : Hints) → Known s e h → Says s e u (f h)) → Says s e (or_else t u) (onward r f)
+  pub onward_says : (t u : Option Answer) (r : Level) (f : Hints → Level) → Says s e t r → ((h : Hints) → Known s e h → Says s e u (f h)) → Says s e (or_else t u) (onward r f)
   unfolding or_else onward
   onward_says t u (Break a) f w g = rw w
   onward_says t u (Continue (k, h)) f w g = rw w.0 (g h w.1.1)
@@ -110,7 +111,7 @@ module _ (s : List ℕ) (e : ℕ) (p : Places) (f : FirstPlaces s e p) (l : e �
       hinted_says s e first.Sign (first_from first.Sign s e p h.sign) _ _ (says first.Sign h w) (λ b v.
       (refl, (refl, known a b u v)))))
     where
-      known : (a b : ℕ) → Idle (given first.Greater s) s e a → Idle (given first.Sign s) s e b → Known s e (record { greater = a; sign = b; cme = h.cme; cms = h.cms; modem = h.modem })
+      known : (a b : ℕ) → Idle (given first.Greater s) s e a → Idle (given first.Sign s) s e b → Known s e (record h { greater = a; sign = b })
       known a b u v first.Greater = u
       known a b u v first.Sign = v
       known a b u v first.Cme = w first.Cme
@@ -125,7 +126,7 @@ module _ (s : List ℕ) (e : ℕ) (p : Places) (f : FirstPlaces s e p) (l : e �
       hinted_says s e first.Modem (first_from first.Modem s e p h.modem) _ _ (says first.Modem h w) (λ c y.
       (refl, (refl, known a b c u v y)))))
     where
-      known : (a b c : ℕ) → Idle (given first.Cme s) s e a → Idle (given first.Cms s) s e b → Idle (given first.Modem s) s e c → Known s e (record { greater = h.greater; sign = h.sign; cme = a; cms = b; modem = c })
+      known : (a b c : ℕ) → Idle (given first.Cme s) s e a → Idle (given first.Cms s) s e b → Idle (given first.Modem s) s e c → Known s e (record h { cme = a; cms = b; modem = c })
       known a b c u v y first.Greater = w first.Greater
       known a b c u v y first.Sign = w first.Sign
       known a b c u v y first.Cme = u

@@ -2,9 +2,7 @@
 // Of the last five only the first occurrence counts: where that is no answer, one further on may be, on a level of the retry below; hints say what need not be looked for there again.
 #![tactic(auto)]
 
-ghost use Rattle.std.specs.Prelude.{Option, Some, None, ◌≡◌, true, ◌<◌, ◌-◌, length};
-ghost use Rattle.std.specs.declared.ops.ControlFlow.{ControlFlow};
-ghost use Rattle.std.specs.declared.ops.ControlFlow.TheVariants.{Break, Continue};
+ghost use Rattle.std.specs.Prelude.{◌≡◌, true, ◌<◌, ◌-◌, length};
 ghost use Rattle.table.specs.Table.{entries};
 ghost use Rattle.table.specs.declared.Mark.TheVariants as mark;
 ghost use Rattle.text.specs.Text.{stands};
@@ -16,8 +14,17 @@ ghost use Rattle.items.specs.Hints.{sought, first_place, decided, first_from, no
 use answers::{Answer, Kind};
 use lines::Fixed;
 use places::Places;
+use std::ops::ControlFlow;
 use table::Mark;
 use text::{Blanks, Span};
+
+// A custom line that occurs: its record's number, its text's length and its first place.
+#[derive(Clone, Copy)]
+pub struct Occurrence {
+    pub number: u32,
+    pub len: usize,
+    pub place: usize,
+}
 
 // The rules of which only the first occurrence counts.
 #[derive(Clone, Copy)]
@@ -40,97 +47,82 @@ pub struct Hints {
     pub modem: usize,
 }
 
+// What a level of the retry gives: an answer, or where buf begins and the hints for the level below.
+pub type Level = ControlFlow<Answer, (usize, Hints)>;
+
 // Rules 3 and 5: the first record with the mark whose CRLF text CRLF occurs in s from e on.
-pub fn first_custom(table: &[u8], mark: Mark, s: &[u8], e: usize) -> Option<(u32, usize, usize)>
+pub fn first_custom(table: &[u8], mark: Mark, s: &[u8], e: usize) -> Option<Occurrence>
     ensures { result ≡ first_custom (entries mark table.now 0 0) s.now e }
 {
-    let mut at = 0;
-    let mut n = 0;
-    loop {
-        match table::next_of(table, mark, at, n) {
-            None => {
-                return None;
-            }
-            Some((r, k)) => {
-                let start = r.place;
-                let end = start + r.len;
-                let x = &table[start..end];
-                if let Some(place) = parser::find_custom(s, e, x) {
-                    return Some((k as u32, r.len, place));
-                }
-                at = end;
-                n = k + 1;
-            }
+    for (r, k) in table::records(table, mark) {
+        let end = r.place + r.len;
+        if let Some(place) = parser::find_custom(s, e, &table[r.place..end]) {
+            return Some(Occurrence {
+                number: k as u32,
+                len: r.len,
+                place,
+            });
         }
     }
+    None
 }
 
 // Rule 4: a prompt, which consumes all, where the test holds.
+#[tactic(auto, unfolding(crate::specs::Rules::prompt_tried))]
 fn prompt_tried(s: &[u8], holds: bool, byte: u8) -> Option<Answer>
     ensures { result ≡ prompt_tried holds byte s.now }
 {
-    if !holds {
-        return None;
-    }
-    Some(answers::with_number(Kind::Prompt, byte as u32, s.len()))
+    holds.then(|| answers::with_number(Kind::Prompt, u32::from(byte), s.len()))
 }
 
 // Rule 4: custom prompts, in table order.
 fn prompts_of(table: &[u8], s: &[u8], e: usize) -> Option<Answer>
     ensures { result ≡ custom_prompts (entries mark.Prompt table.now 0 0) s.now e }
 {
-    let mut at = 0;
-    let mut n = 0;
-    loop {
-        match table::next_of(table, Mark::Prompt, at, n) {
-            None => {
-                return None;
-            }
-            Some((r, k)) => {
-                let start = r.place;
-                let end = start + r.len;
-                let x = &table[start..end];
-                let holds = parser::custom_prompt(s, e, x);
-                if let Some(a) = prompt_tried(s, holds, r.prompt) {
-                    return Some(a);
-                }
-                at = end;
-                n = k + 1;
-            }
+    for (r, k) in table::records(table, Mark::Prompt) {
+        let end = r.place + r.len;
+        let holds = parser::custom_prompt(s, e, &table[r.place..end]);
+        if let Some(a) = prompt_tried(s, holds, r.prompt) {
+            return Some(a);
         }
     }
+    None
 }
 
 // The same; an empty table costs no call.
+#[tactic(auto, using(crate::specs::Laws::none_prompts))]
 pub fn custom_prompts(table: &[u8], s: &[u8], e: usize) -> Option<Answer>
     ensures { result ≡ custom_prompts (entries mark.Prompt table.now 0 0) s.now e }
 {
-    if table.len() == 0 {
+    if table.is_empty() {
         return None;
     }
     prompts_of(table, s, e)
 }
 
 // Rule 5: the first CE record that occurs; the payload is the text itself.
+#[tactic(auto, unfolding(crate::specs::Rules::custom_error), using(crate::specs::Laws::none_first, crate::specs::Laws::occurs_room))]
 pub fn custom_error(table: &[u8], s: &[u8], e: usize) -> Option<Answer>
     ensures { result ≡ custom_error (first_custom (entries mark.Error table.now 0 0) s.now e) }
 {
-    if table.len() == 0 {
+    if table.is_empty() {
         return None;
     }
-    match first_custom(table, Mark::Error, s, e) {
-        Some((n, len, k)) => {
-            let text = Span {
-                start: k + 2,
-                len: len,
-            };
-            Some(answers::with_payload(Kind::Custom, n, text, k + (len + 4)))
-        }
-        None => None,
-    }
+    let found = first_custom(table, Mark::Error, s, e)?;
+    let text = Span {
+        start: found.place + 2,
+        len: found.len,
+    };
+    Some(answers::with_payload(
+        Kind::Custom,
+        found.number,
+        text,
+        found.place + (found.len + 4),
+    ))
 }
 
 // Rule 4: `>` or `@` at its first place.
+#[tactic(auto, unfolding(parser::specs::Parser::only_blanks))]
 fn prompt_at(s: &[u8], place: usize, byte: u8) -> Option<Answer>
     requires { place < length s.now }
     ensures { result ≡ prompt_tried (only_blanks s.now (Some place)) byte s.now }
@@ -140,22 +132,17 @@ fn prompt_at(s: &[u8], place: usize, byte: u8) -> Option<Answer>
 }
 
 // Rule 5: a numeric error, its head at its first place; with its digits as they came (R-2).
+#[tactic(auto, unfolding(crate::specs::Rules::numeric_tried), using(crate::specs::Laws::numeric_behind, text::specs::Laws::stands_fits, lines::specs::Laws::fixed_some))]
 fn numeric_at(s: &[u8], place: usize, kind: Kind, head: Fixed) -> Option<Answer>
     requires { (kind ≡ kind_of head) × (stands (fixed_text head) s.now place ≡ true) }
     ensures { result ≡ numeric_tried head (numeric_at (fixed_text head) s.now place) }
 {
-    let behind = place + lines::fixed_len(head);
-    match parser::tail_at(s, behind) {
-        Some(d) => {
-            let len = d.stop - d.start;
-            let digits = Span {
-                start: d.start,
-                len: len,
-            };
-            Some(answers::with_digits(kind, d.code, digits, d.end))
-        }
-        None => None,
-    }
+    let d = parser::tail_at(s, place + lines::fixed_len(head))?;
+    let digits = Span {
+        start: d.start,
+        len: d.stop - d.start,
+    };
+    Some(answers::with_digits(kind, d.code, digits, d.end))
 }
 
 // The first place of what the rule looks for.
@@ -172,6 +159,7 @@ fn first_place(rule: First, s: &[u8], e: usize, places: Places) -> Option<usize>
 }
 
 // What the rule gives there.
+#[tactic(auto, unfolding(parser::specs::Parser::at_found), using(text::specs::Laws::stands_fits))]
 fn first_at(rule: First, s: &[u8], place: usize) -> Option<Answer>
     requires { stands (sought rule) s.now place ≡ true }
     ensures { result ≡ decided rule s.now (Some place) }
@@ -189,15 +177,18 @@ fn first_at(rule: First, s: &[u8], place: usize) -> Option<Answer>
 fn behind(s: &[u8], place: usize) -> usize
     ensures { result ≡ length s.now - place }
 {
-    let len = s.len();
-    if len < place {
-        return 0;
-    }
-    len - place
+    s.len().saturating_sub(place)
 }
 
 // What the rule gives from e on. Where at least d bytes are left it is known not to answer, and isn't looked for again.
-fn first_from(rule: First, s: &[u8], e: usize, places: Places, d: usize) -> ControlFlow<Answer, usize>
+#[tactic(auto, unfolding(crate::specs::Hints::first_from, crate::specs::Hints::found_hint, crate::specs::Hints::or_hint), using(crate::specs::Laws::place_here, crate::specs::Laws::place_within))]
+fn first_from(
+    rule: First,
+    s: &[u8],
+    e: usize,
+    places: Places,
+    d: usize,
+) -> ControlFlow<Answer, usize>
     ensures { result ≡ first_from rule s.now e places d }
 {
     if d <= behind(s, e) {
@@ -213,90 +204,76 @@ fn first_from(rule: First, s: &[u8], e: usize, places: Places, d: usize) -> Cont
 }
 
 // Rule 4 behind the custom prompts: the bytes `>`, then `@`, each looked for by itself.
-fn prompt_each(s: &[u8], e: usize, places: Places, hints: Hints) -> ControlFlow<Answer, (usize, Hints)>
+#[tactic(auto, unfolding(crate::specs::Hints::prompt_bytes, crate::specs::Hints::hinted))]
+fn prompt_each(s: &[u8], e: usize, places: Places, hints: Hints) -> Level
     ensures { result ≡ prompt_bytes s.now e places hints }
 {
-    match first_from(First::Greater, s, e, places, hints.greater) {
-        ControlFlow::Break(a) => ControlFlow::Break(a),
-        ControlFlow::Continue(greater) => match first_from(First::Sign, s, e, places, hints.sign) {
-            ControlFlow::Break(a) => ControlFlow::Break(a),
-            ControlFlow::Continue(sign) => ControlFlow::Continue((e,
-                Hints {
-                    greater: greater,
-                    sign: sign,
-                    cme: hints.cme,
-                    cms: hints.cms,
-                    modem: hints.modem,
-                })),
+    let greater = first_from(First::Greater, s, e, places, hints.greater)?;
+    let sign = first_from(First::Sign, s, e, places, hints.sign)?;
+    ControlFlow::Continue((
+        e,
+        Hints {
+            greater,
+            sign,
+            ..hints
         },
-    }
+    ))
 }
 
 // Is there neither a `>` nor an `@` from e on? The one byte between them isn't told from them, which costs a test less, and where it says no each is looked for.
 fn no_prompt(s: &[u8], e: usize) -> bool
     ensures { NoPrompt s.now e result }
 {
-    let mut i = e;
-    while i < s.len() {
+    for i in e..s.len() {
         if (b'>' <= s[i]) & (s[i] <= b'@') {
             return false;
         }
-        i += 1;
     }
     true
 }
 
 // The hint of a rule that has nothing to find: it covers every place, unless one from above covers this one.
+#[tactic(auto, unfolding(crate::specs::Hints::nowhere_hint))]
 fn nowhere(d: usize, left: usize) -> usize
     ensures { result ≡ nowhere_hint d left }
 {
-    if d <= left {
-        return d;
-    }
-    0
+    if d <= left { d } else { 0 }
 }
 
 // Rule 4 behind the custom prompts, on the outermost level: in a short input in one go where neither byte is there, as in most answers.
-pub fn prompt_bytes(s: &[u8], e: usize, places: Places, hints: Hints) -> ControlFlow<Answer, (usize, Hints)>
+#[tactic(auto, unfolding(crate::specs::Hints::prompt_bytes, crate::specs::Hints::hinted, crate::specs::Hints::first_from, crate::specs::Hints::found_hint, crate::specs::Hints::nowhere_hint))]
+pub fn prompt_bytes(s: &[u8], e: usize, places: Places, hints: Hints) -> Level
     ensures { result ≡ prompt_bytes s.now e places hints }
 {
-    if s.len() < seek::SHORT {
-        if no_prompt(s, e) {
-            let left = behind(s, e);
-            let known = Hints {
-                greater: nowhere(hints.greater, left),
-                sign: nowhere(hints.sign, left),
-                cme: hints.cme,
-                cms: hints.cms,
-                modem: hints.modem,
-            };
-            return ControlFlow::Continue((e, known));
-        }
+    if s.len() < seek::SHORT && no_prompt(s, e) {
+        let left = behind(s, e);
+        let known = Hints {
+            greater: nowhere(hints.greater, left),
+            sign: nowhere(hints.sign, left),
+            ..hints
+        };
+        return ControlFlow::Continue((e, known));
     }
     prompt_each(s, e, places, hints)
 }
 
 // Rule 5: CME, CMS, MODEM ERROR.
-pub fn numerics(s: &[u8], e: usize, places: Places, hints: Hints) -> ControlFlow<Answer, (usize, Hints)>
+#[tactic(auto, unfolding(crate::specs::Hints::numerics, crate::specs::Hints::hinted))]
+pub fn numerics(s: &[u8], e: usize, places: Places, hints: Hints) -> Level
     ensures { result ≡ numerics s.now e places hints }
 {
-    match first_from(First::Cme, s, e, places, hints.cme) {
-        ControlFlow::Break(a) => ControlFlow::Break(a),
-        ControlFlow::Continue(cme) => match first_from(First::Cms, s, e, places, hints.cms) {
-            ControlFlow::Break(a) => ControlFlow::Break(a),
-            ControlFlow::Continue(cms) => match first_from(First::Modem, s, e, places, hints.modem) {
-                ControlFlow::Break(a) => ControlFlow::Break(a),
-                ControlFlow::Continue(modem) => ControlFlow::Continue((e,
-                    Hints {
-                        greater: hints.greater,
-                        sign: hints.sign,
-                        cme: cme,
-                        cms: cms,
-                        modem: modem,
-                    })),
-            },
+    let cme = first_from(First::Cme, s, e, places, hints.cme)?;
+    let cms = first_from(First::Cms, s, e, places, hints.cms)?;
+    let modem = first_from(First::Modem, s, e, places, hints.modem)?;
+    ControlFlow::Continue((
+        e,
+        Hints {
+            cme,
+            cms,
+            modem,
+            ..hints
         },
-    }
+    ))
 }
 
 // On the outermost level nothing is known: no input has so many bytes.
@@ -317,19 +294,20 @@ fn idle(hints: Hints, left: usize) -> bool
     ensures { result ≡ all_idle hints left }
 {
     (hints.greater <= left)
-        & ((hints.sign <= left)
-            & ((hints.cme <= left) & ((hints.cms <= left) & (hints.modem <= left))))
+        & (hints.sign <= left)
+        & (hints.cme <= left)
+        & (hints.cms <= left)
+        & (hints.modem <= left)
 }
 
 // The five in their order; where all of them are known not to answer, none is looked for.
-pub fn firsts(s: &[u8], e: usize, places: Places, hints: Hints) -> ControlFlow<Answer, (usize, Hints)>
+#[tactic(auto, unfolding(crate::specs::Hints::firsts, crate::specs::Hints::onward))]
+pub fn firsts(s: &[u8], e: usize, places: Places, hints: Hints) -> Level
     ensures { result ≡ firsts s.now e places hints }
 {
     if idle(hints, behind(s, e)) {
         return ControlFlow::Continue((e, hints));
     }
-    match prompt_each(s, e, places, hints) {
-        ControlFlow::Break(a) => ControlFlow::Break(a),
-        ControlFlow::Continue((_, known)) => numerics(s, e, places, known),
-    }
+    let (_, known) = prompt_each(s, e, places, hints)?;
+    numerics(s, e, places, known)
 }

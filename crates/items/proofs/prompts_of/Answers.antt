@@ -1,41 +1,32 @@
--- `prompts_of` meets its contract: the rule on all the records is the rule on those from `at` on. The measure is the records that may still come.
-use native.Mathlib.Omega.{arith}
+-- `prompts_of` meets its contract: the rule on all the records is the rule on those that are left.
+use Rattle.std.proofs.Common.{refl, sym, ◌∙◌, arith}
+use Rattle.table.specs.Laws.{walk_next, walk_ends}
 use Rattle.table.specs.declared.Mark.TheVariants as mark
-use Rattle.items.specs.Laws.{next_room, prompts_end, prompts_hit, prompts_more}
+use Rattle.items.specs.Laws.{prompts_end, prompts_hit, prompts_more}
 use Rattle.items.proofs.prompts_of.Goals as goal
 
-pub returns-in-Nothing : goal.returns-in-Nothing
-returns-in-Nothing c =
-    prompts_end c.args.table.now c.args.s.now c.args.e c.loop-r.at c.loop-r.n c.loop-r.invariant _ c.next_of.ensures c.in-Nothing.is
+pub loop-r-init : goal.loop-r-init
+loop-r-init c = (0, 0, cc, refl)
 
 pub overflow_add-end : goal.overflow_add-end
 overflow_add-end c =
-    record { fits = omega (arith, next_room mark.Prompt c.args.table.now c.loop-r.at c.loop-r.n _ c.next_of.ensures _ _ c.in-Is.is) }
+    let w = walk_next mark.Prompt c.args.table.now _ _ c.in-Some.r c.in-Some.k _ (sym c.loop-r.invariant.2 ∙ c.in-Some.ensures.steps) in
+    record { fits = omega (arith, w.0.inside) }
 
-pub slice_bounds-x-count : goal.slice_bounds-x-count
-slice_bounds-x-count c =
-    omega (arith, next_room mark.Prompt c.args.table.now c.loop-r.at c.loop-r.n _ c.next_of.ensures _ _ c.in-Is.is)
+pub slice_bounds-custom_prompt-end : goal.slice_bounds-custom_prompt-end
+slice_bounds-custom_prompt-end c =
+    let w = walk_next mark.Prompt c.args.table.now _ _ c.in-Some.r c.in-Some.k _ (sym c.loop-r.invariant.2 ∙ c.in-Some.ensures.steps) in
+    w.0.inside
 
-pub slice_bounds-x-start : goal.slice_bounds-x-start
-slice_bounds-x-start c =
-    omega (arith, next_room mark.Prompt c.args.table.now c.loop-r.at c.loop-r.n _ c.next_of.ensures _ _ c.in-Is.is)
-
-pub slice_bounds-x-end : goal.slice_bounds-x-end
-slice_bounds-x-end c =
-    omega (arith, next_room mark.Prompt c.args.table.now c.loop-r.at c.loop-r.n _ c.next_of.ensures _ _ c.in-Is.is)
-
-pub returns-in-Done : goal.returns-in-Done
-returns-in-Done c =
-    prompts_hit c.args.table.now c.args.s.now c.args.e c.loop-r.at c.loop-r.n c.loop-r.invariant _ c.next_of.ensures _ _ c.in-Is.is _ c.custom_prompt-holds.ensures _ c.prompt_tried.ensures _ c.in-Done.is
-
-pub overflow_add-n : goal.overflow_add-n
-overflow_add-n c =
-    record { fits = omega (arith, next_room mark.Prompt c.args.table.now c.loop-r.at c.loop-r.n _ c.next_of.ensures _ _ c.in-Is.is) }
-
-pub loop-r-smaller : goal.loop-r-smaller
-loop-r-smaller c =
-    omega (arith, next_room mark.Prompt c.args.table.now c.loop-r.at c.loop-r.n _ c.next_of.ensures _ _ c.in-Is.is)
+pub returns-in-Some-prompt_tried : goal.returns-in-Some-prompt_tried
+returns-in-Some-prompt_tried c =
+    let w = walk_next mark.Prompt c.args.table.now _ _ c.in-Some.r c.in-Some.k _ (sym c.loop-r.invariant.2 ∙ c.in-Some.ensures.steps) in
+    prompts_hit _ _ _ _ _ c.loop-r.invariant.3 _ _ w.0 _ c.custom_prompt-holds.ensures _ c.prompt_tried.ensures _ c.in-Some-prompt_tried.is
 
 pub loop-r-preserved : goal.loop-r-preserved
 loop-r-preserved c =
-    prompts_more c.args.table.now c.args.s.now c.args.e c.loop-r.at c.loop-r.n c.loop-r.invariant _ c.next_of.ensures _ _ c.in-Is.is _ c.custom_prompt-holds.ensures _ c.prompt_tried.ensures c.in_default.is
+    let w = walk_next mark.Prompt c.args.table.now _ _ c.in-Some.r c.in-Some.k _ (sym c.loop-r.invariant.2 ∙ c.in-Some.ensures.steps) in
+    (_, _, w.1, prompts_more _ _ _ _ _ c.loop-r.invariant.3 _ _ w.0 _ c.custom_prompt-holds.ensures _ c.prompt_tried.ensures c.in_default.is)
+
+pub returns : goal.returns
+returns c = prompts_end _ _ _ _ _ c.loop-r.invariant.3 (walk_ends _ _ _ _ (sym c.loop-r.invariant.2 ∙ c.in-None.ensures.steps.0))
