@@ -1,45 +1,17 @@
 // The digester that a line chooses, its form, and the state or the old queue that it starts from where it has one.
-use fields::LENGTH;
 use lines::Digester;
 use selector::Selector;
 
-// The digester that the first field chooses (R-1, R-3), and where the fields behind that word begin; without a word it is document 01's, and all fields count.
-#[derive(Clone, Copy)]
-pub struct Chosen {
-    pub selector: Selector,
-    pub from: usize,
-}
-
-// A line that fills the memory is too long, and chooses nothing.
-pub fn first_word(line: &[u8]) -> Chosen {
-    if line.len() == LENGTH {
-        return Chosen {
-            selector: Selector::Verbal(Digester::Verbose),
-            from: 0,
-        };
+// The digester that the first field chooses (R-1, R-3), and the fields behind that word; without a word it is document 01's, and all fields count.
+pub fn first_word(line: &[u8]) -> (Selector, &[u8]) {
+    if let Some(rest) = line.strip_prefix(b"connect ") {
+        return (Selector::Verbal(Digester::Connect), rest);
     }
-    if text::matches_at(line, 0, b"connect ") {
-        return Chosen {
-            selector: Selector::Verbal(Digester::Connect),
-            from: 8,
-        };
+    if let Some(rest) = line.strip_prefix(b"numeric ") {
+        return (Selector::Numeric, rest);
     }
-    if text::matches_at(line, 0, b"numeric ") {
-        return Chosen {
-            selector: Selector::Numeric,
-            from: 8,
-        };
-    }
-    if text::matches_at(line, 0, b"verbose ") {
-        return Chosen {
-            selector: Selector::Verbal(Digester::Verbose),
-            from: 8,
-        };
-    }
-    Chosen {
-        selector: Selector::Verbal(Digester::Verbose),
-        from: 0,
-    }
+    let rest = line.strip_prefix(b"verbose ").unwrap_or(line);
+    (Selector::Verbal(Digester::Verbose), rest)
 }
 
 // A written state. The slot holds an Ok.
@@ -61,105 +33,53 @@ pub enum Form {
     Digest,
     Fresh,
     From(Start),
-    Bad,
 }
 
 // The number k of a written state or queue.
-fn state_number(s: &[u8], k: usize, most: u32) -> Amount {
-    fields::number(fields::part_of(s, k, b','), most)
+fn number_at(s: &[u8], k: usize) -> Option<u32> {
+    fields::number(fields::part_of(s, k, b','), u32::MAX)
 }
 
-// END,SIGNALLED,LENGTH,SLOT-LOST,START,COUNT,QUEUE-LOST,SERIAL: the end and the slot's first numbers.
-fn started(s: &[u8]) -> Form {
+// END,SIGNALLED,LENGTH,SLOT-LOST,START,COUNT,QUEUE-LOST,SERIAL
+fn started(s: &[u8]) -> Option<Start> {
     if fields::parts(s, b',') != 8 {
-        return Form::Bad;
+        return None;
     }
-    let Some(end) = state_number(s, 0, fields::MOST) else {
-        return Form::Bad;
-    };
-    let Some(flag) = state_number(s, 1, 1) else {
-        return Form::Bad;
-    };
-    let Some(len) = state_number(s, 2, fields::MOST) else {
-        return Form::Bad;
-    };
-    let Some(lost) = state_number(s, 3, fields::MOST) else {
-        return Form::Bad;
-    };
-    queue_started(s, end as usize, flag == 1, len as usize, lost)
-}
-
-// The rest of a written state.
-fn queue_started(s: &[u8], end: usize, signalled: bool, len: usize, slot_lost: u32) -> Form {
-    let Some(start) = state_number(s, 4, fields::MOST) else {
-        return Form::Bad;
-    };
-    let Some(count) = state_number(s, 5, fields::MOST) else {
-        return Form::Bad;
-    };
-    let Some(lost) = state_number(s, 6, fields::MOST) else {
-        return Form::Bad;
-    };
-    let Some(serial) = state_number(s, 7, fields::MOST) else {
-        return Form::Bad;
-    };
-    Form::From(Start {
-        end: end,
-        signalled: signalled,
-        len: len,
-        slot_lost: slot_lost,
-        start: start as usize,
-        count: count as usize,
-        queue_lost: lost,
-        serial: serial,
+    Some(Start {
+        end: number_at(s, 0)? as usize,
+        signalled: fields::number(fields::part_of(s, 1, b','), 1)? == 1,
+        len: number_at(s, 2)? as usize,
+        slot_lost: number_at(s, 3)?,
+        start: number_at(s, 4)? as usize,
+        count: number_at(s, 5)? as usize,
+        queue_lost: number_at(s, 6)?,
+        serial: number_at(s, 7)?,
     })
 }
 
-// The numbers of the line convert START,COUNT,LOST OLD-MEMORY NEW-MEMORY. A line that fills the memory is too long.
-pub fn conversion_of(line: &[u8]) -> Conversion {
-    if line.len() == LENGTH {
-        return None;
-    }
+// The numbers START, COUNT and LOST of the line convert START,COUNT,LOST OLD-MEMORY NEW-MEMORY.
+pub fn conversion_of(line: &[u8]) -> Option<(usize, usize, u32)> {
     let s = fields::part_of(line, 1, b' ');
     if fields::parts(line, b' ') != 4 || fields::parts(s, b',') != 3 {
         return None;
     }
-    let Some(start) = state_number(s, 0, fields::MOST) else {
-        return None;
-    };
-    let Some(count) = state_number(s, 1, fields::MOST) else {
-        return None;
-    };
-    let Some(lost) = state_number(s, 2, fields::MOST) else {
-        return None;
-    };
-    Some((start as usize, count as usize, lost))
+    let start = number_at(s, 0)? as usize;
+    let count = number_at(s, 1)? as usize;
+    Some((start, count, number_at(s, 2)?))
 }
 
-// Has the line list INPUT (R-4) its one field? A line that fills the memory is too long.
+// Has the line list INPUT (R-4) its one field?
 pub fn is_list(line: &[u8]) -> bool {
-    if line.len() == LENGTH {
-        return false;
-    }
     fields::parts(line, b' ') == 2
 }
 
-// A comma in the first field tells the form, else the number of fields. A line that fills the memory is too long.
-pub fn form_of(line: &[u8]) -> Form {
-    if line.len() == LENGTH {
-        return Form::Bad;
-    }
+// A comma in the first field tells the form, else the number of fields.
+pub fn form_of(line: &[u8]) -> Option<Form> {
     let first = fields::part_of(line, 0, b' ');
-    let n = fields::parts(line, b' ');
-    if fields::seek(first, 0, b',') < first.len() {
-        if n == 6 {
-            return started(first);
-        }
-        return Form::Bad;
-    }
-    match n {
-        2 => Form::Digest,
-        5 => Form::Fresh,
-        _ => Form::Bad,
+    match (fields::parts(line, b' '), first.contains(&b',')) {
+        (6, true) => Some(Form::From(started(first)?)),
+        (2, false) => Some(Form::Digest),
+        (5, false) => Some(Form::Fresh),
+        _ => None,
     }
 }
