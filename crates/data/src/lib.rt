@@ -61,3 +61,8 @@ pub fn data<'a>(s: &[u8], mem: &'a mut Memory) -> Option<&'a mut [u8]> {
     }
     mem.get_mut(..n)
 }
+
+// The field k of a line, likewise.
+pub fn field<'a>(line: &[u8], k: usize, mem: &'a mut Memory) -> Option<&'a mut [u8]> {
+    data(fields::part_of(line, k, b' '), mem)
+}
