@@ -1,59 +1,28 @@
 -- The steps of the pass as the code takes them. Rests on the table's rule and on the theorem.
-use Rattle.std.specs.Prelude.{Some, None, ◌≡◌, refl, ◌⊎◌, true, List, [], ℕ, zero, suc, ◌+◌, ◌-◌, ◌≤◌, ◌<◌, length, get_or, drop, set, replicate, ltb}
+use Rattle.std.specs.Prelude.{Option, Some, None, ◌≡◌, refl, ◌⊎◌, true, List, [], ℕ, zero, suc, ◌+◌, ◌-◌, ◌≤◌, ◌<◌, length, get_or, drop, replicate, ltb, unwrap_or}
 use Rattle.std.proofs.Math.Path.{sym, ap}
 use Rattle.std.proofs.Common.{ap₂, ◌∙◌, inl, inr, add-one, add-zero, eq-or-lt_of_le, arith, drop_of_length-le, drop-cons}
-use Rattle.std.proofs.Math.Bool.{and-false}
-use borrow.Author.Tests.{eq-eqb, ne_eqb, le-leb, lt-leb, lt-ltb, le-ltb, ltb-true}
+use borrow.Author.Tests.{eq-eqb, lt-leb, lt-ltb, ltb-true}
 use Rattle.outcome.specs.Laws.{ways}
 use Rattle.text.specs.Bytes.{bytes}
 use Rattle.text.specs.Logic.{false_true}
 use Rattle.text.specs.Text.{begins, stands, find_in}
 use Rattle.text.specs.Laws.{stands_byte, found_at, found_none}
-use Rattle.scan.specs.Table.{class_of, table, next, last_of, finished}
+use Rattle.scan.specs.Table.{class_of, table, next, finished}
 use Rattle.scan.proofs.Rule.{next_state, start_stays}
 use Rattle.scan.specs.Scan.{noted, read, run, state_of, extended, fresh, scanned, first_ends, Ahead}
 use Rattle.scan.proofs.Theorem.{scanned_firsts}
 use Rattle.scan.specs.declared.Findings.{Findings}
 
 -- the entry that is read
-pub step_is : (rows : List (List ℕ)) (q b c r : ℕ) → rows ≡ table → c ≡ class_of b → r ≡ get_or (get_or rows q []) c 0 → r ≡ next q b
+pub step_is : (q b c r : ℕ) → c ≡ class_of b → r ≡ get_or (get_or table q []) c 0 → r ≡ next q b
 unfolding next
-step_is rows q b c r e f g = g ∙ ap₂ (λ (l : List (List ℕ)) (n : ℕ). get_or (get_or l q []) n 0) e f
+step_is q b c r e g = g ∙ ap (λ (n : ℕ). get_or (get_or table q []) n 0) e
 
--- what a state lacks
-pub none_lacks : (q b : ℕ) → q < 87 → 11 ≡ finished q b
+-- a state that lacks more than a byte finishes none
+none_lacks : (q b : ℕ) → q < 87 → None ≡ finished q b
 unfolding finished
 none_lacks q b h = rw (lt-leb 87 q h)
-
-pub line_last : (q : ℕ) → q < 95 → last_of (q - 87) ≡ 10
-unfolding last_of
-line_last q h = rw (lt-ltb (q - 87) 8 (omega arith))
-
-pub head_last : (q : ℕ) → 95 ≤ q → last_of (q - 87) ≡ 58
-unfolding last_of
-head_last q h = rw (le-ltb (q - 87) 8 (omega arith))
-
-pub comes : (q b n : ℕ) → 87 ≤ q → last_of (q - 87) ≡ n → b ≡ n → q - 87 ≡ finished q b
-unfolding finished
-comes q b n h e f = rw (le-leb 87 q h, eq-eqb b (last_of (q - 87)) (f ∙ sym e))
-
-pub misses : (q b n : ℕ) → last_of (q - 87) ≡ n → (b ≡ n → ⊥) → 11 ≡ finished q b
-unfolding finished
-misses q b n e f = rw (ne_eqb b (last_of (q - 87)) (λ g. f (g ∙ e)), and-false)
-
--- a text ends
-module _ (l : List ℕ) (k n : ℕ) where
-  pub note_first : k < 11 → get_or l k 0 ≡ 0 → set l k n ≡ noted l k n
-  unfolding noted
-  note_first h e = rw (lt-ltb k 11 h, eq-eqb (get_or l k 0) 0 e)
-
-  pub note_had : (get_or l k 0 ≡ 0 → ⊥) → l ≡ noted l k n
-  unfolding noted
-  note_had e = rw (ne_eqb (get_or l k 0) 0 e, and-false)
-
-  pub note_none : 11 ≤ k → l ≡ noted l k n
-  unfolding noted
-  note_none h = rw (le-ltb k 11 h)
 
 -- where to go on from: at once, at the CR that was found, or at the end where there is none
 cr_stands : (s : List ℕ) (j : ℕ) → j < length s → get_or s j 0 ≡ 13 → stands (bytes "\r") s j ≡ true
@@ -63,29 +32,26 @@ cr_stands s j h e = rw (drop-cons s j 0 h, eq-eqb (get_or s j 0) 13 e)
 pub cr_within : (s : List ℕ) (i p : ℕ) → find_in (bytes "\r") s i ≡ Some p → p < length s
 cr_within s i p e = (stands_byte 13 [] s p (found_at (bytes "\r") s i p e).here).0
 
-module _ (q : ℕ) (s : List ℕ) (i : ℕ) where
-  pub ahead_here : i ≤ length s → Ahead q s i i
-  ahead_here h = record { after = omega arith; within = h; plain = λ j a b e. absurd (omega arith); start = λ g. absurd (omega arith) }
+pub ahead_here : (q : ℕ) (s : List ℕ) (i : ℕ) → i ≤ length s → Ahead q s i i
+ahead_here q s i h = record { after = omega arith; within = h; plain = λ j a b e. absurd (omega arith); start = λ g. absurd (omega arith) }
 
-  pub ahead_at : q ≡ 0 → (p r : ℕ) → find_in (bytes "\r") s i ≡ Some p → r ≡ p → Ahead q s i r
-  ahead_at z p r e w =
-      let f = found_at (bytes "\r") s i p e in
-      let l = cr_within s i p e in
-      record {
-        after = omega (arith, f.after);
-        within = omega arith;
-        plain = λ j a b c. false_true (cr_stands s j (omega arith) c) (f.first j a (omega arith));
-        start = λ g. z;
-      }
-
-  pub ahead_end : q ≡ 0 → i ≤ length s → find_in (bytes "\r") s i ≡ None → Ahead q s i (length s)
-  ahead_end z h e =
-      record {
-        after = h;
-        within = omega arith;
-        plain = λ j a b c. false_true (cr_stands s j b c) (found_none (bytes "\r") s i e j a);
-        start = λ g. z;
-      }
+pub ahead_found : (q : ℕ) (s : List ℕ) (i : ℕ) (x : Option ℕ) → q ≡ 0 → i ≤ length s → x ≡ find_in (bytes "\r") s i → Ahead q s i (unwrap_or x (length s))
+ahead_found q s i (Some p) z h e =
+    let f = found_at (bytes "\r") s i p (sym e) in
+    let l = cr_within s i p (sym e) in
+    record {
+      after = f.after;
+      within = omega arith;
+      plain = λ j a b c. false_true (cr_stands s j (omega arith) c) (f.first j a b);
+      start = λ g. z;
+    }
+ahead_found q s i None z h e =
+    record {
+      after = h;
+      within = omega arith;
+      plain = λ j a b c. false_true (cr_stands s j b c) (found_none (bytes "\r") s i (sym e) j a);
+      start = λ g. z;
+    }
 
 abbrev pub found : ℕ → ℕ → List ℕ → Findings
 found i q l = record { seen = i; state = q; ends = l }
@@ -101,7 +67,7 @@ run_one s i q l h =
 run_pass : (s : List ℕ) (i : ℕ) (l : List ℕ) → i < length s → (get_or s i 0 ≡ 13 → ⊥) → run (found i 0 l) (drop i s) ≡ run (found (i + 1) 0 l) (drop (i + 1) s)
 run_pass s i l h n =
     let a = start_stays (get_or s i 0) n in
-    let b : l ≡ noted l (finished 0 (get_or s i 0)) (i + 1) = note_none l (finished 0 (get_or s i 0)) (i + 1) (omega (arith, none_lacks 0 (get_or s i 0) (omega arith))) in
+    let b : l ≡ noted l (finished 0 (get_or s i 0)) (i + 1) = unfold noted in ap (λ (x : Option ℕ). noted l x (i + 1)) (none_lacks 0 (get_or s i 0) (omega arith)) in
     run_one s i 0 l h ∙ (λ j. run (found (i + 1) (a j) (sym b j)) (drop (i + 1) s))
 
 -- and n of them
@@ -115,18 +81,16 @@ run_by (suc m) s i l h n =
 
 -- the pass has come to the place i, in the state q, with the ends l, and the rest of s will say the rest
 pub record Going (f : Findings) (s : List ℕ) (i q : ℕ) (l : List ℕ) : Type 0 where
-  pub within : i ≤ length s
   pub range : q < 98
   pub same : run f (drop f.seen s) ≡ run (found i q l) (drop i s)
 
-pub going_starts : (f : Findings) (s : List ℕ) → f.state < 98 → f.seen ≤ length s → Going f s f.seen f.state f.ends
-going_starts f s h g = record { within = g; range = h; same = refl }
+pub going_starts : (f : Findings) (s : List ℕ) → f.state < 98 → Going f s f.seen f.state f.ends
+going_starts f s h = record { range = h; same = refl }
 
 module _ (f : Findings) (s : List ℕ) (i q : ℕ) (l : List ℕ) (h : Going f s i q l) where
   pub going_ahead : (p : ℕ) → Ahead q s i p → Going f s p q l
   going_ahead p a =
       record {
-        within = a.within;
         range = h.range;
         same = h.same ∙ go (eq-or-lt_of_le a.after);
       }
@@ -142,58 +106,30 @@ module _ (f : Findings) (s : List ℕ) (i q : ℕ) (l : List ℕ) (h : Going f s
           ∙ ap (λ (m : ℕ). run (found p m l) (drop p s)) (sym z)
 
   -- one byte by the table
-  pub going_next : i < length s → (j k r : ℕ) (m : List ℕ) → j ≡ i + 1 → k ≡ finished q (get_or s i 0) → m ≡ noted l k j → r ≡ next q (get_or s i 0) → Going f s j r m
+  pub going_next : i < length s → (j : ℕ) (k : Option ℕ) (r : ℕ) (m : List ℕ) → j ≡ i + 1 → k ≡ finished q (get_or s i 0) → m ≡ noted l k j → r ≡ next q (get_or s i 0) → Going f s j r m
   going_next g j k r m w x y z =
       let v : m ≡ noted l (finished q (get_or s i 0)) (i + 1) = y ∙ ap₂ (noted l) x w in
       record {
-        within = omega arith;
         range = rw z (next_state q (get_or s i 0) h.range);
         same = h.same ∙ run_one s i q l g ∙ (λ a. run (found (sym w a) (sym z a) (sym v a)) (drop (sym w a) s));
       }
 
   -- on from where it has come to
   pub going_join : (j r : ℕ) (m : List ℕ) → Going (found i q l) s j r m → Going f s j r m
-  going_join j r m g = record { within = g.within; range = g.range; same = h.same ∙ g.same }
+  going_join j r m g = record { range = g.range; same = h.same ∙ g.same }
 
   pub going_end : length s ≤ i → ◌≡◌ {A = Findings} (found i q l) (run f (drop f.seen s))
   unfolding run
   going_end g = sym (h.same ∙ ap (run (found i q l)) (drop_of_length-le s g))
 
--- a state in its range, and one out of it
+-- a state in its range, and any
 pub state_in : (q : ℕ) → q < 98 → q ≡ state_of q
 unfolding state_of
 state_in q h = rw (lt-ltb q 98 h)
 
-pub state_out : (q : ℕ) → 98 ≤ q → 0 ≡ state_of q
-unfolding state_of
-state_out q h = rw (le-ltb q 98 h)
-
 pub state_range : (q : ℕ) → state_of q < 98
 unfolding state_of
 state_range q = ways (λ (n : ℕ). n < 98) (ltb q 98) (λ e. ltb-true q 98 e) (λ e. omega arith)
-
--- carrying on: nothing to look at, nothing but plain bytes, or a walk
-module _ (f : Findings) (s : List ℕ) (q : ℕ) (e : q ≡ state_of f.state) where
-  pub extend_none : length s ≤ f.seen → ◌≡◌ {A = Findings} (found f.seen q f.ends) (extended f s)
-  unfolding extended run
-  extend_none h = ap (λ (m : ℕ). found f.seen m f.ends) e ∙ sym (ap (run (found f.seen (state_of f.state) f.ends)) (drop_of_length-le s h))
-
-  pub extend_range : q < 98
-  extend_range = rw e (state_range f.state)
-
-  module _ (h : f.seen ≤ length s) (p : ℕ) (a : Ahead q s f.seen p) where
-    goes : Going (found f.seen q f.ends) s p q f.ends
-    goes = let g = found f.seen q f.ends in going_ahead g s f.seen q f.ends (going_starts g s extend_range h) p a
-
-    same : run (found f.seen q f.ends) (drop f.seen s) ≡ extended f s
-    unfolding extended
-    same = ap (λ (m : ℕ). run (found f.seen m f.ends) (drop f.seen s)) e
-
-    pub extend_plain : length s ≤ p → ◌≡◌ {A = Findings} (found p q f.ends) (extended f s)
-    extend_plain g = going_end (found f.seen q f.ends) s p q f.ends goes g ∙ same
-
-    pub extend_walk : (r : Findings) → r ≡ run (found p q f.ends) (drop p s) → r ≡ extended f s
-    extend_walk r g = g ∙ sym goes.same ∙ same
 
 -- a pass is the fresh findings carried on
 pub scan_is : (d : ℕ) (s : List ℕ) (r : Findings) → r ≡ extended (found d 0 (replicate 11 0)) s → (r ≡ scanned d s) × (r.ends ≡ first_ends d s)

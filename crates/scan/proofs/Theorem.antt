@@ -1,16 +1,16 @@
 -- What the findings say: after any bytes, the state is the longest beginning still open, and each end is that of the text's first occurrence.
 -- Rests on the table's rule, on what the beginnings say, and on text's laws of `find_in`.
-use Rattle.std.specs.Prelude.{Option, Some, None, ◌≡◌, ◌⊎◌, Bool, ◌&&◌, ℕ, zero, suc, ◌+◌, ◌<◌, take, drop, ltb}
+use Rattle.std.specs.Prelude.{Option, Some, None, ◌≡◌, ◌⊎◌, Bool, ℕ, zero, suc, ◌+◌, ◌<◌, take, drop}
 use Rattle.std.proofs.Math.Path.{refl, sym, ap}
 use Rattle.std.proofs.Common.{◌∙◌, inl, inr, add-zero, eq-or-lt_of_le, le_of_suc-le-suc, not-suc-le-zero, length-drop, take-append-drop, ext_get_or, get_or-set_same}
-use Rattle.std.proofs.Math.Bool.{true, false, and-false}
+use Rattle.std.proofs.Math.Bool.{true, false}
 use mathlib.Core.List.{List, [], ◌∷◌, ◌++◌, map, append_assoc, append-nil}
 use native.Mathlib.Omega.{arith}
 use Rattle.std.proofs.Math.ListN.{length, get_or, length-append, length-set}
 use Rattle.std.proofs.lemmas.List.{get_or-replicate}
 use Rattle.std.proofs.Math.Seq.{drop-append_seam, get_or-set_other}
 use Rattle.std.proofs.Math.Dec.{eqb}
-use borrow.Author.Tests.{eqb-true, eqb-false, eq-eqb, ne_eqb, lt-ltb}
+use borrow.Author.Tests.{eqb-true, eqb-false, eq-eqb, ne_eqb}
 use Rattle.outcome.specs.Laws.{ways}
 use Rattle.text.specs.Logic.{false_true, not_true_false}
 use Rattle.text.specs.Text.{begins, stands, find_in}
@@ -79,46 +79,54 @@ module _ (t w : List ℕ) (b d : ℕ) (pos : 0 < length t) where
 
 -- noting
 module _ (l : List ℕ) (n : ℕ) where
-  length_noted : (m : ℕ) → length (noted l m n) ≡ length l
+  length_noted : (m : Option ℕ) → length (noted l m n) ≡ length l
   unfolding noted
-  length_noted m = ways (λ (x : List ℕ). length x ≡ length l) (ltb m 11 && eqb (get_or l m 0) 0) (λ e. length-set l m n) (λ e. refl)
+  length_noted (Some m) = ways (λ (x : List ℕ). length x ≡ length l) (eqb (get_or l m 0) 0) (λ e. length-set l m n) (λ e. refl)
+  length_noted None = refl
 
-  noted_other : (m k : ℕ) → (m ≡ k → ⊥) → get_or (noted l m n) k 0 ≡ get_or l k 0
+  noted_other : (m : Option ℕ) (k : ℕ) → (m ≡ Some k → ⊥) → get_or (noted l m n) k 0 ≡ get_or l k 0
   unfolding noted
-  noted_other m k h = ways (λ (x : List ℕ). get_or x k 0 ≡ get_or l k 0) (ltb m 11 && eqb (get_or l m 0) 0) (λ e. get_or-set_other l m k n 0 (λ q. h (sym q))) (λ e. refl)
+  noted_other (Some m) k h = ways (λ (x : List ℕ). get_or x k 0 ≡ get_or l k 0) (eqb (get_or l m 0) 0) (λ e. get_or-set_other l m k n 0 (λ q. h (ap Some (sym q)))) (λ e. refl)
+  noted_other None k h = refl
 
-  noted_had : (k : ℕ) → (get_or l k 0 ≡ 0 → ⊥) → get_or (noted l k n) k 0 ≡ get_or l k 0
+  noted_had : (k : ℕ) → (get_or l k 0 ≡ 0 → ⊥) → get_or (noted l (Some k) n) k 0 ≡ get_or l k 0
   unfolding noted
-  noted_had k h = rw (ne_eqb (get_or l k 0) 0 h, and-false)
+  noted_had k h = rw (ne_eqb (get_or l k 0) 0 h)
 
-  noted_first : (k : ℕ) → k < 11 → length l ≡ 11 → get_or l k 0 ≡ 0 → get_or (noted l k n) k 0 ≡ n
+  noted_first : (k : ℕ) → k < 11 → length l ≡ 11 → get_or l k 0 ≡ 0 → get_or (noted l (Some k) n) k 0 ≡ n
   unfolding noted
-  noted_first k h g e = rw (lt-ltb k 11 h, eq-eqb (get_or l k 0) 0 e) (get_or-set_same l k n 0 (omega arith))
+  noted_first k h g e = rw (eq-eqb (get_or l k 0) 0 e) (get_or-set_same l k n 0 (omega arith))
 
 -- one more byte
 module _ (d : ℕ) (w : List ℕ) (f : Findings) (b : ℕ) (h : Told d w f) where
-  end_read : (k : ℕ) → k < 11 → (r : Option ℕ) → find_in (text_of k) w 0 ≡ r → (c : Bool) → eqb (finished f.state b) k ≡ c → get_or (noted f.ends (finished f.state b) (f.seen + 1)) k 0 ≡ end_in d (text_of k) (w ++ (b ∷ []))
+  -- is that the text k?
+  finishes : (k : ℕ) (c : Option ℕ) → (c ≡ Some k) ⊎ (c ≡ Some k → ⊥)
+  finishes k None = inr (λ z. cc)
+  finishes k (Some m) = go (eqb m k) refl
+    where
+      go : (x : Bool) → eqb m k ≡ x → (Some m ≡ Some k) ⊎ (Some m ≡ Some k → ⊥)
+      go true q = inl (ap Some (eqb-true m k q))
+      go false q = inr (λ z. eqb-false m k q cc)
+
+  end_read : (k : ℕ) → k < 11 → (r : Option ℕ) → find_in (text_of k) w 0 ≡ r → (finished f.state b ≡ Some k) ⊎ (finished f.state b ≡ Some k → ⊥) → get_or (noted f.ends (finished f.state b) (f.seen + 1)) k 0 ≡ end_in d (text_of k) (w ++ (b ∷ []))
   unfolding end_in end_of moved
-  end_read k g (Some p) e true q =
-      let m : finished f.state b ≡ k = eqb-true (finished f.state b) k q in
+  end_read k g (Some p) e (inl m) =
       let z : get_or f.ends k 0 ≡ d + p + length (text_of k) = h.ends k g ∙ ap (λ (r : Option ℕ). end_of (text_of k) (moved d r)) e in
-      ap (λ (i : ℕ). get_or (noted f.ends i (f.seen + 1)) k 0) m
+      ap (λ (i : Option ℕ). get_or (noted f.ends i (f.seen + 1)) k 0) m
       ∙ noted_had f.ends (f.seen + 1) k (λ y. absurd (omega (arith, text_some k g)))
       ∙ h.ends k g
       ∙ sym (had (text_of k) w b d (text_some k g) p e)
-  end_read k g (Some p) e false q =
-      noted_other f.ends (f.seen + 1) (finished f.state b) k (eqb-false (finished f.state b) k q)
+  end_read k g (Some p) e (inr n) =
+      noted_other f.ends (f.seen + 1) (finished f.state b) k n
       ∙ h.ends k g
       ∙ sym (had (text_of k) w b d (text_some k g) p e)
-  end_read k g None e true q =
-      let m : finished f.state b ≡ k = eqb-true (finished f.state b) k q in
+  end_read k g None e (inl m) =
       let z : get_or f.ends k 0 ≡ 0 = h.ends k g ∙ ap (λ (r : Option ℕ). end_of (text_of k) (moved d r)) e in
-      ap (λ (i : ℕ). get_or (noted f.ends i (f.seen + 1)) k 0) m
+      ap (λ (i : Option ℕ). get_or (noted f.ends i (f.seen + 1)) k 0) m
       ∙ noted_first f.ends (f.seen + 1) k g h.long z
       ∙ ap (λ (i : ℕ). i + 1) h.seen
       ∙ sym (comes (text_of k) w b d (text_some k g) e (finish_here w f.state b h.range h.state k g m))
-  end_read k g None e false q =
-      let n = eqb-false (finished f.state b) k q in
+  end_read k g None e (inr n) =
       let z : get_or f.ends k 0 ≡ 0 = h.ends k g ∙ ap (λ (r : Option ℕ). end_of (text_of k) (moved d r)) e in
       noted_other f.ends (f.seen + 1) (finished f.state b) k n
       ∙ z
@@ -132,7 +140,7 @@ module _ (d : ℕ) (w : List ℕ) (f : Findings) (b : ℕ) (h : Told d w f) wher
         range = next_state f.state b h.range;
         state = rule f.state b h.range ∙ ap (λ (l : List ℕ). longest (l ++ (b ∷ []))) h.state ∙ sym (longest_step w b);
         long = length_noted f.ends (f.seen + 1) (finished f.state b) ∙ h.long;
-        ends = λ k g. end_read k g (find_in (text_of k) w 0) refl (eqb (finished f.state b) k) refl;
+        ends = λ k g. end_read k g (find_in (text_of k) w 0) refl (finishes k (finished f.state b));
       }
 
 told_run : (d : ℕ) (w s : List ℕ) (f : Findings) → Told d w f → Told d (w ++ s) (run f s)

@@ -1,6 +1,6 @@
 -- What the beginnings say of the bytes so far: these end in the state's, and in no longer one that is open; so a text is finished exactly
 -- where the state lacks its last byte and that byte comes. Tests over the eleven texts and all states are computed.
-use Rattle.std.specs.Prelude.{◌≡◌, refl, Bool, true, false, ◌&&◌, ◌||◌, ℕ, ◌+◌, ◌-◌, ◌<◌, ◌≤◌, length, leb, if◌then◌else◌}
+use Rattle.std.specs.Prelude.{Some, None, ◌≡◌, refl, Bool, true, false, ◌&&◌, ◌||◌, ℕ, ◌+◌, ◌-◌, ◌<◌, ◌≤◌, length, leb, if◌then◌else◌}
 use Rattle.std.proofs.Common.{sym, ap, ap₂, ◌∙◌, arith, length-append}
 use Rattle.std.proofs.Math.Logic.{⊎_elim}
 use Rattle.std.proofs.Math.Bool.{not}
@@ -139,19 +139,20 @@ last_is (x ∷ u) (y ∷ v) a b e =
     let r = last_is u v a b w.1 in
     (ap₂ (λ (c : ℕ) (l : List ℕ). c ∷ l) w.0 r.0, r.1)
 
--- what a number below 11 says of the state and the byte
-finishing : (q b k : ℕ) → k < 11 → finished q b ≡ k → (q ≡ 87 + k) × (b ≡ last_of k)
+-- what a finished text says of the state and the byte
+finishing : (q b k : ℕ) → finished q b ≡ Some k → (q ≡ 87 + k) × (b ≡ last_of k)
 unfolding finished
-finishing q b k h e = go (leb 87 q && eqb b (last_of (q - 87))) refl e
+finishing q b k e = go (leb 87 q && eqb b (last_of (q - 87))) refl e
   where
-    go : (c : Bool) → leb 87 q && eqb b (last_of (q - 87)) ≡ c → (if c then q - 87 else 11) ≡ k → (q ≡ 87 + k) × (b ≡ last_of k)
+    go : (c : Bool) → leb 87 q && eqb b (last_of (q - 87)) ≡ c → (if c then Some (q - 87) else None) ≡ Some k → (q ≡ 87 + k) × (b ≡ last_of k)
     go true p g =
         let w = and_both (leb 87 q) (eqb b (last_of (q - 87))) p in
         let l : 87 ≤ q = leb-true 87 q w.0 in
-        (omega arith, eqb-true b (last_of (q - 87)) w.1 ∙ ap last_of g)
-    go false p g = absurd (omega arith)
+        let m : q - 87 ≡ k = cc in
+        (omega arith, eqb-true b (last_of (q - 87)) w.1 ∙ ap last_of m)
+    go false p g = absurd (cc)
 
-finished_is : (k : ℕ) → finished (87 + k) (last_of k) ≡ k
+finished_is : (k : ℕ) → finished (87 + k) (last_of k) ≡ Some k
 unfolding finished
 finished_is k =
     let n : 87 + k - 87 ≡ k = omega arith in
@@ -159,9 +160,9 @@ finished_is k =
 
 module _ (w : List ℕ) (q b : ℕ) (h : q < 98) (e : word q ≡ longest w) (k : ℕ) (g : k < 11) where
   -- the text of that number ends here
-  pub finish_here : finished q b ≡ k → EndsIn (w ++ (b ∷ [])) (text_of k)
+  pub finish_here : finished q b ≡ Some k → EndsIn (w ++ (b ∷ [])) (text_of k)
   finish_here f =
-      let s = finishing q b k g f in
+      let s = finishing q b k f in
       let r = longest_end w in
       let z : longest w ≡ word (87 + k) = sym e ∙ ap word s.0 in
       record {
@@ -174,7 +175,7 @@ module _ (w : List ℕ) (q b : ℕ) (h : q < 98) (e : word q ≡ longest w) (k :
       }
 
   -- and no other
-  pub finish_only : EndsIn (w ++ (b ∷ [])) (text_of k) → finished q b ≡ k
+  pub finish_only : EndsIn (w ++ (b ∷ [])) (text_of k) → finished q b ≡ Some k
   finish_only r =
       let v = word (87 + k) in
       let i : w ++ (b ∷ []) ≡ (r.front ++ v) ++ (last_of k ∷ []) = r.is ∙ ap (λ (l : List ℕ). r.front ++ l) (sym (lack k g).0) ∙ sym (append_assoc r.front v (last_of k ∷ [])) in

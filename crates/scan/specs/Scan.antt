@@ -1,13 +1,14 @@
 -- One pass over the bytes: what was found so far, what the next byte adds, and what it all comes to.
-use Rattle.std.specs.Prelude.{Option, Some, None, ◌≡◌, ◌&&◌, List, [], ◌∷◌, map, ℕ, ◌+◌, ◌≤◌, ◌<◌, length, get_or, drop, set, replicate, eqb, ltb, if◌then◌else◌}
+use Rattle.std.specs.Prelude.{Option, Some, None, ◌≡◌, List, [], ◌∷◌, map, ℕ, ◌+◌, ◌≤◌, ◌<◌, length, get_or, drop, set, replicate, eqb, ltb, if◌then◌else◌}
 use Rattle.text.specs.Text.{find_in}
 use Rattle.scan.specs.Words.{texts}
 use Rattle.scan.specs.Table.{next, finished}
 use Rattle.scan.specs.declared.Findings.{Findings}
 
--- the text k ends at n; that counts where it has no end yet, and 11 is no text
-unfoldable pub noted : List ℕ → ℕ → ℕ → List ℕ
-noted ends k n = if ltb k 11 && eqb (get_or ends k 0) 0 then set ends k n else ends
+-- the text k, if there is one, ends at n; that counts where it has no end yet
+unfoldable pub noted : List ℕ → Option ℕ → ℕ → List ℕ
+noted ends (Some k) n = if eqb (get_or ends k 0) 0 then set ends k n else ends
+noted ends None n = ends
 
 -- the findings after one more byte
 unfoldable pub read : Findings → ℕ → Findings

@@ -1,5 +1,5 @@
 -- The table's numbers, as the source has them, and what a step by it is.
-use Rattle.std.specs.Prelude.{◌&&◌, List, [], ◌∷◌, ◌++◌, ℕ, zero, suc, ◌-◌, eqb, ltb, leb, get_or, replicate, if◌then◌else◌}
+use Rattle.std.specs.Prelude.{Option, Some, None, ◌&&◌, List, [], ◌∷◌, ◌++◌, ℕ, zero, suc, ◌-◌, eqb, ltb, leb, get_or, replicate, if◌then◌else◌}
 use Rattle.text.specs.Bytes.{bytes}
 
 -- the bytes that the texts have, in the order of their classes
@@ -133,6 +133,6 @@ next q b = get_or (get_or table q []) (class_of b) 0
 unfoldable pub last_of : ℕ → ℕ
 last_of k = if ltb k 8 then 10 else 58
 
--- the number of the text that the byte b finishes in the state q, or 11: the last eleven states lack one byte
-unfoldable pub finished : ℕ → ℕ → ℕ
-finished q b = if leb 87 q && eqb b (last_of (q - 87)) then q - 87 else 11
+-- the number of the text that the byte b finishes in the state q: the last eleven states lack one byte
+unfoldable pub finished : ℕ → ℕ → Option ℕ
+finished q b = if leb 87 q && eqb b (last_of (q - 87)) then Some (q - 87) else None

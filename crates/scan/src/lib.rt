@@ -2,10 +2,9 @@
 // It goes by a table: a state stands for the longest beginning of any of these texts, still open, in which the bytes so far end.
 #![tactic(auto)]
 
-ghost use Rattle.std.specs.Prelude.{◌≡◌, ◌≤◌, ◌<◌, length, drop};
-ghost use Rattle.scan.specs.Table.{table, class_of, next, finished};
+ghost use Rattle.std.specs.Prelude.{◌≡◌, ◌≤◌, ◌<◌, length, drop, IfSome};
+ghost use Rattle.scan.specs.Table.{class_of, next, finished};
 ghost use Rattle.scan.specs.Scan.{noted, run, state_of, extended, scanned, first_ends, Ahead};
-
 
 // How many texts there are. Eight are lines, which end in LF, and three are heads, which end in a colon.
 pub const TEXTS: usize = 11;
@@ -16,55 +15,6 @@ const STATES: usize = 98;
 const LACKING: usize = 87;
 
 const HEADS: usize = 95;
-
-// The classes of bytes: each byte that a text has is one, and all others are one.
-const CR: usize = 0;
-
-const LF: usize = 1;
-
-const SPACE: usize = 2;
-
-const PLUS: usize = 3;
-
-const COLON: usize = 4;
-
-const A: usize = 5;
-
-const B: usize = 6;
-
-const C: usize = 7;
-
-const D: usize = 8;
-
-const E: usize = 9;
-
-const I: usize = 10;
-
-const K: usize = 11;
-
-const L: usize = 12;
-
-const M: usize = 13;
-
-const N: usize = 14;
-
-const O: usize = 15;
-
-const P: usize = 16;
-
-const R: usize = 17;
-
-const S: usize = 18;
-
-const T: usize = 19;
-
-const U: usize = 20;
-
-const W: usize = 21;
-
-const Y: usize = 22;
-
-const OTHER: usize = 23;
 
 // For each state the next one by the byte's class, a row of 32 so that nothing is multiplied; behind it the state's number and its beginning.
 const NEXT: [[u8; 32]; 98] = [
@@ -171,80 +121,74 @@ const NEXT: [[u8; 32]; 98] = [
     // no more rows
 ];
 
-// The class of a byte.
+// The class of a byte, its column in NEXT: each byte that a text has is one, and all others are one. A match and no search: the processor looks it up.
+#[tactic(auto, unfolding(crate::specs::Table::class_of, crate::specs::Table::used))]
 fn class(b: u8) -> usize
     ensures { result ≡ class_of b }
 {
     match b {
-        b'\r' => CR,
-        b'\n' => LF,
-        b' ' => SPACE,
-        b'+' => PLUS,
-        b':' => COLON,
-        b'A' => A,
-        b'B' => B,
-        b'C' => C,
-        b'D' => D,
-        b'E' => E,
-        b'I' => I,
-        b'K' => K,
-        b'L' => L,
-        b'M' => M,
-        b'N' => N,
-        b'O' => O,
-        b'P' => P,
-        b'R' => R,
-        b'S' => S,
-        b'T' => T,
-        b'U' => U,
-        b'W' => W,
-        b'Y' => Y,
-        _ => OTHER,
+        b'\r' => 0,
+        b'\n' => 1,
+        b' ' => 2,
+        b'+' => 3,
+        b':' => 4,
+        b'A' => 5,
+        b'B' => 6,
+        b'C' => 7,
+        b'D' => 8,
+        b'E' => 9,
+        b'I' => 10,
+        b'K' => 11,
+        b'L' => 12,
+        b'M' => 13,
+        b'N' => 14,
+        b'O' => 15,
+        b'P' => 16,
+        b'R' => 17,
+        b'S' => 18,
+        b'T' => 19,
+        b'U' => 20,
+        b'W' => 21,
+        b'Y' => 22,
+        _ => 23,
     }
 }
 
-// The state after q and b. The table is lent, so that it's laid out once for many steps.
-fn step(rows: &[[u8; 32]; 98], q: usize, b: u8) -> usize
-    requires { (rows.now ≡ table) × (q < 98) }
+// The state after q and b.
+fn step(q: usize, b: u8) -> usize
+    requires { q < 98 }
     ensures { result ≡ next q b }
 {
-    let c = class(b);
-    rows[q][c] as usize
+    usize::from(NEXT[q][class(b)])
 }
 
-// The number of the text that b finishes in the state q, or 11.
-fn finish(q: usize, b: u8) -> usize
+// The number of the text that b finishes in the state q.
+#[tactic(auto, unfolding(crate::specs::Table::finished, crate::specs::Table::last_of))]
+fn finish(q: usize, b: u8) -> Option<usize>
     requires { q < 98 }
-    ensures { result ≡ finished q b }
+    ensures is { result ≡ finished q b }
+    ensures within { IfSome result (λ k. k < 11) }
 {
-    if q < LACKING {
-        return TEXTS;
-    }
-    if q < HEADS {
-        if b == b'\n' {
-            return q - LACKING;
-        }
-        return TEXTS;
-    }
-    if b == b':' {
-        return q - LACKING;
-    }
-    TEXTS
+    let k = q.checked_sub(LACKING)?;
+    let last = if q < HEADS { b'\n' } else { b':' };
+    if b == last { Some(k) } else { None }
 }
 
-// How many bytes were looked at, those before the first counted too, the state after them, and where each text first ends, 0 for nowhere.
+// How many bytes were looked at, those before the first counted too, the state after them, and where each text first ends, 0 for nowhere: the C interface lends them as numbers.
 #[derive(Clone, Copy)]
 pub struct Findings {
     pub seen: usize,
     pub state: usize,
-    pub ends: [usize; 11],
+    pub ends: [usize; TEXTS],
 }
 
-// The text k ends at n: noted where it has no end yet.
-fn note(ends: &mut [usize; 11], k: usize, n: usize)
-    ensures { ends.new ≡ noted ends.old k n }
+// The text, if there is one, ends at n: noted where it has no end yet.
+#[tactic(auto, unfolding(crate::specs::Scan::noted))]
+fn note(ends: &mut [usize; TEXTS], text: Option<usize>, n: usize)
+    requires { IfSome text (λ k. k < 11) }
+    ensures { ends.new ≡ noted ends.old text n }
 {
-    if k < TEXTS {
+    if let Some(k) = text {
         if ends[k] == 0 {
             ends[k] = n;
         }
@@ -252,6 +196,7 @@ fn note(ends: &mut [usize; 11], k: usize, n: usize)
 }
 
 // The place to go on from in the state q: in the start state only a CR leads anywhere.
+#[tactic(auto, using(crate::proofs::Steps::ahead_here, crate::proofs::Steps::ahead_found))]
 fn ahead(q: usize, s: &[u8], from: usize) -> usize
     requires { from ≤ length s.now }
     ensures { Ahead q s.now from result }
@@ -259,47 +204,30 @@ fn ahead(q: usize, s: &[u8], from: usize) -> usize
     if q != 0 {
         return from;
     }
-    if let Some(p) = seek::find_cr(s, from) {
-        return p;
-    }
-    s.len()
+    seek::find_cr(s, from).unwrap_or(s.len())
 }
 
 // Is it time to look for the next CR? Any answer is right: it says only which way is the faster.
 fn leaves(q: usize, s: &[u8], i: usize) -> bool {
-    if q != 0 {
-        return false;
-    }
-    if i < s.len() {
-        return s[i] != b'\r';
-    }
-    true
+    q == 0 && (s.len() <= i || s[i] != b'\r')
 }
 
 // The findings of f carried on over the rest of s, by the table.
-fn walk(f: Findings, s: &[u8], rows: &[[u8; 32]; 98]) -> Findings
-    requires is_table { rows.now ≡ table }
-    requires within { (f.state < 98) × (f.seen ≤ length s.now) }
+fn walk(f: Findings, s: &[u8]) -> Findings
+    requires { f.state < 98 }
     ensures { result ≡ run f (drop f.seen s.now) }
 {
     let mut ends = f.ends;
     let mut q = f.state;
     let mut i = f.seen;
+    // no `for`s: where the one loop stops the other goes on
     while i < s.len() {
-        let p = ahead(q, s, i);
-        if s.len() <= p {
-            return Findings {
-                seen: p,
-                state: q,
-                ends: ends,
-            };
-        }
-        i = p;
+        i = ahead(q, s, i);
         while i < s.len() {
             let b = s[i];
             i += 1;
             note(&mut ends, finish(q, b), i);
-            q = step(rows, q, b);
+            q = step(q, b);
             if leaves(q, s, i) {
                 break;
             }
@@ -308,51 +236,25 @@ fn walk(f: Findings, s: &[u8], rows: &[[u8; 32]; 98]) -> Findings
     Findings {
         seen: i,
         state: q,
-        ends: ends,
+        ends,
     }
-}
-
-// The same by NEXT, which is laid out anew at each call: so this stands apart, and bytes without a CR never pay for it.
-fn walk_tables(f: Findings, s: &[u8]) -> Findings
-    requires { (f.state < 98) × (f.seen ≤ length s.now) }
-    ensures { result ≡ run f (drop f.seen s.now) }
-{
-    walk(f, s, &NEXT)
 }
 
 // A state out of range is the start.
+#[tactic(auto, unfolding(crate::specs::Scan::state_of))]
 fn state_of(q: usize) -> usize
     ensures { result ≡ state_of q }
 {
-    if q < STATES {
-        return q;
-    }
-    0
+    if q < STATES { q } else { 0 }
 }
 
 // The findings f, whoever says so, carried on over the bytes of s behind those that were looked at, each looked at once. Past the end of s there are none.
+#[tactic(auto, unfolding(crate::specs::Scan::extended), using(crate::proofs::Steps::state_range))]
 pub fn extend(f: Findings, s: &[u8]) -> Findings
     ensures { result ≡ extended f s.now }
 {
-    let q = state_of(f.state);
-    let ends = f.ends;
-    if s.len() <= f.seen {
-        return Findings {
-            seen: f.seen,
-            state: q,
-            ends: ends,
-        };
-    }
-    let p = ahead(q, s, f.seen);
-    let on = Findings {
-        seen: p,
-        state: q,
-        ends: ends,
-    };
-    if s.len() <= p {
-        return on;
-    }
-    walk_tables(on, s)
+    let state = state_of(f.state);
+    walk(Findings { state, ..f }, s)
 }
 
 // One pass over the bytes of s from `from` on.
@@ -363,7 +265,7 @@ pub fn scan(s: &[u8], from: usize) -> Findings
     let none = Findings {
         seen: from,
         state: 0,
-        ends: [0; 11],
+        ends: [0; TEXTS],
     };
     extend(none, s)
 }

@@ -1,18 +1,13 @@
--- `step` meets its contract: the entry that it reads is the one that `next` reads, a state.
-use mathlib.Core.Path.{refl}
-use native.Mathlib.Omega.{arith}
-use Rattle.scan.proofs.Rule.{class_below, next_state}
+-- `step` meets its contract: NEXT is the table, number by number.
+use Rattle.std.proofs.Common.{arith}
+use Rattle.scan.specs.Table.{table}
+use Rattle.scan.proofs.Rule.{class_below}
 use Rattle.scan.proofs.Steps.{step_is}
 use Rattle.scan.proofs.step.Goals as goal
 
-pub bounds-rows-c : goal.bounds-rows-c
-bounds-rows-c c = omega (arith, c.class-c.ensures, class_below c.args.b)
-
-pub overflow_cast-result : goal.overflow_cast-result
-overflow_cast-result c =
-    let q = c.args.q in
-    let b = c.args.b in
-    record { fits = omega (arith, step_is c.args.rows.now q b c.class-c.result _ c.requires.0 c.class-c.ensures refl, next_state q b c.requires.1) }
+pub bounds-class : goal.bounds-class
+bounds-class c = omega (arith, c.class.ensures, class_below c.args.b)
 
 pub returns : goal.returns
-returns c = step_is _ _ _ _ _ c.requires.0 c.class-c.ensures refl
+unfolding table
+returns c = step_is c.args.q c.args.b _ _ c.class.ensures c.from.ensures

@@ -1,10 +1,9 @@
-use Prim.Native.Nat.{◌≤◌, ◌-◌}
-use lib.ListN.{length}
+use Rattle.std.proofs.Common.{◌≤◌, ◌-◌, length}
 use Rattle.scan.proofs.Steps.{found, Going}
 use Rattle.scan.proofs.walk.Given as goal
 
 abbrev pub invariant-loop-i-2 : goal.invariant-loop-i-2
-invariant-loop-i-2 l = (l.p ≤ l.i) × Going (found l.initial.i l.initial.q l.initial.ends) l.s l.i l.q l.ends
+invariant-loop-i-2 l = (l.initial.i ≤ l.i) × Going (found l.initial.i l.initial.q l.initial.ends) l.s l.i l.q l.ends
 
 abbrev pub decreases-loop-i-2 : goal.decreases-loop-i-2
 decreases-loop-i-2 l = length l.s - l.i
