@@ -1,8 +1,10 @@
 -- The bytes that strings and numbers of docs/LISTS.md are made of, and an element as six numbers.
-use Rattle.std.specs.Prelude.{Option, Some, None, Result, Ok, Err, Bool, ◌&&◌, ◌||◌, not, List, [], ◌∷◌, ℕ, zero, suc, ◌+◌, ◌*◌, get_or, eqb, leb, if◌then◌else◌}
+use Rattle.std.specs.Prelude.{Option, Result, Ok, Err, Bool, ◌&&◌, ◌||◌, not, List, [], ◌∷◌, ℕ, zero, suc, ◌+◌, ◌*◌, get_or, eqb, leb, if◌then◌else◌}
 use Rattle.parser.specs.Parser.{is_digit, run_at}
 use Rattle.pieces.specs.declared.Heard.{Heard}
 use Rattle.pieces.specs.declared.Heard.TheVariants.{Owes, Closes, Breaks}
+use Rattle.pieces.specs.declared.StringError.{StringError}
+use Rattle.pieces.specs.declared.StringError.TheVariants.{Broken}
 use Rattle.pieces.specs.declared.Kind.{Kind}
 use Rattle.pieces.specs.declared.Kind.TheVariants as kinds
 use Rattle.pieces.specs.declared.Element.{Element}
@@ -22,19 +24,19 @@ heard zero b = if is_char b then Owes 0 else if eqb b 92 then Owes 2 else if eqb
 heard (suc n) b = if is_hex b then Owes n else Breaks
 
 -- how a string goes on at the place p
-unfoldable pub goes_on : Heard → ℕ → (ℕ → Result ℕ ℕ) → Result ℕ ℕ
+unfoldable pub goes_on : Heard → ℕ → (ℕ → Result ℕ StringError) → Result ℕ StringError
 goes_on (Owes n) p f = f n
 goes_on Closes p f = Ok (suc p)
-goes_on Breaks p f = Err p
+goes_on Breaks p f = Err (Broken p)
 
-unfoldable pub string_end : ℕ → ℕ → List ℕ → Result ℕ ℕ
+unfoldable pub string_end : ℕ → ℕ → List ℕ → Result ℕ StringError
 unfolding heard goes_on
-string_end owed p [] = Err p
+string_end owed p [] = Err (Broken p)
 string_end owed p (b ∷ x) = goes_on (heard owed b) p (λ n. string_end n (suc p) x)
 
 -- the longest run of digits from the place p on, of at most 4,294,967,295
 abbrev pub number_at : List ℕ → ℕ → Option (ℕ × ℕ)
-number_at s p = run_at Some (None, 4294967295) s p
+number_at = run_at 4294967295
 
 abbrev pub kind_number : Kind → ℕ
 kind_number kinds.Empty = 0

@@ -5,7 +5,7 @@
 
 ghost use Rattle.std.specs.Prelude.{◌≡◌, ◌≤◌, ◌+◌, ◌*◌, drop};
 ghost use Rattle.std.proofs.lemmas.List.Edits.{sets};
-ghost use Rattle.pieces.specs.Pieces.{is_hex, is_char, heard, string_end, number_at, kind_number, kind_of, numbers_of, element_at};
+ghost use Rattle.pieces.specs.Pieces.{is_hex, is_char, heard, string_end, number_at, kind_of, numbers_of, element_at};
 
 // How many elements a list may have, how many numbers an element is, and how many numbers so many elements are.
 pub const MOST: usize = 256;
@@ -14,39 +14,23 @@ pub const FIELDS: usize = 6;
 
 pub const NUMBERS: usize = 1536;
 
+// The largest value that a number may have.
+const LARGEST: u32 = 4_294_967_295;
+
 // HEX: a digit, or one of the letters A to F, large or small.
+#[tactic(auto, unfolding(crate::specs::Pieces::is_hex, parser::specs::Parser::is_digit))]
 fn is_hex(b: u8) -> bool
     ensures { result ≡ is_hex b }
 {
-    if parser::is_digit(b) {
-        return true;
-    }
-    if b < b'A' {
-        return false;
-    }
-    if b <= b'F' {
-        return true;
-    }
-    if b < b'a' {
-        return false;
-    }
-    b <= b'f'
+    b.is_ascii_hexdigit()
 }
 
 // char: 0x20 to 0x7E without the quote and the backslash.
+#[tactic(auto, unfolding(crate::specs::Pieces::is_char))]
 fn is_char(b: u8) -> bool
     ensures { result ≡ is_char b }
 {
-    if b == b'"' {
-        return false;
-    }
-    if b == b'\\' {
-        return false;
-    }
-    if b < 0x20 {
-        return false;
-    }
-    b <= 0x7E
+    matches!(b, 0x20..=0x7E) && !matches!(b, b'"' | b'\\')
 }
 
 // What a byte within a string does: it leaves so many hexadecimal digits owed, it closes the string, or it can't stand there.
@@ -58,6 +42,7 @@ pub enum Heard {
 }
 
 // Where `owed` hexadecimal digits are owed, b must be one; where none is, it is a char, the backslash that owes two, or the quote that closes.
+#[tactic(auto, unfolding(crate::specs::Pieces::heard))]
 fn hear(owed: usize, b: u8) -> Heard
     ensures { result ≡ heard owed b }
 {
@@ -70,82 +55,51 @@ fn hear(owed: usize, b: u8) -> Heard
     if is_char(b) {
         return Heard::Owes(0);
     }
-    if b == b'\\' {
-        return Heard::Owes(2);
+    match b {
+        b'\\' => Heard::Owes(2),
+        b'"' => Heard::Closes,
+        _ => Heard::Breaks,
     }
-    if b == b'"' {
-        return Heard::Closes;
-    }
-    Heard::Breaks
 }
 
-pub fn string_end(s: &[u8], from: usize) -> Result<usize, usize>
+// Why a string doesn't end: the place of the first byte that can't stand in it, or the input's end.
+#[derive(Clone, Copy)]
+pub enum StringError {
+    Broken(usize),
+}
+
+// Where the string ends whose first byte behind the quote is at `from`: one past the quote that closes it.
+#[tactic(auto, using(crate::specs::Laws::string_open, crate::specs::Laws::string_more, crate::specs::Laws::string_closed, crate::specs::Laws::string_broken))]
+pub fn string_end(s: &[u8], from: usize) -> Result<usize, StringError>
     ensures { result ≡ string_end 0 from (drop from s.now) }
 {
-    let mut i = from;
     let mut owed = 0;
-    while i < s.len() {
+    for i in from..s.len() {
         match hear(owed, s[i]) {
-            Heard::Owes(n) => {
-                owed = n;
-            }
-            Heard::Closes => {
-                return Ok(i + 1);
-            }
-            Heard::Breaks => {
-                return Err(i);
-            }
+            Heard::Owes(n) => owed = n,
+            Heard::Closes => return Ok(i + 1),
+            Heard::Breaks => return Err(StringError::Broken(i)),
         }
-        i += 1;
     }
-    Err(i)
+    Err(StringError::Broken(from.max(s.len())))
 }
 
-fn wide(b: u8) -> u64
-    ensures { result ≡ b }
-{
-    b as u64
-}
-
-// A value with one digit more, without a multiply, as the codes of R-5.
-fn appended(value: u64, twice: u64, digit: u64) -> u64
-    requires { (value ≤ 4294967295) × ((twice ≡ value * 2) × (digit ≤ 9)) }
-    ensures { result ≡ value * 10 + digit }
-{
-    (value << 3) + twice + digit
-}
-
-// The longest run of digits from `from` on. With no digit there its value is 0 and it ends at `from`.
+// The longest run of digits from `from` on, or none where its value is over 4,294,967,295. With no digit there its value is 0 and it ends at `from`.
 pub fn number_at(s: &[u8], from: usize) -> Option<(u64, usize)>
     ensures { result ≡ number_at s.now from }
 {
-    let mut i = from;
-    let mut value: u64 = 0;
-    let mut twice: u64 = 0;
-    while i < s.len() {
-        let b = s[i];
-        if !parser::is_digit(b) {
-            return Some((value, i));
-        }
-        let next = appended(value, twice, wide(b) - 48);
-        if 4294967295 < next {
-            return None;
-        }
-        value = next;
-        twice = next << 1;
-        i += 1;
-    }
-    Some((value, i))
+    let (value, end) = parser::digits_at::<LARGEST>(s, from)?;
+    Some((u64::from(value), end))
 }
 
-// What an element is.
+// What an element is, with its number in the memory.
 #[derive(Clone, Copy)]
 pub enum Kind {
-    Empty,
-    Number,
-    Range,
-    String,
-    List,
+    Empty = 0,
+    Number = 1,
+    Range = 2,
+    String = 3,
+    List = 4,
 }
 
 // An element: its first byte behind its spaces, one past its last byte (of an empty one the byte that ends it, twice), its kind, within how many brackets
@@ -158,19 +112,6 @@ pub struct Element {
     pub depth: usize,
     pub low: u64,
     pub high: u64,
-}
-
-// The number of each kind.
-fn kind_number(kind: Kind) -> u64
-    ensures { result ≡ kind_number kind }
-{
-    match kind {
-        Kind::Empty => 0,
-        Kind::Number => 1,
-        Kind::Range => 2,
-        Kind::String => 3,
-        Kind::List => 4,
-    }
 }
 
 // The kind of a number; any other number is an empty element's.
@@ -196,10 +137,9 @@ pub fn put(elements: &mut [u64; NUMBERS], number: usize, e: Element)
         return;
     }
     let at = FIELDS * number;
-    let kind = e.kind;
     all[at] = e.place as u64;
     all[at + 1] = e.end as u64;
-    all[at + 2] = kind_number(kind);
+    all[at + 2] = e.kind as u64;
     all[at + 3] = e.depth as u64;
     all[at + 4] = e.low;
     all[at + 5] = e.high;
