@@ -115,15 +115,17 @@ pub struct Element {
 }
 
 // The kind of a number; any other number is an empty element's.
-fn kind_of(n: u64) -> Kind
-    ensures { result ≡ kind_of n }
-{
-    match n {
-        1 => Kind::Number,
-        2 => Kind::Range,
-        3 => Kind::String,
-        4 => Kind::List,
-        _ => Kind::Empty,
+impl From<u64> for Kind {
+    ghost from_gives = { λ n k. k ≡ kind_of n };
+
+    fn from(n: u64) -> Kind {
+        match n {
+            1 => Kind::Number,
+            2 => Kind::Range,
+            3 => Kind::String,
+            4 => Kind::List,
+            _ => Kind::Empty,
+        }
     }
 }
 
@@ -164,7 +166,7 @@ pub fn element_at(elements: &[u64; NUMBERS], number: usize) -> Element
     Element {
         place: all[at] as usize,
         end: all[at + 1] as usize,
-        kind: kind_of(all[at + 2]),
+        kind: Kind::from(all[at + 2]),
         depth: all[at + 3] as usize,
         low: all[at + 4],
         high: all[at + 5],
