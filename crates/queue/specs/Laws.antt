@@ -1,32 +1,33 @@
 -- The ways out of the queue's calls, each with the tests that led there, and that their promises determine them.
-use Rattle.std.specs.Prelude.{Option, Some, None, Result, Ok, Err, ◌≡◌, refl, true, false, ◌&&◌, List, [], ℕ, zero, suc, ◌+◌, ◌-◌, ◌*◌, ◌/◌, ◌≤◌, ◌<◌, length, get_or, take, drop, eqb, leb, ltb}
-use Rattle.std.proofs.Common.{sym, ◌∙◌, mul-suc, mul-le-mul_left, arith, get_or-take, get_or-drop}
+use Rattle.std.specs.Prelude.{Option, Some, None, Result, Ok, Err, ◌≡◌, refl, Bool, true, false, ◌&&◌, List, [], ℕ, zero, suc, ◌+◌, ◌-◌, ◌*◌, ◌/◌, ◌≤◌, ◌<◌, length, get_or, eqb, leb, ltb, if◌then◌else◌}
+use Rattle.std.proofs.Common.{sym, ◌∙◌, mul-suc, mul-le-mul_left, arith}
 use Rattle.std.proofs.Math.Path.{ap}
 use Rattle.std.proofs.Math.Nat.{mul-div-le}
 use borrow.Author.Tests.{le-leb, lt-leb, lt-ltb, le-ltb, eq-eqb, ne_eqb, ltb-true, leb-true}
 use Rattle.text.specs.Logic.{and_both}
 use Rattle.text.specs.Text.{stands}
-use Rattle.moves.specs.Moves.{put, one_more}
+use Rattle.moves.specs.Moves.{put}
 use Rattle.moves.specs.Laws.{put_none}
 use Rattle.outcome.specs.Outcome.{Outcome, answered, refused}
 use Rattle.outcome.specs.Laws.{ways}
 use Rattle.queue.specs.declared.Queue.{Queue}
+use Rattle.queue.specs.declared.Notice.{Notice}
 use Rattle.queue.specs.declared.PutError.{PutError}
 use Rattle.queue.specs.declared.PutError.TheVariants as puts
 use Rattle.queue.specs.declared.TakeError.{TakeError}
 use Rattle.queue.specs.declared.TakeError.TheVariants as takes
-use Rattle.queue.specs.Queue.{Geometry, ours, older, Sound, capacity_of, start_in, in_bounds, ring_place, lost_one, longer, After, after, head_of, recorded, written, put_into, outcome, got, empty, taking, shorter, length_at, record_good, taken}
+use Rattle.queue.specs.Queue.{Geometry, ours, older, Sound, capacity_of, start_in, in_bounds, ring_place, lost_one, longer, After, after, head_of, recorded, written, put_into, outcome, got, empty, taking, shorter, length_at, record_good, notice_in, taken}
 
 -- two answers with the same outcome are equal
 pub outcome_one : (r q : Result Queue PutError) → outcome r ≡ outcome q → r ≡ q
 outcome_one (Ok x) (Ok y) e = cc
-outcome_one (Ok x) (Err puts.BadBounds) e = let z : ◌≡◌ {A = ℕ} 0 1 = cc in absurd (omega arith)
-outcome_one (Ok x) (Err puts.Full) e = let z : ◌≡◌ {A = ℕ} 0 1 = cc in absurd (omega arith)
-outcome_one (Err puts.BadBounds) (Ok y) e = let z : ◌≡◌ {A = ℕ} 0 1 = cc in absurd (omega arith)
+outcome_one (Ok x) (Err puts.BadBounds) e = cc
+outcome_one (Ok x) (Err puts.Full) e = cc
+outcome_one (Err puts.BadBounds) (Ok y) e = cc
 outcome_one (Err puts.BadBounds) (Err puts.BadBounds) e = refl
-outcome_one (Err puts.BadBounds) (Err puts.Full) e = let z : ◌≡◌ {A = ℕ} 3 5 = cc in absurd (omega arith)
-outcome_one (Err puts.Full) (Ok y) e = let z : ◌≡◌ {A = ℕ} 0 1 = cc in absurd (omega arith)
-outcome_one (Err puts.Full) (Err puts.BadBounds) e = let z : ◌≡◌ {A = ℕ} 3 5 = cc in absurd (omega arith)
+outcome_one (Err puts.BadBounds) (Err puts.Full) e = cc
+outcome_one (Err puts.Full) (Ok y) e = cc
+outcome_one (Err puts.Full) (Err puts.BadBounds) e = cc
 outcome_one (Err puts.Full) (Err puts.Full) e = refl
 
 -- and where that is so of a call's answers, they are equal with the memories that they left
@@ -37,13 +38,13 @@ after_one outcome one w r q m n e f =
 
 pub taking_one : (r q : Result (Queue × Option Notice) TakeError) → taking r ≡ taking q → r ≡ q
 taking_one (Ok (x, Some n)) (Ok (y, Some k)) e = cc
-taking_one (Ok (x, Some n)) (Ok (y, None)) e = let z : ◌≡◌ {A = ℕ} 0 1 = cc in absurd (omega arith)
-taking_one (Ok (x, Some n)) (Err takes.Bad) e = let z : ◌≡◌ {A = ℕ} 0 1 = cc in absurd (omega arith)
-taking_one (Ok (x, None)) (Ok (y, Some k)) e = let z : ◌≡◌ {A = ℕ} 0 1 = cc in absurd (omega arith)
+taking_one (Ok (x, Some n)) (Ok (y, None)) e = cc
+taking_one (Ok (x, Some n)) (Err takes.Bad) e = cc
+taking_one (Ok (x, None)) (Ok (y, Some k)) e = cc
 taking_one (Ok (x, None)) (Ok (y, None)) e = cc
-taking_one (Ok (x, None)) (Err takes.Bad) e = let z : ◌≡◌ {A = ℕ} 0 1 = cc in absurd (omega arith)
-taking_one (Err takes.Bad) (Ok (y, Some k)) e = let z : ◌≡◌ {A = ℕ} 0 1 = cc in absurd (omega arith)
-taking_one (Err takes.Bad) (Ok (y, None)) e = let z : ◌≡◌ {A = ℕ} 0 1 = cc in absurd (omega arith)
+taking_one (Ok (x, None)) (Err takes.Bad) e = cc
+taking_one (Err takes.Bad) (Ok (y, Some k)) e = cc
+taking_one (Err takes.Bad) (Ok (y, None)) e = cc
 taking_one (Err takes.Bad) (Err takes.Bad) e = refl
 
 -- `start_in`, `in_bounds`, `ring_place`
@@ -57,14 +58,6 @@ start_some zero start h = absurd (h refl)
 start_some (suc c) start h = refl
 
 module _ (cap : ℕ) (x : Queue) where
-  pub bounds_off : start_in cap x.start ≡ false → false ≡ in_bounds cap x
-  unfolding in_bounds
-  bounds_off e = rw e
-
-  pub bounds_on : start_in cap x.start ≡ true → leb x.count cap ≡ in_bounds cap x
-  unfolding in_bounds
-  bounds_on e = rw e
-
   -- with a record held, or room for one, the start is below the capacity
   pub bounds_room : in_bounds cap x ≡ true → 0 < cap → (x.start < cap) × (x.count ≤ cap)
   unfolding in_bounds
@@ -87,9 +80,6 @@ ring_far start i cap h = rw (le-ltb (start + i) cap h)
 pub ring_below : (start i cap : ℕ) → start < cap → i ≤ cap → ring_place start i cap < cap
 unfolding ring_place
 ring_below start i cap h g = ways (λ n. n < cap) (ltb (start + i) cap) (ltb-true (start + i) cap) (λ e. omega arith)
-
-pub lost_is : (x : Queue) (n : ℕ) → n ≡ one_more x.lost → ◌≡◌ {A = Queue} (record { start = x.start; count = x.count; lost = n }) (lost_one x)
-lost_is x n e = λ i. record { start = x.start; count = x.count; lost = e i }
 
 -- both geometries are sound
 pub ours_sound : Sound ours
@@ -120,16 +110,6 @@ record_past g number p base m h =
 pub record_is : (g : Geometry) (number : ℕ) (p : List ℕ) (base : ℕ) (m a d : List ℕ) → a ≡ put m base (head_of g number (length p)) → d ≡ put a (base + g.head) p → d ≡ recorded g number p base m
 unfolding recorded
 record_is g number p base m a d v w = w ∙ ap (λ (k : List ℕ). put k (base + g.head) p) v
-
--- two bytes are a length, the high one first
-pub length_is : (m : List ℕ) (base high low : ℕ) → high ≡ get_or m (base + 3) 0 → low ≡ get_or m (base + 4) 0 → 256 * high + low ≡ length_at ours m base
-length_is m base high low h l =
-    let byte : (j : ℕ) → j < 2 → get_or (take 2 (drop (base + 3) m)) j 0 ≡ get_or m (base + 3 + j) 0 = λ j q. get_or-take 2 (drop (base + 3) m) j 0 q ∙ get_or-drop (base + 3) m j 0 in
-    let i : base + 3 + 0 ≡ base + 3 = omega arith in
-    let k : base + 3 + 1 ≡ base + 4 = omega arith in
-    let u : high ≡ get_or (take 2 (drop (base + 3) m)) 0 0 = h ∙ ap (λ (n : ℕ). get_or m n 0) (sym i) ∙ sym (byte 0 (omega arith)) in
-    let v : low ≡ get_or (take 2 (drop (base + 3) m)) 1 0 = l ∙ ap (λ (n : ℕ). get_or m n 0) (sym k) ∙ sym (byte 1 (omega arith)) in
-    λ i. 256 * u i + v i
 
 -- the ways out of `put`
 module _ (g : Geometry) (x : Queue) (number : ℕ) (p m : List ℕ) (cap : ℕ) (c : cap ≡ capacity_of g (length m)) where
@@ -190,6 +170,22 @@ module _ (g : Geometry) (m : List ℕ) (base : ℕ) where
       pub good_all : len ≤ g.longest → record_good g m base ≡ true
       good_all e = sym good_some ∙ le-leb len g.longest e
 
+-- the notice of a record, by whether it is good
+module _ (g : Geometry) (m : List ℕ) (base : ℕ) where
+  pub notice_none : record_good g m base ≡ false → None ≡ notice_in g m base
+  notice_none e = rw e
+
+  pub notice_some : record_good g m base ≡ true → (head len : ℕ) → head ≡ g.head → len ≡ length_at g m base → Some (record { number = get_or m (base + 2) 0; place = base + head; len = len }) ≡ notice_in g m base
+  notice_some e head len h l = rw (e, h, l)
+
+none_good : (b : Bool) (n : Notice) → None ≡ (if b then Some n else None) → b ≡ false
+none_good true n e = cc
+none_good false n e = refl
+
+some_good : (b : Bool) (n k : Notice) → Some k ≡ (if b then Some n else None) → (b ≡ true) × (k ≡ n)
+some_good true n k e = (refl, cc)
+some_good false n k e = cc
+
 -- the ways out of `take`
 module _ (g : Geometry) (x : Queue) (m : List ℕ) (cap : ℕ) (c : cap ≡ capacity_of g (length m)) where
   pub take_bad : in_bounds cap x ≡ false → refused 3 [] ≡ taken g x m
@@ -202,13 +198,13 @@ module _ (g : Geometry) (x : Queue) (m : List ℕ) (cap : ℕ) (c : cap ≡ capa
     take_none e = rw (rw c at b, eq-eqb x.count 0 e)
 
     module _ (h : (x.count ≡ 0 → ⊥)) where
-      pub take_wrong : record_good g m (g.size * x.start) ≡ false → refused 3 [] ≡ taken g x m
+      pub take_wrong : None ≡ notice_in g m (g.size * x.start) → refused 3 [] ≡ taken g x m
       unfolding taken
-      take_wrong e = rw (rw c at b, ne_eqb x.count 0 h, e)
+      take_wrong e = rw (rw c at b, ne_eqb x.count 0 h, none_good (record_good g m (g.size * x.start)) _ e)
 
-      pub take_is : record_good g m (g.size * x.start) ≡ true → (start : ℕ) → start ≡ ring_place x.start 1 cap → (number : ℕ) → number ≡ get_or m (g.size * x.start + 2) 0 → (len : ℕ) → len ≡ length_at g m (g.size * x.start) → answered (got (record { start = start; count = x.count - 1; lost = x.lost }) (record { number = number; place = g.size * x.start + g.head; len = len })) ≡ taken g x m
+      pub take_is : (start : ℕ) → start ≡ ring_place x.start 1 cap → (n : Notice) → Some n ≡ notice_in g m (g.size * x.start) → answered (got (record { start = start; count = x.count - 1; lost = x.lost }) n) ≡ taken g x m
       unfolding taken shorter
-      take_is y start q number w len v =
+      take_is start q n e =
+          let w = some_good (record_good g m (g.size * x.start)) _ n e in
           let r : start ≡ ring_place x.start 1 (capacity_of g (length m)) = q ∙ ap (ring_place x.start 1) c in
-          (λ i. answered (got (record { start = r i; count = x.count - 1; lost = x.lost }) (record { number = w i; place = g.size * x.start + g.head; len = v i })))
-          ∙ rw (rw c at b, ne_eqb x.count 0 h, y)
+          rw (rw c at b, ne_eqb x.count 0 h, w.0, w.1, r)

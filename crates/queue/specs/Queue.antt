@@ -127,6 +127,10 @@ record_good g m base = let len = length_at g m base in stands g.mark m base && (
 abbrev pub notice_at : Geometry → List ℕ → ℕ → Notice
 notice_at g m base = record { number = get_or m (base + 2) 0; place = base + g.head; len = length_at g m base }
 
+-- what reading the record at `base` gives
+abbrev pub notice_in : Geometry → List ℕ → ℕ → Option Notice
+notice_in g m base = if record_good g m base then Some (notice_at g m base) else None
+
 -- Taking from an empty queue answers nothing; taking changes no byte.
 unfoldable pub taken : Geometry → Queue → List ℕ → Outcome Got
 unfolding shorter

@@ -4,17 +4,132 @@
 // The queue is a struct by value beside the memory; a refusal changes neither.
 #![tactic(auto)]
 
-ghost use Rattle.std.specs.Prelude.{◌≡◌, ◌+◌, ◌≤◌, ◌<◌, length};
-ghost use Rattle.queue.specs.Queue.{ours, capacity_of, start_in, in_bounds, ring_place, new_queue, lost_one, after, recorded, put_into, outcome, length_at, taken, taking};
+ghost use Rattle.std.specs.Prelude.{◌≡◌, refl, ℕ, List, ◌+◌, ◌≤◌, ◌<◌, length};
+ghost use Rattle.queue.specs.Queue.{Geometry, Sound, ours, older, capacity_of, start_in, in_bounds, ring_place, new_queue, lost_one, after, recorded, put_into, outcome, length_at, notice_in, taken, taking};
+ghost use Rattle.queue.specs.Laws.{ours_sound, older_sound};
 
-// How long a record is, how much of that its head, how long the longest payload, and how many records there are at most.
+// How many records there are at most.
+const MOST: usize = 16;
+
+// How records lie in a memory, as `form` says it.
+pub trait Form {
+    // How long a record is, its mark, how long its head, and how long its longest payload.
+    const RECORD: usize;
+
+    const MARK: [u8; 2];
+
+    const HEAD: usize;
+
+    const LONGEST: usize;
+
+    ghost form: { Geometry };
+
+    ghost RECORD: { ℕ };
+
+    ghost MARK: { List ℕ };
+
+    ghost HEAD: { ℕ };
+
+    ghost LONGEST: { ℕ };
+
+    // The payload's length in the head at `base`.
+    fn length_at(mem: &[u8], base: usize) -> usize
+        requires { base + form.size ≤ length mem.now }
+        ensures { result ≡ length_at form mem.now base };
+
+    ghost record_is: { RECORD ≡ form.size };
+
+    ghost mark_is: { MARK ≡ form.mark };
+
+    ghost head_is: { HEAD ≡ form.head };
+
+    ghost longest_is: { LONGEST ≡ form.longest };
+
+    ghost most_is: { form.most ≡ 16 };
+
+    ghost sound: { Sound form };
+}
+
+// This crate's own (R-9): two bytes are the payload's length, the high one first.
+pub struct Ours;
+
+// That of before R-9, of which queues are still there to be converted: one byte is the payload's length.
+pub struct Older;
+
+// How long a record is.
 pub const RECORD: usize = 1029;
 
-const HEAD: usize = 5;
+impl Form for Ours {
+    const RECORD: usize = RECORD;
 
-const LONGEST: usize = 1024;
+    const MARK: [u8; 2] = [b'U', b'X'];
 
-const MOST: usize = 16;
+    const HEAD: usize = 5;
+
+    const LONGEST: usize = 1024;
+
+    ghost form = { ours };
+
+    ghost RECORD = { 1029 };
+
+    ghost MARK = { ours.mark };
+
+    ghost HEAD = { 5 };
+
+    ghost LONGEST = { 1024 };
+
+    fn length_at(mem: &[u8], base: usize) -> usize {
+        u16::from_be_bytes([mem[base + 3], mem[base + 4]]) as usize
+    }
+
+    ghost record_is = { refl };
+
+    ghost mark_is = { refl };
+
+    ghost head_is = { refl };
+
+    ghost longest_is = { refl };
+
+    ghost most_is = { refl };
+
+    ghost sound = { ours_sound };
+}
+
+impl Form for Older {
+    const RECORD: usize = 132;
+
+    const MARK: [u8; 2] = [b'U', b'R'];
+
+    const HEAD: usize = 4;
+
+    const LONGEST: usize = 128;
+
+    ghost form = { older };
+
+    ghost RECORD = { 132 };
+
+    ghost MARK = { older.mark };
+
+    ghost HEAD = { 4 };
+
+    ghost LONGEST = { 128 };
+
+    fn length_at(mem: &[u8], base: usize) -> usize {
+        mem[base + 3] as usize
+    }
+
+    ghost record_is = { refl };
+
+    ghost mark_is = { refl };
+
+    ghost head_is = { refl };
+
+    ghost longest_is = { refl };
+
+    ghost most_is = { refl };
+
+    ghost sound = { older_sound };
+}
 
 // The ring: where it starts, how many records it holds, and how many notices were lost.
 #[derive(Clone, Copy)]
@@ -24,7 +139,7 @@ pub struct Queue {
     pub lost: u32,
 }
 
-// A taken notice: its table number, and where its payload lies in the queue's memory.
+// A notice in a record: its table number, and where its payload lies in the memory.
 #[derive(Clone, Copy)]
 pub struct Notice {
     pub number: u8,
@@ -45,44 +160,36 @@ pub enum TakeError {
     Bad,
 }
 
-fn wide(b: u8) -> usize
-    ensures value { result ≡ b }
-    ensures below { result < 256 }
+// How many records of a form a memory of `len` bytes holds.
+pub fn capacity_in<F: Form>(len: usize) -> usize
+    ensures { result ≡ capacity_of F.form len }
 {
-    b as usize
+    (len / F::RECORD).min(MOST)
 }
 
-// How many records a memory of `len` bytes holds.
+// How many records of ours.
 pub fn capacity(len: usize) -> usize
     ensures { result ≡ capacity_of ours len }
 {
-    let n = len / RECORD;
-    if MOST < n {
-        return MOST;
-    }
-    n
+    capacity_in::<Ours>(len)
 }
 
 // A start is below the capacity, or 0 where that is 0.
+#[tactic(auto, unfolding(crate::specs::Queue::start_in))]
 fn start_in(cap: usize, start: usize) -> bool
     ensures { result ≡ start_in cap start }
 {
-    if cap == 0 {
-        return start == 0;
-    }
-    start < cap
+    start < cap.max(1)
 }
 
 // The place i records on from start, round the ring.
+#[tactic(auto, unfolding(crate::specs::Queue::ring_place))]
 fn ring(start: usize, i: usize, cap: usize) -> usize
     requires { (start < cap) × ((i ≤ cap) × (cap ≤ 16)) }
     ensures { result ≡ ring_place start i cap }
 {
     let n = start + i;
-    if n < cap {
-        return n;
-    }
-    n - cap
+    if n < cap { n } else { n - cap }
 }
 
 // Writes a notice as the record at `base`: its head, and the payload behind it; the other bytes stay. A part that doesn't fit changes nothing.
@@ -97,17 +204,26 @@ pub fn write_record(mem: &mut [u8], base: usize, number: u8, p: &[u8])
     let low = (n % 256) as u8;
     let head = [b'U', b'X', number, high, low];
     moves::put(mem, base, &head);
-    moves::put(mem, base + HEAD, p);
+    moves::put(mem, base + Ours::HEAD, p);
 }
 
-// The payload's length in the head at `base`.
-fn length_at(mem: &[u8], base: usize) -> usize
-    requires { base + 5 ≤ length mem.now }
-    ensures { result ≡ length_at ours mem.now base }
+// The notice in the record at `base`; none where its mark or its length is wrong.
+pub fn notice_at<F: Form>(mem: &[u8], base: usize) -> Option<Notice>
+    requires { base + F.form.size ≤ length mem.now }
+    ensures { result ≡ notice_in F.form mem.now base }
 {
-    let high = wide(mem[base + 3]);
-    let low = wide(mem[base + 4]);
-    256 * high + low
+    if !text::matches_at(mem, base, &F::MARK) {
+        return None;
+    }
+    let len = F::length_at(mem, base);
+    if len == 0 || F::LONGEST < len {
+        return None;
+    }
+    Some(Notice {
+        number: mem[base + 2],
+        place: base + F::HEAD,
+        len,
+    })
 }
 
 impl Queue {
@@ -123,13 +239,11 @@ impl Queue {
     }
 
     // Are start and count within their bounds for a memory of that capacity?
+    #[tactic(auto, unfolding(crate::specs::Queue::in_bounds))]
     pub fn is_bounded(self, cap: usize) -> bool
         ensures { result ≡ in_bounds cap self }
     {
-        if !start_in(cap, self.start) {
-            return false;
-        }
-        self.count <= cap
+        start_in(cap, self.start) && self.count <= cap
     }
 
     // The queue with one more notice lost.
@@ -137,9 +251,8 @@ impl Queue {
         ensures { result ≡ lost_one self }
     {
         Queue {
-            start: self.start,
-            count: self.count,
             lost: moves::one_more(self.lost),
+            ..self
         }
     }
 
@@ -152,11 +265,7 @@ impl Queue {
         if !self.is_bounded(cap) {
             return Err(PutError::BadBounds);
         }
-        let n = p.len();
-        if n == 0 {
-            return Ok(self.lose());
-        }
-        if LONGEST < n {
+        if p.len() == 0 || Ours::LONGEST < p.len() {
             return Ok(self.lose());
         }
         if cap <= self.count {
@@ -165,9 +274,8 @@ impl Queue {
         let base = RECORD * ring(self.start, self.count, cap);
         write_record(mem, base, number, p);
         Ok(Queue {
-            start: self.start,
             count: self.count + 1,
-            lost: self.lost,
+            ..self
         })
     }
 
@@ -183,27 +291,13 @@ impl Queue {
         if self.count == 0 {
             return Ok((self, None));
         }
-        let base = RECORD * self.start;
-        if !text::matches_at(mem, base, b"UX") {
+        let Some(notice) = notice_at::<Ours>(mem, RECORD * self.start) else {
             return Err(TakeError::Bad);
-        }
-        let number = mem[base + 2];
-        let len = length_at(mem, base);
-        if len == 0 {
-            return Err(TakeError::Bad);
-        }
-        if LONGEST < len {
-            return Err(TakeError::Bad);
-        }
+        };
         let next = Queue {
             start: ring(self.start, 1, cap),
             count: self.count - 1,
-            lost: self.lost,
-        };
-        let notice = Notice {
-            number: number,
-            place: base + HEAD,
-            len: len,
+            ..self
         };
         Ok((next, Some(notice)))
     }

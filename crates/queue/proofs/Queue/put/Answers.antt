@@ -1,25 +1,24 @@
 -- `put` meets its contract: one law for each way out.
-use mathlib.Core.Path.{sym, ◌∙◌}
+use Rattle.std.proofs.Common.{sym, ◌∙◌, arith}
 use Rattle.queue.specs.Queue.{ours}
 use Rattle.queue.specs.Laws.{put_bad, put_empty, put_long, put_full, put_is, bounds_room, ring_below}
-use native.Mathlib.Omega.{arith}
 use Rattle.queue.proofs.Queue.put.Goals as goal
+use Rattle.queue.proofs.Queue.put.Goals.{then-p-eq0-via-then-p-eq0, then-p-eq0-via-else-p-eq0+then-p-gt-LONGEST}
 
 pub returns-then-not-is_bounded : goal.returns-then-not-is_bounded
 returns-then-not-is_bounded c =
     put_bad ours c.args.self c.args.number c.args.p.now c.args.mem.now _ c.capacity-cap.ensures (sym c.is_bounded.ensures ∙ c.if-not-is_bounded.true)
 
-pub returns-then-n-eq0 : goal.returns-then-n-eq0
-returns-then-n-eq0 c =
-    put_empty ours c.args.self c.args.number c.args.p.now c.args.mem.now _ c.capacity-cap.ensures (sym c.is_bounded.ensures ∙ c.if-not-is_bounded.false) c.if-n-eq0.true _ c.lose.ensures
-
-pub returns-then-n-gt-LONGEST : goal.returns-then-n-gt-LONGEST
-returns-then-n-gt-LONGEST c =
-    put_long ours c.args.self c.args.number c.args.p.now c.args.mem.now _ c.capacity-cap.ensures (sym c.is_bounded.ensures ∙ c.if-not-is_bounded.false) c.if-n-eq0.false c.if-n-gt-LONGEST.true _ c.lose-then-n-gt-LONGEST.ensures
+pub returns-then-p-eq0 : goal.returns-then-p-eq0
+returns-then-p-eq0 c =
+    elim c.then-p-eq0.branch [
+      | then-p-eq0-via-then-p-eq0 w ↦ put_empty ours c.args.self c.args.number c.args.p.now c.args.mem.now _ c.capacity-cap.ensures (sym c.is_bounded.ensures ∙ c.if-not-is_bounded.false) w.if-p-eq0.true _ c.lose.ensures
+      | then-p-eq0-via-else-p-eq0+then-p-gt-LONGEST w ↦ put_long ours c.args.self c.args.number c.args.p.now c.args.mem.now _ c.capacity-cap.ensures (sym c.is_bounded.ensures ∙ c.if-not-is_bounded.false) w.if-p-eq0.false w.if-p-gt-LONGEST.true _ c.lose.ensures
+    ]
 
 pub returns-then-cap-self : goal.returns-then-cap-self
 returns-then-cap-self c =
-    put_full ours c.args.self c.args.number c.args.p.now c.args.mem.now _ c.capacity-cap.ensures (sym c.is_bounded.ensures ∙ c.if-not-is_bounded.false) c.if-n-eq0.false c.if-n-gt-LONGEST.false c.if-cap-self.true
+    put_full ours c.args.self c.args.number c.args.p.now c.args.mem.now _ c.capacity-cap.ensures (sym c.is_bounded.ensures ∙ c.if-not-is_bounded.false) c.if-p-eq0.false c.if-p-gt-LONGEST.false c.if-cap-self.true
 
 pub ring-base-requires : goal.ring-base-requires
 ring-base-requires c =
@@ -31,4 +30,4 @@ overflow_mul-base c =
 
 pub returns : goal.returns
 returns c =
-    put_is ours c.args.self c.args.number c.args.p.now c.args.mem.now _ c.capacity-cap.ensures (sym c.is_bounded.ensures ∙ c.if-not-is_bounded.false) c.if-n-eq0.false c.if-n-gt-LONGEST.false c.if-cap-self.false _ c.ring-base.ensures _ c.write_record.ensures
+    put_is ours c.args.self c.args.number c.args.p.now c.args.mem.now _ c.capacity-cap.ensures (sym c.is_bounded.ensures ∙ c.if-not-is_bounded.false) c.if-p-eq0.false c.if-p-gt-LONGEST.false c.if-cap-self.false _ c.ring-base.ensures _ c.write_record.ensures
