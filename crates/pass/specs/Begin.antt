@@ -1,12 +1,10 @@
 -- Where one of the eleven texts of the pass may begin, and what lets the pass go over the places where none does.
-use Rattle.std.specs.Prelude.{◌≡◌, Bool, true, false, ◌&&◌, ◌||◌, List, length, get_or, eqb, leb, if◌then◌else◌}
+use Rattle.std.specs.Prelude.{◌≡◌, Bool, true, false, ◌&&◌, ◌||◌, List, [], ◌∷◌, length, get_or, eqb, leb, if◌then◌else◌}
 use Prim.Native.Nat.{ℕ, ◌+◌, ◌≤◌, ◌<◌}
 use Rattle.text.specs.Text.{stands}
 use Rattle.lines.specs.Lines.{fixed_text}
 use Rattle.lines.specs.declared.Fixed.{Fixed}
 use Rattle.lines.specs.declared.Fixed.TheVariants.{Ok, Connect, Error, CommandNotSupport, NoCarrier, Busy, NoAnswer, NoDialtone, Na, Cme, Cms, Modem, ConnectText}
-use Rattle.places.specs.declared.Lines.{Lines}
-use Rattle.places.specs.declared.Places.{Places}
 
 -- The eleven: all but NA and CONNECT with text.
 abbrev pub is_eleventh : Fixed → Bool
@@ -38,21 +36,21 @@ pub record Clear (s : List ℕ) (i r : ℕ) : Type 0 where
   pub after : i ≤ r
   pub none : (l : Fixed) → is_eleventh l ≡ true → (j : ℕ) → i ≤ j → j < r → stands (fixed_text l) s j ≡ false
 
--- Where the lines and the heads end if only what stands at p may stand.
+-- Where a text ends if only what stands at p may stand, and where the eleven do, in the order of the pass, if that isn't OK.
 unfoldable pub end_here : List ℕ → ℕ → Fixed → ℕ
 end_here s p l = if stands (fixed_text l) s p then p + length (fixed_text l) else 0
 
-abbrev pub lines_here : List ℕ → ℕ → Lines
-lines_here s p =
-    record {
-      connect = end_here s p Connect;
-      error = end_here s p Error;
-      unsupported = end_here s p CommandNotSupport;
-      carrier = end_here s p NoCarrier;
-      busy = end_here s p Busy;
-      answer = end_here s p NoAnswer;
-      dialtone = end_here s p NoDialtone;
-    }
-
-abbrev pub heads_here : List ℕ → ℕ → ℕ → Places
-heads_here s e p = record { from = e; passed = true; cme = end_here s p Cme; cms = end_here s p Cms; modem = end_here s p Modem }
+abbrev pub ends_here : List ℕ → ℕ → List ℕ
+ends_here s p =
+    0 ∷
+    end_here s p Connect ∷
+    end_here s p Error ∷
+    end_here s p CommandNotSupport ∷
+    end_here s p NoCarrier ∷
+    end_here s p Busy ∷
+    end_here s p NoAnswer ∷
+    end_here s p NoDialtone ∷
+    end_here s p Cme ∷
+    end_here s p Cms ∷
+    end_here s p Modem ∷
+    []

@@ -20,11 +20,11 @@ use Rattle.places.specs.Places.{place_of, place_in, line_in, FirstPlaces, FirstL
 use Rattle.places.specs.declared.Lines.{Lines}
 use Rattle.places.specs.declared.Places.{Places}
 use Rattle.pass.specs.Pass.{lines_at, heads_at, first_lines, first_places, passed_by, passed}
-use Rattle.pass.specs.Begin.{is_eleventh, Clear, end_here, lines_here, heads_here}
+use Rattle.pass.specs.Begin.{is_eleventh, Clear, end_here, ends_here}
 use Rattle.pass.specs.declared.Passed.TheVariants.{Ok, Others}
 
 -- what is said to end where the first occurrence ends is the first occurrence
-of_first : (t s : List ℕ) (e : ℕ) → 0 < length t → (r : Option ℕ) → find_in t s e ≡ r → place_of t s e true (end_of t r) ≡ find_in t s e
+of_first : (t s : List ℕ) (e : ℕ) → 0 < length t → (r : Option ℕ) → find_in t s e ≡ r → place_of t s e (Some (end_of t r)) ≡ find_in t s e
 unfolding place_of end_of
 of_first t s e h (Some k) q =
     let w = found_at t s e k q in
@@ -34,7 +34,7 @@ of_first t s e h None q = rw (lt-leb (e + length t) 0 (omega arith)) (sym q)
 
 -- Those of the pass are the first ones.
 module _ (s : List ℕ) (e : ℕ) where
-  known : (l : Fixed) → place_of (fixed_text l) s e true (end_of (fixed_text l) (find_in (fixed_text l) s e)) ≡ find_in (fixed_text l) s e
+  known : (l : Fixed) → place_of (fixed_text l) s e (Some (end_of (fixed_text l) (find_in (fixed_text l) s e))) ≡ find_in (fixed_text l) s e
   known l = of_first (fixed_text l) s e (fixed_some l) (find_in (fixed_text l) s e) refl
 
   pub lines_first : (x : Lines) → x ≡ first_lines s e → FirstLines s e x
@@ -103,6 +103,35 @@ ends_past s r g =
     let late : (l : Fixed) → find_in (fixed_text l) s r ≡ None = λ l. find_late (fixed_text l) s r (fixed_some l) (omega (arith, fixed_some l)) in
     rw (late fixed.Ok, late fixed.Connect, late fixed.Error, late fixed.CommandNotSupport, late fixed.NoCarrier, late fixed.Busy, late fixed.NoAnswer, late fixed.NoDialtone, late fixed.Cme, late fixed.Cms, late fixed.Modem)
 
+-- by the ends of all from e on
+module _ (s : List ℕ) (e : ℕ) (n : List ℕ) (q : n ≡ first_ends e s) where
+  ok_end : get_or n 0 0 ≡ end_of (fixed_text fixed.Ok) (find_in (fixed_text fixed.Ok) s e)
+  ok_end = unfold first_ends texts in ap (λ (m : List ℕ). get_or m 0 0) q
+
+  pub pass_room : 0 < get_or n 0 0 → 6 ≤ get_or n 0 0
+  unfolding end_of
+  pass_room h = go (find_in (fixed_text fixed.Ok) s e) ok_end
+    where
+      go : (r : Option ℕ) → get_or n 0 0 ≡ end_of (fixed_text fixed.Ok) r → 6 ≤ get_or n 0 0
+      go (Some k) z = omega (arith, z)
+      go None z = absurd (omega (arith, z))
+
+  pub pass_found : 0 < get_or n 0 0 → Ok (get_or n 0 0 - 6) ≡ passed s e
+  unfolding passed_by end_of
+  pass_found h = go (find_in (fixed_text fixed.Ok) s e) ok_end
+    where
+      go : (r : Option ℕ) → get_or n 0 0 ≡ end_of (fixed_text fixed.Ok) r → Ok (get_or n 0 0 - 6) ≡ passed_by r s e
+      go (Some k) z = let m : get_or n 0 0 - 6 ≡ k = omega (arith, z) in ap Ok m
+      go None z = absurd (omega (arith, z))
+
+  pub pass_others : get_or n 0 0 ≡ 0 → Others (lines_at n) (heads_at e n) ≡ passed s e
+  unfolding passed_by end_of
+  pass_others h = go (find_in (fixed_text fixed.Ok) s e) ok_end
+    where
+      go : (r : Option ℕ) → get_or n 0 0 ≡ end_of (fixed_text fixed.Ok) r → Others (lines_at n) (heads_at e n) ≡ passed_by r s e
+      go (Some k) z = absurd (omega (arith, z))
+      go None z = ap (λ (m : List ℕ). Others (lines_at m) (heads_at e m)) q
+
 module _ (s : List ℕ) (e p : ℕ) (w : Clear s e p) where
   ok_clear : find_in (fixed_text fixed.Ok) s e ≡ find_in (fixed_text fixed.Ok) s p
   ok_clear = find_clear s e p w fixed.Ok refl
@@ -111,40 +140,12 @@ module _ (s : List ℕ) (e p : ℕ) (w : Clear s e p) where
   unfolding passed_by
   pass_ok h = rw (ok_clear ∙ find_here (fixed_text fixed.Ok) s p h)
 
-  -- by the ends from p on
-  module _ (n : List ℕ) (q : n ≡ first_ends p s) where
-    ends_are : n ≡ first_ends e s
-    ends_are = q ∙ sym (ends_clear s e p w)
+  -- the ends from p on are those from e on
+  pub ends_on : (n : List ℕ) → n ≡ first_ends p s → n ≡ first_ends e s
+  ends_on n q = q ∙ sym (ends_clear s e p w)
 
-    ok_end : get_or n 0 0 ≡ end_of (fixed_text fixed.Ok) (find_in (fixed_text fixed.Ok) s e)
-    ok_end = unfold first_ends texts in ap (λ (m : List ℕ). get_or m 0 0) ends_are
-
-    pub pass_room : 0 < get_or n 0 0 → 6 ≤ get_or n 0 0
-    unfolding end_of
-    pass_room h = go (find_in (fixed_text fixed.Ok) s e) ok_end
-      where
-        go : (r : Option ℕ) → get_or n 0 0 ≡ end_of (fixed_text fixed.Ok) r → 6 ≤ get_or n 0 0
-        go (Some k) z = omega (arith, z)
-        go None z = absurd (omega (arith, z))
-
-    pub pass_found : 0 < get_or n 0 0 → Ok (get_or n 0 0 - 6) ≡ passed s e
-    unfolding passed_by end_of
-    pass_found h = go (find_in (fixed_text fixed.Ok) s e) ok_end
-      where
-        go : (r : Option ℕ) → get_or n 0 0 ≡ end_of (fixed_text fixed.Ok) r → Ok (get_or n 0 0 - 6) ≡ passed_by r s e
-        go (Some k) z = let m : get_or n 0 0 - 6 ≡ k = omega (arith, z) in ap Ok m
-        go None z = absurd (omega (arith, z))
-
-    pub pass_others : (x : Lines) → x ≡ lines_at n → (y : Places) → y ≡ heads_at e n → get_or n 0 0 ≡ 0 → Others x y ≡ passed s e
-    unfolding passed_by end_of
-    pass_others x a y b h = go (find_in (fixed_text fixed.Ok) s e) ok_end
-      where
-        go : (r : Option ℕ) → get_or n 0 0 ≡ end_of (fixed_text fixed.Ok) r → Others x y ≡ passed_by r s e
-        go (Some k) z = absurd (omega (arith, z))
-        go None z = λ i. Others ((a ∙ ap lines_at ends_are) i) ((b ∙ ap (heads_at e) ends_are) i)
-
-  pub pass_none : length s ≤ p → (x : Lines) → x ≡ lines_at (replicate 11 0) → (y : Places) → y ≡ heads_at e (replicate 11 0) → Others x y ≡ passed s e
-  pass_none g x a y b = pass_others (replicate 11 0) (sym (ends_past s p g)) x a y b refl
+  pub pass_none : length s ≤ p → Others (lines_at (replicate 11 0)) (heads_at e (replicate 11 0)) ≡ passed s e
+  pass_none g = pass_others s e (replicate 11 0) (ends_on (replicate 11 0) (sym (ends_past s p g))) refl
 
   -- where nothing begins behind p either, only what stands at p counts
   module _ (i : p < length s) (r : ℕ) (z : Clear s (p + 1) r) (g : length s ≤ r) where
@@ -163,36 +164,18 @@ module _ (s : List ℕ) (e p : ℕ) (w : Clear s e p) where
         go true q = rw (find_clear s e p w l h ∙ find_here (fixed_text l) s p q)
         go false q = rw (gone l h q)
 
-    pub pass_here : stands (fixed_text fixed.Ok) s p ≡ false → (x : Lines) → x ≡ lines_here s p → (y : Places) → y ≡ heads_here s e p → Others x y ≡ passed s e
-    unfolding passed_by first_ends texts
-    pass_here n x a y b =
-        let f = here_is in
-        let lines : lines_here s p ≡ first_lines s e =
-        λ k. record {
-          connect = f fixed.Connect refl k;
-          error = f fixed.Error refl k;
-          unsupported = f fixed.CommandNotSupport refl k;
-          carrier = f fixed.NoCarrier refl k;
-          busy = f fixed.Busy refl k;
-          answer = f fixed.NoAnswer refl k;
-          dialtone = f fixed.NoDialtone refl k;
-        } in
-        let heads : heads_here s e p ≡ first_places s e =
-        λ k. record { from = e; passed = true; cme = f fixed.Cme refl k; cms = f fixed.Cms refl k; modem = f fixed.Modem refl k } in
-        rw (gone fixed.Ok refl n) (λ k. Others ((a ∙ lines) k) ((b ∙ heads) k))
+    ends_are : stands (fixed_text fixed.Ok) s p ≡ false → ends_here s p ≡ first_ends e s
+    unfolding first_ends texts end_of
+    ends_are n =
+        rw
+        (here_is fixed.Connect refl, here_is fixed.Error refl, here_is fixed.CommandNotSupport refl, here_is fixed.NoCarrier refl, here_is fixed.Busy refl, here_is fixed.NoAnswer refl, here_is fixed.NoDialtone refl, here_is fixed.Cme refl, here_is fixed.Cms refl, here_is fixed.Modem refl, gone fixed.Ok refl n)
 
--- The ways out of `end_here`.
-module _ (s : List ℕ) (p : ℕ) (l : Fixed) (b : Bool) (q : b ≡ stands (fixed_text l) s p) where
-  pub here_not : b ≡ false → 0 ≡ end_here s p l
-  unfolding end_here
-  here_not h = rw (sym q ∙ h)
+    pub pass_here : stands (fixed_text fixed.Ok) s p ≡ false → Others (lines_at (ends_here s p)) (heads_at e (ends_here s p)) ≡ passed s e
+    pass_here n = pass_others s e (ends_here s p) (ends_are n) refl
 
-  pub here_room : b ≡ true → p + length (fixed_text l) ≤ length s
-  here_room h = stands_fits (fixed_text l) s p (fixed_some l) (sym q ∙ h)
-
-  pub here_ends : b ≡ true → (n : ℕ) → n ≡ length (fixed_text l) → p + n ≡ end_here s p l
-  unfolding end_here
-  here_ends h n v = rw (v, sym q ∙ h)
+-- what stands fits
+pub here_room : (s : List ℕ) (p : ℕ) (l : Fixed) → stands (fixed_text l) s p ≡ true → p + length (fixed_text l) ≤ length s
+here_room s p l = stands_fits (fixed_text l) s p (fixed_some l)
 
 -- What a result of `pass` says.
 pub passed_ok : (s : List ℕ) (e k : ℕ) → passed s e ≡ Ok k → find_in (fixed_text fixed.Ok) s e ≡ Some k

@@ -1,5 +1,5 @@
 -- What one pass finds: the first OK line, or where the other texts that may stand anywhere first end.
-use Rattle.std.specs.Prelude.{Option, Some, None, true, List, ℕ, get_or}
+use Rattle.std.specs.Prelude.{Option, Some, None, List, ℕ, get_or}
 use Rattle.text.specs.Text.{find_in}
 use Rattle.lines.specs.Lines.{fixed_text}
 use Rattle.lines.specs.declared.Fixed.TheVariants as fixed
@@ -23,7 +23,7 @@ lines_at n =
     }
 
 abbrev pub heads_at : ℕ → List ℕ → Places
-heads_at e n = record { from = e; passed = true; cme = get_or n 8 0; cms = get_or n 9 0; modem = get_or n 10 0 }
+heads_at e n = record { from = e; heads = Some (record { cme = get_or n 8 0; cms = get_or n 9 0; modem = get_or n 10 0 }) }
 
 -- R-6: what the pass finds in s at or after e: the first OK line, or, where there is none, where the others first end.
 abbrev pub first_lines : List ℕ → ℕ → Lines
