@@ -5,7 +5,6 @@ use Rattle.std.proofs.Common.{◌∙◌, arith, length-append, le-leb}
 use Rattle.std.proofs.Math.Bool.{true, false}
 use mathlib.Core.List.{List, [], ◌∷◌}
 use Prim.Native.Nat.{ℕ, ◌+◌, ◌-◌, ◌≤◌, ◌<◌}
-use Rattle.std.specs.declared.ops.ControlFlow.TheVariants.{Break, Continue}
 use Rattle.text.specs.Logic.{false_true}
 use Rattle.text.specs.Bytes.{bytes}
 use Rattle.text.specs.Text.{stands, find_in}
@@ -28,19 +27,14 @@ use Rattle.places.specs.declared.Places.{Places}
 use Rattle.answers.specs.declared.Answer.{Answer}
 use Rattle.items.specs.declared.First.{First}
 use Rattle.items.specs.declared.First.TheVariants as first
-use Rattle.items.specs.declared.Hints.{Hints}
 use Rattle.items.specs.declared.Occurrence.{Occurrence}
 use Rattle.items.specs.Rules.{or_else, occurs_or, first_custom, prompt_tried, custom_prompts}
-use Rattle.items.specs.Hints.{Level, sought, first_place, before, onward}
+use Rattle.items.specs.Hints.{sought, first_place}
 
--- A chain of rules: u is what the first rule t gave. It answered; or it didn't, and the rest r decides.
+-- A chain of rules: u is what the first rule t gave, and it answered.
 pub hit : (t r u : Option Answer) (a : Answer) → u ≡ t → u ≡ Some a → Some a ≡ or_else t r
 unfolding or_else
 hit t r u a p q = ap (λ (x : Option Answer). or_else x r) (sym q ∙ p)
-
-pub miss : (t r u : Option Answer) → u ≡ t → u ≡ None → r ≡ or_else t r
-unfolding or_else
-miss t r u p q = ap (λ (x : Option Answer). or_else x r) (sym q ∙ p)
 
 -- A chain in which no rule answered, taken apart and put together.
 pub next_both : (t r : Option Answer) → or_else t r ≡ None → (t ≡ None) × (r ≡ None)
@@ -65,27 +59,6 @@ pub or_assoc : (a b c : Option Answer) → or_else a (or_else b c) ≡ or_else (
 unfolding or_else
 or_assoc (Some x) b c = refl
 or_assoc None b c = refl
-
--- What a match on r goes on with: r is x, and it is v.
-pub matched : {A B : Type 0} (f : A → B) {x r v : A} → r ≡ x → r ≡ v → f v ≡ f x
-matched f p q = ap f (sym q ∙ p)
-
--- The same for a level: u is what came first, and either answered or goes on.
-pub before_hit : (t : Option Answer) (r : Level) (u : Option Answer) (a : Answer) → u ≡ t → u ≡ Some a → Break a ≡ before t r
-unfolding before
-before_hit t r u a p q = matched (λ (x : Option Answer). before x r) p q
-
-pub before_miss : (t : Option Answer) (r : Level) (u : Option Answer) → u ≡ t → u ≡ None → r ≡ before t r
-unfolding before
-before_miss t r u p q = matched (λ (x : Option Answer). before x r) p q
-
-pub onward_hit : (t : Level) (f : Hints → Level) (u : Level) (a : Answer) → u ≡ t → u ≡ Break a → Break a ≡ onward t f
-unfolding onward
-onward_hit t f u a p q = matched (λ (x : Level). onward x f) p q
-
-pub onward_miss : (t : Level) (f : Hints → Level) (u : Level) (e : ℕ) (h : Hints) → u ≡ t → u ≡ Continue (e, h) → f h ≡ onward t f
-unfolding onward
-onward_miss t f u e h p q = matched (λ (x : Level). onward x f) p q
 
 -- The loops over the table: the rule on all records with the mark is the rule on those from `at` on. A record's text is lent from the table.
 abbrev pub part_in : List ℕ → Record → List ℕ

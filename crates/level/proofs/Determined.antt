@@ -9,5 +9,5 @@ skipped_one κs a x y s t = determined
 pub level_below_one : One calls.level_below.Reads.Post
 level_below_one κs a x y s t = determined
 
-pub level_from_one : One calls.level_from.Reads.Post
-level_from_one κs a x y s t = determined
+pub level_first_one : One calls.level_first.Reads.Post
+level_first_one κs a x y s t = determined

@@ -4,7 +4,6 @@ use Rattle.std.specs.Prelude.{Option, Some, None, ◌≡◌, Bool, true, false, 
 use Rattle.std.proofs.Math.Path.{refl}
 use Rattle.std.proofs.Common.{sym, ap, ◌∙◌, arith, length-drop, drop-drop, get_or-drop, le-leb, leb-true}
 use mathlib.Core.List.{List, [], ◌∷◌}
-use Rattle.std.specs.declared.ops.ControlFlow.{ControlFlow}
 use Rattle.std.specs.declared.ops.ControlFlow.TheVariants.{Continue}
 use Rattle.text.specs.Logic.{false_true, not_true_false, and_both}
 use Rattle.text.specs.Text.{is_blank, keep, begins, stands, find_in}
@@ -16,6 +15,8 @@ use Rattle.lines.specs.Lines.{fixed_text}
 use Rattle.lines.specs.declared.Digester.{Digester}
 use Rattle.lines.specs.declared.Fixed.{Fixed}
 use Rattle.lines.specs.declared.Fixed.TheVariants as fixed
+use Rattle.parser.specs.declared.Digits.{Digits}
+use Rattle.answers.specs.declared.Answer.{Answer}
 use Rattle.parser.specs.Parser.{prompt_from, custom_prompt, wrapped, at_found, numeric_error}
 use Rattle.parser.specs.Moved.{prompt_moved, custom_moved, shift_numeric, numeric_moved_on}
 use Rattle.places.specs.Places.{unsought}
@@ -25,31 +26,32 @@ use Rattle.pass.specs.Laws.{heads_first}
 use Rattle.items.specs.declared.First.{First}
 use Rattle.items.specs.declared.First.TheVariants as first
 use Rattle.items.specs.declared.Hints.{Hints}
+use Rattle.items.specs.declared.Occurrence.{Occurrence}
 use Rattle.items.specs.Rules.{or_else, first_of, skipped, notices, occurs_or, first_custom, success, custom_success, line_success, successes, prompt_tried, custom_prompts, prompts, custom_error, numeric_tried, numeric_errors, error_lines, line_tried, line_errors, not_allowed, errors, tried}
-use Rattle.items.specs.Hints.{given, prompt_bytes, numerics, firsts, unknown, hint_of, Known, Says}
+use Rattle.items.specs.Hints.{Level, given, prompt_bytes, numerics, firsts, unknown, hint_of, Known, Says}
 use Rattle.items.specs.Connect.{connect_none, connect_next, connect_lost}
-use Rattle.items.specs.Laws.{next_both, both_next, done_next, or_next_lem, or_assoc, custom_error_none, prompt_miss}
+use Rattle.items.specs.Laws.{next_both, both_next, done_next, or_next_lem, or_assoc, prompt_miss}
 use Rattle.items.specs.Says.{find_lost, before_says, onward_says, bytes_say, numerics_say, firsts_say, nothing_known}
-use Rattle.level.specs.Laws.{custom_success_none, line_success_none, line_none, skipped_le}
-use Rattle.level.specs.Level.{not_allowed_from, errors_from, outermost, below, level_from, Gone, GoneAll}
+use Rattle.level.specs.Laws.{line_success_none, line_none, skipped_le}
+use Rattle.level.specs.Level.{not_allowed_from, errors_from, outermost, below, Gone, GoneAll}
 
 pub known_later : (s : List ℕ) (e : ℕ) (h : Hints) → Known s e h → (k : ℕ) → e ≤ k → Known s k h
 known_later s e h w k l x = λ m a b. w x m (omega arith) b
 
 -- What a rule that gave no answer looked for is nowhere.
-pub occurs_none : (f : Option ℕ) (x : Entry) (r : Option (ℕ × ℕ × ℕ)) → occurs_or f x r ≡ None → (f ≡ None) × (r ≡ None)
+pub occurs_none : (f : Option ℕ) (x : Entry) (r : Option Occurrence) → occurs_or f x r ≡ None → (f ≡ None) × (r ≡ None)
 unfolding occurs_or
 occurs_none (Some k) x r h = let z : ◌≡◌ {A = ℕ} 0 1 = cc in absurd (omega arith)
 occurs_none None x r h = (refl, h)
 
-pub error_nowhere : (r : Option (ℕ × ℕ × ℕ)) → custom_error r ≡ None → r ≡ None
+pub error_nowhere : (r : Option Occurrence) → custom_error r ≡ None → r ≡ None
 unfolding custom_error
-error_nowhere (Some (n, len, k)) h = absurd (done_next _ refl h)
+error_nowhere (Some o) h = absurd (done_next _ refl h)
 error_nowhere None h = refl
 
-pub success_nowhere : (s : List ℕ) (e : ℕ) (r : Option (ℕ × ℕ × ℕ)) → custom_success r s e ≡ None → r ≡ None
+pub success_nowhere : (s : List ℕ) (e : ℕ) (r : Option Occurrence) → custom_success r s e ≡ None → r ≡ None
 unfolding custom_success success
-success_nowhere s e (Some (n, len, k)) h = absurd (done_next _ refl h)
+success_nowhere s e (Some o) h = absurd (done_next _ refl h)
 success_nowhere s e None h = refl
 
 pub line_success_nowhere : (s : List ℕ) (e : ℕ) (l : Fixed) (r : Option ℕ) → line_success s e l r ≡ None → r ≡ None
@@ -187,27 +189,28 @@ module _ (s : List ℕ) (e k m : ℕ) (later : e ≤ k + m) where
   line_success_lost : (l : Fixed) → line_success s e l (find_in (fixed_text l) s e) ≡ None → line_success (drop k s) m l (find_in (fixed_text l) (drop k s) m) ≡ None
   line_success_lost l h =
       let t = fixed_text l in
-      sym (line_success_none (drop k s) m l (find_in t (drop k s) m) (find_lost t s e k m later (line_success_nowhere s e l (find_in t s e) h)))
+      line_success_none (drop k s) m l (find_in t (drop k s) m) (find_lost t s e k m later (line_success_nowhere s e l (find_in t s e) h))
 
   line_lost : (l : Fixed) → line_tried l (find_in (fixed_text l) s e) ≡ None → line_tried l (find_in (fixed_text l) (drop k s) m) ≡ None
-  line_lost l h = let t = fixed_text l in sym (line_none l _ (find_in t (drop k s) m) refl (find_lost t s e k m later (line_nowhere l (find_in t s e) h)))
+  line_lost l h = let t = fixed_text l in line_none l (find_in t (drop k s) m) (find_lost t s e k m later (line_nowhere l (find_in t s e) h))
 
   errors_lost : line_errors s e ≡ None → line_errors (drop k s) m ≡ None
   unfolding line_errors
   errors_lost = first_lost_of _ _ line_lost error_lines
 
   successes_lost : (d : Digester) (l : List Entry) → successes d l s e ≡ None → successes d l (drop k s) m ≡ None
-  unfolding successes
+  unfolding successes custom_success
   successes_lost d l h =
       let w = next_both (custom_success (first_custom l s e) s e) _ h in
       let v = next_both (line_success s e fixed.Ok (find_in (fixed_text fixed.Ok) s e)) _ w.1 in
       both_next (custom_success (first_custom l (drop k s) m) (drop k s) m) _
-      (sym (custom_success_none (drop k s) m l (first_custom l (drop k s) m) refl (first_lost l (success_nowhere s e (first_custom l s e) w.0))))
+      (ap (λ (r : Option Occurrence). custom_success r (drop k s) m) (first_lost l (success_nowhere s e (first_custom l s e) w.0)))
       (both_next (line_success (drop k s) m fixed.Ok (find_in (fixed_text fixed.Ok) (drop k s) m)) _ (line_success_lost fixed.Ok v.0)
       (connect_next d (drop k s) m (λ j g. connect_lost d s k j (connect_none d s e v.1 (k + j) (omega arith)))))
 
   custom_error_lost : (l : List Entry) → custom_error (first_custom l s e) ≡ None → custom_error (first_custom l (drop k s) m) ≡ None
-  custom_error_lost l h = sym (custom_error_none l (drop k s) m (first_custom l (drop k s) m) refl (first_lost l (error_nowhere (first_custom l s e) h)))
+  unfolding custom_error
+  custom_error_lost l h = ap custom_error (first_lost l (error_nowhere (first_custom l s e) h))
 
   gone_on : (d : Digester) (ts : List Token) → Gone d ts s e → Gone d ts (drop k s) m
   gone_on d ts w =
@@ -222,7 +225,7 @@ module _ (s : List ℕ) (e k m : ℕ) (later : e ≤ k + m) where
 pub handed : (d : Digester) (ts : List Token) (s : List ℕ) (e k : ℕ) (h : Hints) → e ≤ k → k ≤ length s → tried d ts s e ≡ None → Known s e h → GoneAll d ts (take (length s - k) (drop k s)) × Known (take (length s - k) (drop k s)) 0 h
 handed d ts s e k h l i q w = rw (rest s k) (λ m a. gone_on s e k m (omega arith) d ts (gone d ts s e q), known_on s k h i (known_later s e h w k l))
 
-says_of : (s : List ℕ) (e : ℕ) {t u : Option Answer} → t ≡ u → (r : ControlFlow Answer (ℕ × Hints)) → Says s e t r → Says s e u r
+says_of : (s : List ℕ) (e : ℕ) {t u : Option Answer} → t ≡ u → (r : Level) → Says s e t r → Says s e u r
 says_of s e p r w = rw p at w
 
 -- NA is what is left, and says so.
@@ -261,10 +264,9 @@ module _ (d : Digester) (t s : List ℕ) (e : ℕ) (l : e ≤ length s) where
       (rw (z.success, z.prompt, z.custom, z.error, or_assoc five (numeric_errors s e) (not_allowed s e))
       (onward_says s e _ _ (firsts s e (unsought e) h) _ (firsts_say s e (unsought e) (sought_first s e (unsought e) refl) l h w) (last_says s e)))
 
--- A level says what rules 1 to 5 say.
-pub level_says : (d : Digester) (t s : List ℕ) (h : Hints) (b : Bool) → length s ≤ 4096 → (b ≡ false → GoneAll d (tokens t) s × Known s 0 h) → Says s (skipped s) (tried d (tokens t) s (skipped s)) (level_from b d t s h)
-unfolding level_from
-level_says d t s h true l w = outermost_says d t s (skipped s) (skipped_le s) l
-level_says d t s h false l w =
-    let v = w refl in
-    below_says d t s (skipped s) (skipped_le s) (v.0 (skipped s) (skipped_le s)) h (known_later s 0 h v.1 (skipped s) (omega arith))
+-- A level says what rules 1 to 5 say: the outermost one, and one below it.
+pub level_says : (d : Digester) (t s : List ℕ) → length s ≤ 4096 → Says s (skipped s) (tried d (tokens t) s (skipped s)) (outermost d t s (skipped s))
+level_says d t s l = outermost_says d t s (skipped s) (skipped_le s) l
+
+pub level_below_says : (d : Digester) (t s : List ℕ) (h : Hints) → GoneAll d (tokens t) s → Known s 0 h → Says s (skipped s) (tried d (tokens t) s (skipped s)) (below t s (skipped s) h)
+level_below_says d t s h g w = below_says d t s (skipped s) (skipped_le s) (g (skipped s) (skipped_le s)) h (known_later s 0 h w (skipped s) (omega arith))

@@ -1,61 +1,42 @@
--- `notices` meets its contract: the rule on all the records is the rule on those from `at` on, and those before are notices unless `others` says else. The measure is the records that may still come.
-use mathlib.Core.Path.{refl}
-use native.Mathlib.Omega.{arith}
+-- `notices` meets its contract: the rule on all the records is the rule on those that are left, and those before are notices unless `others` says else.
+use Rattle.std.proofs.Common.{sym, ◌∙◌, arith}
+use Rattle.table.specs.Laws.{walk_next, walk_ends}
 use Rattle.table.specs.declared.Mark.TheVariants as mark
-use Rattle.items.specs.Laws.{next_room}
-use Rattle.level.specs.Laws.{notices_end, notices_hit, notices_more}
-use Rattle.level.specs.Laws.{only_more, only_end}
+use Rattle.level.specs.Laws.{notices_end, notices_hit, notices_more, only_more, only_end, stopped, went_on}
 use Rattle.level.proofs.notices.Goals as goal
-
-pub loop-r-init : goal.loop-r-init
-loop-r-init c = (refl, λ m h. refl)
-
-pub returns-in-Nothing : goal.returns-in-Nothing
-returns-in-Nothing c =
-    record {
-      is = notices_end c.args.table.now c.args.s.now c.args.e c.loop-r.at c.loop-r.n c.loop-r.invariant.0 _ c.next_of.ensures c.in-Nothing.is;
-      others = only_end c.args.table.now c.loop-r.at c.loop-r.n c.loop-r.others c.loop-r.invariant.1;
-    }
 
 pub overflow_add-end : goal.overflow_add-end
 overflow_add-end c =
-    record { fits = omega (arith, next_room mark.Notice c.args.table.now c.loop-r.at c.loop-r.n _ c.next_of.ensures _ _ c.in-Is.is) }
+    let w = walk_next mark.Notice c.args.table.now _ _ c.in-Some.r c.in-Some.k _ (sym c.loop-r.invariant.0 ∙ c.in-Some.ensures.steps) in
+    record { fits = omega (arith, w.0.inside) }
 
-pub slice_bounds-x-count : goal.slice_bounds-x-count
-slice_bounds-x-count c =
-    omega (arith, next_room mark.Notice c.args.table.now c.loop-r.at c.loop-r.n _ c.next_of.ensures _ _ c.in-Is.is)
-
-pub slice_bounds-x-start : goal.slice_bounds-x-start
-slice_bounds-x-start c =
-    omega (arith, next_room mark.Notice c.args.table.now c.loop-r.at c.loop-r.n _ c.next_of.ensures _ _ c.in-Is.is)
-
-pub slice_bounds-x-end : goal.slice_bounds-x-end
-slice_bounds-x-end c =
-    omega (arith, next_room mark.Notice c.args.table.now c.loop-r.at c.loop-r.n _ c.next_of.ensures _ _ c.in-Is.is)
+pub slice_bounds-one_notice-end : goal.slice_bounds-one_notice-end
+slice_bounds-one_notice-end c =
+    let w = walk_next mark.Notice c.args.table.now _ _ c.in-Some.r c.in-Some.k _ (sym c.loop-r.invariant.0 ∙ c.in-Some.ensures.steps) in
+    w.0.inside
 
 pub overflow_cast-k : goal.overflow_cast-k
 overflow_cast-k c =
-    record { fits = omega (arith, next_room mark.Notice c.args.table.now c.loop-r.at c.loop-r.n _ c.next_of.ensures _ _ c.in-Is.is) }
-
-pub one_notice-requires : goal.one_notice-requires
-one_notice-requires c =
-    (c.requires, c.line_ending-ending.ensures)
-
-pub returns-in-Done : goal.returns-in-Done
-returns-in-Done c =
-    record {
-      is = notices_hit c.args.table.now c.args.s.now c.args.e c.loop-r.at c.loop-r.n c.loop-r.invariant.0 _ c.next_of.ensures _ _ c.in-Is.is _ c.one_notice.ensures _ c.in-Done.is;
-      others = tt;
-    }
+    let w = walk_next mark.Notice c.args.table.now _ _ c.in-Some.r c.in-Some.k _ (sym c.loop-r.invariant.0 ∙ c.in-Some.ensures.steps) in
+    record { fits = omega (arith, w.0.few) }
 
 pub overflow_add-n : goal.overflow_add-n
 overflow_add-n c =
-    record { fits = omega (arith, next_room mark.Notice c.args.table.now c.loop-r.at c.loop-r.n _ c.next_of.ensures _ _ c.in-Is.is) }
+    let w = walk_next mark.Notice c.args.table.now _ _ c.in-Some.r c.in-Some.k _ (sym c.loop-r.invariant.0 ∙ c.in-Some.ensures.steps) in
+    record { fits = omega (arith, w.0.few) }
 
-pub loop-r-smaller : goal.loop-r-smaller
-loop-r-smaller c =
-    omega (arith, next_room mark.Notice c.args.table.now c.loop-r.at c.loop-r.n _ c.next_of.ensures _ _ c.in-Is.is)
+pub returns-in_err-unless-clause-is : goal.returns-in_err-unless-clause-is
+returns-in_err-unless-clause-is c =
+    let w = walk_next mark.Notice c.args.table.now _ _ c.in-Some.r c.in-Some.k _ (sym c.loop-r.invariant.0 ∙ c.in-Some.ensures.steps) in
+    rw c.from_residual.ensures (notices_hit _ _ _ _ _ c.loop-r.invariant.1 _ _ w.0 _ c.one_notice.ensures _ (stopped _ _ c.in_err-unless.ensures))
 
 pub loop-r-preserved : goal.loop-r-preserved
 loop-r-preserved c =
-    (notices_more c.args.table.now c.args.s.now c.args.e c.loop-r.at c.loop-r.n c.loop-r.invariant.0 _ c.next_of.ensures _ _ c.in-Is.is _ c.one_notice.ensures c.in_default.is, only_more c.args.table.now c.loop-r.at c.loop-r.n c.loop-r.others c.loop-r.invariant.1 _ c.next_of.ensures _ _ c.in-Is.is)
+    let w = walk_next mark.Notice c.args.table.now _ _ c.in-Some.r c.in-Some.k _ (sym c.loop-r.invariant.0 ∙ c.in-Some.ensures.steps) in
+    (w.1, notices_more _ _ _ _ _ c.loop-r.invariant.1 _ _ w.0 _ c.one_notice.ensures (went_on _ c.in_ok-unless.ensures), only_more _ _ _ _ c.loop-r.invariant.2 _ _ w.0)
+
+pub returns-clause-is : goal.returns-clause-is
+returns-clause-is c = notices_end _ _ _ _ _ c.loop-r.invariant.1 (walk_ends _ _ _ _ (sym c.loop-r.invariant.0 ∙ c.in-None.ensures.steps.0))
+
+pub returns-clause-others : goal.returns-clause-others
+returns-clause-others c = only_end _ _ _ _ c.loop-r.invariant.2
