@@ -1,18 +1,14 @@
 -- The ways out of the functions, as the code takes them. Rests on text's laws of `keep` and `find_in`.
-use Rattle.std.specs.Prelude.{Option, Some, ◌≡◌, Bool, true, false, List, ℕ, ◌+◌, ◌-◌, ◌≤◌, ◌<◌, length, get_or, drop}
+use Rattle.std.specs.Prelude.{Some, ◌≡◌, Bool, true, false, List, ℕ, ◌+◌, ◌-◌, ◌≤◌, ◌<◌, length, get_or, drop}
 use Rattle.std.proofs.Common.{sym, ◌∙◌, ⊎_elim, arith, length-drop, get_or-drop}
 use Rattle.std.proofs.Math.Path.{ap}
 use borrow.Author.Tests.{eq-eqb, ne_eqb}
 use Rattle.text.specs.Logic.{false_true, order}
-use Rattle.text.specs.Text.{is_blank, keep, find_in}
+use Rattle.text.specs.Text.{keep, find_in}
 use Rattle.text.specs.Laws.{found_at, stands_fits, keep_is, keep_le, keep_stops}
-use Rattle.text.specs.declared.Blanks.TheVariants.{Run}
 use Rattle.lines.specs.Lines.{fixed_text}
 use Rattle.lines.specs.declared.Fixed.TheVariants.{Na}
-use Rattle.scan.specs.Scan as scan
-use Rattle.scan.specs.declared.Findings as texts
-use Rattle.findings.specs.Findings.{not_lf, na_from, na_end, last_end, texts_of, extended}
-use Rattle.findings.specs.declared.Findings.{Findings}
+use Rattle.findings.specs.Findings.{not_lf, na_end, last_end}
 
 -- the NA line: known, found, or not there
 pub na_fits : (s : List ℕ) (i p : ℕ) → find_in (fixed_text Na) s i ≡ Some p → p + 6 ≤ length s
@@ -22,10 +18,6 @@ module _ (s : List ℕ) (n e : ℕ) where
   pub na_known : (e ≡ 0 → ⊥) → e ≡ na_end s n e
   unfolding na_end
   na_known h = rw (ne_eqb e 0 h)
-
-  pub na_sought : e ≡ 0 → (i : ℕ) → i ≡ na_from n → (r : Option ℕ) → find_in (fixed_text Na) s i ≡ r → scan.end_of (fixed_text Na) r ≡ na_end s n e
-  unfolding na_end
-  na_sought z i w r q = rw (eq-eqb e 0 z) (ap (scan.end_of (fixed_text Na)) (sym q ∙ ap (find_in (fixed_text Na) s) w))
 
 -- the last byte that fails f, k being what is kept of those behind the first n
 module _ (f : ℕ → Bool) (s : List ℕ) (n e k : ℕ) (w : k ≡ keep f (drop n s)) where
@@ -80,8 +72,3 @@ lf_is b e = rw (eq-eqb b 10 e)
 pub lf_not : (b : ℕ) → (b ≡ 10 → ⊥) → not_lf b ≡ true
 unfolding not_lf
 lf_not b e = rw (ne_eqb b 10 e)
-
--- what the four of them find
-pub extend_is : (f : Findings) (s : List ℕ) (x : texts.Findings) (a b c : ℕ) → x ≡ scan.extended (texts_of f) s → a ≡ na_end s f.seen f.na → b ≡ last_end (is_blank Run) s f.seen f.last → c ≡ last_end not_lf s f.seen f.lf → ◌≡◌ {A = Findings} (record { seen = x.seen; state = x.state; ends = x.ends; na = a; last = b; lf = c }) (extended f s)
-unfolding extended
-extend_is f s x a b c p q r w = λ i. record { seen = (p i).seen; state = (p i).state; ends = (p i).ends; na = q i; last = r i; lf = w i }
