@@ -1,14 +1,11 @@
 -- The ways out of the queue's calls, each with the tests that led there, and that their promises determine them.
-use Rattle.std.specs.Prelude.{Option, Some, None, Result, Ok, Err, ◌≡◌, refl, Bool, true, false, ◌&&◌, List, [], ℕ, zero, suc, ◌+◌, ◌-◌, ◌*◌, ◌/◌, ◌≤◌, ◌<◌, length, get_or, eqb, leb, ltb, if◌then◌else◌}
+use Rattle.std.specs.Prelude.{Option, Some, None, Result, Ok, Err, ◌≡◌, refl, true, List, ℕ, zero, suc, ◌+◌, ◌-◌, ◌*◌, ◌/◌, ◌≤◌, ◌<◌, length, eqb, leb, ltb}
 use Rattle.std.proofs.Common.{sym, ◌∙◌, mul-suc, mul-le-mul_left, arith}
 use Rattle.std.proofs.Math.Path.{ap}
 use Rattle.std.proofs.Math.Nat.{mul-div-le}
-use borrow.Author.Tests.{le-leb, lt-leb, lt-ltb, le-ltb, eq-eqb, ne_eqb, ltb-true, leb-true}
+use borrow.Author.Tests.{le-leb, lt-leb, lt-ltb, le-ltb, ltb-true, leb-true}
 use Rattle.text.specs.Logic.{and_both}
-use Rattle.text.specs.Text.{stands}
-use Rattle.moves.specs.Moves.{put}
-use Rattle.moves.specs.Laws.{put_none}
-use Rattle.outcome.specs.Outcome.{Outcome, answered, refused}
+use Rattle.outcome.specs.Outcome.{Outcome, answered}
 use Rattle.outcome.specs.Laws.{ways}
 use Rattle.queue.specs.declared.Queue.{Queue}
 use Rattle.queue.specs.declared.Notice.{Notice}
@@ -16,7 +13,7 @@ use Rattle.queue.specs.declared.PutError.{PutError}
 use Rattle.queue.specs.declared.PutError.TheVariants as puts
 use Rattle.queue.specs.declared.TakeError.{TakeError}
 use Rattle.queue.specs.declared.TakeError.TheVariants as takes
-use Rattle.queue.specs.Queue.{Geometry, ours, older, Sound, capacity_of, start_in, in_bounds, ring_place, lost_one, longer, After, after, head_of, recorded, written, put_into, outcome, got, empty, taking, shorter, length_at, record_good, notice_in, taken}
+use Rattle.queue.specs.Queue.{Geometry, ours, older, Sound, capacity_of, start_in, in_bounds, ring_place, longer, After, after, recorded, written, put_into, outcome, taking}
 
 -- two answers with the same outcome are equal
 pub outcome_one : (r q : Result Queue PutError) → outcome r ≡ outcome q → r ≡ q
@@ -99,45 +96,13 @@ module _ (g : Geometry) where
       let u : place < q = omega arith in
       omega (arith, size_next place q u, mul-div-le n g.size)
 
--- the ways out of `write_record`
-pub record_past : (g : Geometry) (number : ℕ) (p : List ℕ) (base : ℕ) (m : List ℕ) → length m < base → m ≡ recorded g number p base m
-unfolding recorded
-record_past g number p base m h =
-    let head = head_of g number (length p) in
-    let e : m ≡ put m base head = put_none m base head (omega arith) in
-    put_none m (base + g.head) p (omega arith) ∙ ap (λ (k : List ℕ). put k (base + g.head) p) e
-
-pub record_is : (g : Geometry) (number : ℕ) (p : List ℕ) (base : ℕ) (m a d : List ℕ) → a ≡ put m base (head_of g number (length p)) → d ≡ put a (base + g.head) p → d ≡ recorded g number p base m
-unfolding recorded
-record_is g number p base m a d v w = w ∙ ap (λ (k : List ℕ). put k (base + g.head) p) v
-
--- the ways out of `put`
-module _ (g : Geometry) (x : Queue) (number : ℕ) (p m : List ℕ) (cap : ℕ) (c : cap ≡ capacity_of g (length m)) where
-  pub put_bad : in_bounds cap x ≡ false → after (refused 3 []) m ≡ put_into g x number p m
-  unfolding put_into
-  put_bad h = rw (rw c at h)
-
-  module _ (b : in_bounds cap x ≡ true) where
-    pub put_empty : length p ≡ 0 → (y : Queue) → y ≡ lost_one x → after (answered y) m ≡ put_into g x number p m
-    unfolding put_into
-    put_empty e y w = ap (λ (z : Queue). after (answered z) m) w ∙ rw (rw c at b, lt-leb 1 (length p) (omega arith))
-
-    module _ (l : (length p ≡ 0 → ⊥)) where
-      pub put_long : g.longest < length p → (y : Queue) → y ≡ lost_one x → after (answered y) m ≡ put_into g x number p m
-      unfolding put_into
-      put_long e y w = ap (λ (z : Queue). after (answered z) m) w ∙ rw (rw c at b, le-leb 1 (length p) (omega arith), lt-leb (length p) g.longest e)
-
-      module _ (k : length p ≤ g.longest) where
-        pub put_full : cap ≤ x.count → after (refused 5 []) m ≡ put_into g x number p m
-        unfolding put_into
-        put_full e = rw (rw c at b, le-leb 1 (length p) (omega arith), le-leb (length p) g.longest k, le-leb (capacity_of g (length m)) x.count (rw c at e))
-
-        pub put_is : x.count < cap → (place : ℕ) → place ≡ ring_place x.start x.count cap → (d : List ℕ) → d ≡ recorded g number p (g.size * place) m → after (answered (longer x)) d ≡ put_into g x number p m
-        unfolding put_into written
-        put_is e place q d w =
-            let r : place ≡ ring_place x.start x.count (capacity_of g (length m)) = q ∙ ap (ring_place x.start x.count) c in
-            ap (after (answered (longer x))) (w ∙ ap (λ (n : ℕ). recorded g number p (g.size * n) m) r)
-            ∙ rw (rw c at b, le-leb 1 (length p) (omega arith), le-leb (length p) g.longest k, lt-leb (capacity_of g (length m)) x.count (rw c at e))
+-- the last way out of `put`: the record is written next after those held
+pub put_is : (g : Geometry) (x : Queue) (number : ℕ) (p m : List ℕ) (cap : ℕ) → cap ≡ capacity_of g (length m) → in_bounds cap x ≡ true → (length p ≡ 0 → ⊥) → length p ≤ g.longest → x.count < cap → (place : ℕ) → place ≡ ring_place x.start x.count cap → (d : List ℕ) → d ≡ recorded g number p (g.size * place) m → after (answered (longer x)) d ≡ put_into g x number p m
+unfolding put_into written
+put_is g x number p m cap c b l k e place q d w =
+    let r : place ≡ ring_place x.start x.count (capacity_of g (length m)) = q ∙ ap (ring_place x.start x.count) c in
+    ap (after (answered (longer x))) (w ∙ ap (λ (n : ℕ). recorded g number p (g.size * n) m) r)
+    ∙ rw (rw c at b, le-leb 1 (length p) (omega arith), le-leb (length p) g.longest k, lt-leb (capacity_of g (length m)) x.count (rw c at e))
 
 -- the record at the start lies in the memory
 pub record_room : (g : Geometry) (x : Queue) (m : ℕ) (cap : ℕ) → cap ≡ capacity_of g m → in_bounds cap x ≡ true → (x.count ≡ 0 → ⊥) → g.size * x.start + g.size ≤ m
@@ -145,66 +110,3 @@ record_room g x m cap c b h =
     let k = bounds_count cap x b in
     let w = bounds_room cap x b (omega arith) in
     record_in g m x.start (rw (sym c) w.0)
-
--- is a record good? By what was seen of it
-module _ (g : Geometry) (m : List ℕ) (base : ℕ) where
-  pub good_unmarked : stands g.mark m base ≡ false → record_good g m base ≡ false
-  unfolding record_good
-  good_unmarked e = rw e
-
-  module _ (s : stands g.mark m base ≡ true) (len : ℕ) (v : len ≡ length_at g m base) where
-    good_is : leb 1 len && leb len g.longest ≡ record_good g m base
-    unfolding record_good
-    good_is = rw (s, v)
-
-    pub good_short : len ≡ 0 → record_good g m base ≡ false
-    good_short e = sym good_is ∙ rw (lt-leb 1 len (omega arith))
-
-    module _ (h : (len ≡ 0 → ⊥)) where
-      pub good_some : leb len g.longest ≡ record_good g m base
-      good_some = rw (le-leb 1 len (omega arith)) at good_is
-
-      pub good_long : g.longest < len → record_good g m base ≡ false
-      good_long e = sym good_some ∙ lt-leb len g.longest e
-
-      pub good_all : len ≤ g.longest → record_good g m base ≡ true
-      good_all e = sym good_some ∙ le-leb len g.longest e
-
--- the notice of a record, by whether it is good
-module _ (g : Geometry) (m : List ℕ) (base : ℕ) where
-  pub notice_none : record_good g m base ≡ false → None ≡ notice_in g m base
-  notice_none e = rw e
-
-  pub notice_some : record_good g m base ≡ true → (head len : ℕ) → head ≡ g.head → len ≡ length_at g m base → Some (record { number = get_or m (base + 2) 0; place = base + head; len = len }) ≡ notice_in g m base
-  notice_some e head len h l = rw (e, h, l)
-
-none_good : (b : Bool) (n : Notice) → None ≡ (if b then Some n else None) → b ≡ false
-none_good true n e = cc
-none_good false n e = refl
-
-some_good : (b : Bool) (n k : Notice) → Some k ≡ (if b then Some n else None) → (b ≡ true) × (k ≡ n)
-some_good true n k e = (refl, cc)
-some_good false n k e = cc
-
--- the ways out of `take`
-module _ (g : Geometry) (x : Queue) (m : List ℕ) (cap : ℕ) (c : cap ≡ capacity_of g (length m)) where
-  pub take_bad : in_bounds cap x ≡ false → refused 3 [] ≡ taken g x m
-  unfolding taken
-  take_bad h = rw (rw c at h)
-
-  module _ (b : in_bounds cap x ≡ true) where
-    pub take_none : x.count ≡ 0 → answered (empty x) ≡ taken g x m
-    unfolding taken
-    take_none e = rw (rw c at b, eq-eqb x.count 0 e)
-
-    module _ (h : (x.count ≡ 0 → ⊥)) where
-      pub take_wrong : None ≡ notice_in g m (g.size * x.start) → refused 3 [] ≡ taken g x m
-      unfolding taken
-      take_wrong e = rw (rw c at b, ne_eqb x.count 0 h, none_good (record_good g m (g.size * x.start)) _ e)
-
-      pub take_is : (start : ℕ) → start ≡ ring_place x.start 1 cap → (n : Notice) → Some n ≡ notice_in g m (g.size * x.start) → answered (got (record { start = start; count = x.count - 1; lost = x.lost }) n) ≡ taken g x m
-      unfolding taken shorter
-      take_is start q n e =
-          let w = some_good (record_good g m (g.size * x.start)) _ n e in
-          let r : start ≡ ring_place x.start 1 (capacity_of g (length m)) = q ∙ ap (ring_place x.start 1) c in
-          rw (rw c at b, ne_eqb x.count 0 h, w.0, w.1, r)

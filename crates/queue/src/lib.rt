@@ -193,6 +193,7 @@ fn ring(start: usize, i: usize, cap: usize) -> usize
 }
 
 // Writes a notice as the record at `base`: its head, and the payload behind it; the other bytes stay. A part that doesn't fit changes nothing.
+#[tactic(auto, unfolding(crate::specs::Queue::recorded), using(moves::specs::Laws::put_none))]
 pub fn write_record(mem: &mut [u8], base: usize, number: u8, p: &[u8])
     ensures { mem.new ≡ recorded ours number p.now base mem.old }
 {
@@ -208,6 +209,7 @@ pub fn write_record(mem: &mut [u8], base: usize, number: u8, p: &[u8])
 }
 
 // The notice in the record at `base`; none where its mark or its length is wrong.
+#[tactic(auto, unfolding(crate::specs::Queue::record_good))]
 pub fn notice_at<F: Form>(mem: &[u8], base: usize) -> Option<Notice>
     requires { base + F.form.size ≤ length mem.now }
     ensures { result ≡ notice_in F.form mem.now base }
@@ -258,6 +260,7 @@ impl Queue {
 
     // Puts a notice as the record next after those held, as the ingress delivers it. Refusal 3 where start or count is outside its bounds;
     // a payload of 0 or over 1,024 bytes is a lost notice, counted, even when the queue is full; refusal 5 where it is full.
+    #[tactic(auto, unfolding(crate::specs::Queue::put_into, crate::specs::Queue::written))]
     pub fn put(self, mem: &mut [u8], number: u8, p: &[u8]) -> Result<Queue, PutError>
         ensures { after (outcome result) mem.new ≡ put_into ours self number p.now mem.old }
     {
@@ -281,6 +284,7 @@ impl Queue {
 
     // Takes the oldest notice: its number, and its payload's place and length in the memory, of which no byte changes.
     // An empty queue answers nothing. Refusal 3 where start or count is outside its bounds, or the record has a wrong mark or length.
+    #[tactic(auto, unfolding(crate::specs::Queue::taken, crate::specs::Queue::shorter))]
     pub fn take(self, mem: &[u8]) -> Result<(Queue, Option<Notice>), TakeError>
         ensures { taking result ≡ taken ours self mem.now }
     {

@@ -1,8 +1,5 @@
 use Rattle.convert.specs.Laws.{Seen}
 use Rattle.convert.proofs.are_good.Given as goal
 
-abbrev pub invariant-loop-unseen : goal.invariant-loop-unseen
-invariant-loop-unseen l = Seen l.mem l.start l.count l.cap l.base l.unseen
-
-abbrev pub decreases-loop-unseen : goal.decreases-loop-unseen
-decreases-loop-unseen l = l.unseen
+abbrev pub invariant-loop : goal.invariant-loop
+invariant-loop l = Seen l.mem l.fn.queue.start l.fn.queue.count l.cap l.base l.counter
