@@ -1,5 +1,5 @@
 -- A body that holds no list: what stands at its place tells what it is, or which fault is the first there.
-use Rattle.std.specs.Prelude.{◌≡◌, Bool, ◌&&◌, ◌||◌, get_or, take, drop, if◌then◌else◌}
+use Rattle.std.specs.Prelude.{Ok, Err, ◌≡◌, Bool, ◌&&◌, ◌||◌, get_or, take, drop, if◌then◌else◌}
 use Rattle.std.proofs.Math.Path.{refl, sym, ap, subst}
 use Rattle.std.proofs.Common.{◌∙◌, arith, take-append-drop, length-take-le}
 use Rattle.std.proofs.Math.Logic.{inl, inr}
@@ -15,7 +15,7 @@ use Rattle.text.specs.Text.{lead}
 use Rattle.text.specs.Laws.{lead_le}
 use Rattle.parser.specs.Parser.{is_digit, value}
 use Rattle.pieces.specs.declared.Kind.TheVariants as kinds
-use Rattle.lists.specs.declared.Plain.TheVariants as plain
+use Rattle.lists.specs.declared.ListError.TheVariants.{Malformed, TooLarge, TooMany}
 use Rattle.lists.specs.Grammar.{digits, is_number, empty, number, range, string, piece_word, word, made, elements, too_large, too_many, over}
 use Rattle.lists.specs.Scan.{at, start, low, dash, done, closed, behind, step, is_dead, rests, outside, final, many, limit, fault_in, stop, scan}
 use Rattle.lists.specs.Ends.{is_number_lem, number_digits}
@@ -27,7 +27,7 @@ use Rattle.lists.specs.Reader.{unknown, comma, close, Bodied, ends_at, ends_foll
 
 -- an empty body
 module _ (d n p : ℕ) (x : List ℕ) (h : Bare x) where
-  pub empty_malformed : ends_at d x ≡ false → Bodied d n p x (plain.Refused 6 p)
+  pub empty_malformed : ends_at d x ≡ false → Bodied d n p x (Err (Malformed p))
   unfolding word
   empty_malformed e =
       record {
@@ -42,7 +42,7 @@ module _ (d n p : ℕ) (x : List ℕ) (h : Bare x) where
         verdict = here_stops (at start d n) p 6 x (bare_fault d n x h e) (omega arith);
       }
 
-  pub empty_is : n < 256 → ends_at d x ≡ true → Bodied d n p x (plain.Is (made p p kinds.Empty d 0 0))
+  pub empty_is : n < 256 → ends_at d x ≡ true → Bodied d n p x (Ok (made p p kinds.Empty d 0 0))
   unfolding word over elements
   empty_is g e =
       record {
@@ -87,7 +87,7 @@ end_fault d n e g = ap (λ (k : ℕ). fault_in (at start k n) []) e ∙ rw (le-l
 
 -- an empty body over the limit: what ends it shows it
 module _ (d n p : ℕ) (g : 256 ≤ n) where
-  late_comma : (x : List ℕ) → Bodied d n p (44 ∷ x) (plain.Refused 9 p)
+  late_comma : (x : List ℕ) → Bodied d n p (44 ∷ x) (Err (TooMany p))
   unfolding word over
   late_comma x =
       record {
@@ -102,7 +102,7 @@ module _ (d n p : ℕ) (g : 256 ≤ n) where
         verdict = here_stops (at start d n) p 9 (44 ∷ x) (comma_fault n g x d) (omega arith);
       }
 
-  late_close : (x : List ℕ) → 0 < d → Bodied d n p (41 ∷ x) (plain.Refused 9 p)
+  late_close : (x : List ℕ) → 0 < d → Bodied d n p (41 ∷ x) (Err (TooMany p))
   unfolding word over
   late_close x f =
       record {
@@ -117,7 +117,7 @@ module _ (d n p : ℕ) (g : 256 ≤ n) where
         verdict = here_stops (at start d n) p 9 (41 ∷ x) (close_fault n g x d f) (omega arith);
       }
 
-  late_end : d ≡ 0 → Bodied d n p [] (plain.Refused 9 p)
+  late_end : d ≡ 0 → Bodied d n p [] (Err (TooMany p))
   unfolding word over
   late_end f =
       record {
@@ -132,7 +132,7 @@ module _ (d n p : ℕ) (g : 256 ≤ n) where
         verdict = here_stops (at start d n) p 9 [] (end_fault d n f g) (omega arith);
       }
 
-  pub empty_late : (x : List ℕ) → ends_at d x ≡ true → Bodied d n p x (plain.Refused 9 p)
+  pub empty_late : (x : List ℕ) → ends_at d x ≡ true → Bodied d n p x (Err (TooMany p))
   unfolding ends_at
   empty_late [] e = late_end (outside_zero d e)
     where
@@ -141,15 +141,15 @@ module _ (d n p : ℕ) (g : 256 ≤ n) where
       outside_zero (suc k) f = absurd (false_true f refl)
   empty_late (b ∷ x) e = go (eqb b 44) (eqb b 41) refl refl d refl e
     where
-      go : (c k : Bool) → eqb b 44 ≡ c → eqb b 41 ≡ k → (i : ℕ) → d ≡ i → c || (k && not (outside i)) ≡ true → Bodied d n p (b ∷ x) (plain.Refused 9 p)
-      go true k f h i l q = subst (λ (a : ℕ). Bodied d n p (a ∷ x) (plain.Refused 9 p)) (sym (eqb-true b 44 f)) (late_comma x)
+      go : (c k : Bool) → eqb b 44 ≡ c → eqb b 41 ≡ k → (i : ℕ) → d ≡ i → c || (k && not (outside i)) ≡ true → Bodied d n p (b ∷ x) (Err (TooMany p))
+      go true k f h i l q = subst (λ (a : ℕ). Bodied d n p (a ∷ x) (Err (TooMany p))) (sym (eqb-true b 44 f)) (late_comma x)
       go false true f h zero l q = absurd (false_true q refl)
-      go false true f h (suc i) l q = subst (λ (a : ℕ). Bodied d n p (a ∷ x) (plain.Refused 9 p)) (sym (eqb-true b 41 h)) (late_close x (omega arith))
+      go false true f h (suc i) l q = subst (λ (a : ℕ). Bodied d n p (a ∷ x) (Err (TooMany p))) (sym (eqb-true b 41 h)) (late_close x (omega arith))
       go false false f h i l q = absurd (false_true q refl)
 
 -- a string, whose first quote stands at p
 module _ (d n p : ℕ) (x : List ℕ) where
-  pub string_late : 256 ≤ n → Bodied d n p (34 ∷ x) (plain.Refused 9 p)
+  pub string_late : 256 ≤ n → Bodied d n p (34 ∷ x) (Err (TooMany p))
   unfolding word piece_word over
   string_late g =
       record {
@@ -165,7 +165,7 @@ module _ (d n p : ℕ) (x : List ℕ) where
       }
 
   module _ (g : n < 256) where
-    pub string_is : (e : ℕ) → Closed d (suc n) 0 (suc p) x e → Bodied d n p (34 ∷ x) (plain.Is (made p e kinds.String d 0 0))
+    pub string_is : (e : ℕ) → Closed d (suc n) 0 (suc p) x e → Bodied d n p (34 ∷ x) (Ok (made p e kinds.String d 0 0))
     unfolding word over elements
     string_is e w =
         let o = no_owing w.owing w.many in
@@ -183,7 +183,7 @@ module _ (d n p : ℕ) (x : List ℕ) where
           ended = λ e. absurd (false_true e refl);
         }
 
-    pub string_broken : (q : ℕ) → Breaks-off d (suc n) 0 (suc p) x q → Bodied d n p (34 ∷ x) (plain.Refused 6 q)
+    pub string_broken : (q : ℕ) → Breaks-off d (suc n) 0 (suc p) x q → Bodied d n p (34 ∷ x) (Err (Malformed q))
     unfolding word over
     string_broken q w =
         let o = no_owing w.owing w.many in
@@ -260,7 +260,7 @@ module _ (d n p j : ℕ) (x : List ℕ) (r : Run x j) where
   value_run : value 0 x ≡ value 0 r.run
   value_run = ap (value 0) r.parts ∙ value_stops 0 r.run r.rest (number_digits r.run r.number) r.over_at
 
-  pub number_large : 4294967295 < value 0 x → Bodied d n p x (plain.Refused 8 p)
+  pub number_large : 4294967295 < value 0 x → Bodied d n p x (Err (TooLarge p))
   unfolding word over
   number_large h =
       record {
@@ -276,7 +276,7 @@ module _ (d n p j : ℕ) (x : List ℕ) (r : Run x j) where
       }
 
   module _ (h : value 0 x ≤ 4294967295) where
-    pub number_late : 256 ≤ n → Bodied d n p x (plain.Refused 9 p)
+    pub number_late : 256 ≤ n → Bodied d n p x (Err (TooMany p))
     unfolding word over
     number_late g =
         let k = is_number_lem r.run r.number in
@@ -306,7 +306,7 @@ module _ (d n p j : ℕ) (x : List ℕ) (r : Run x j) where
       to_low : scan (at start d n) p x ≡ scan (at low d (suc n)) (p + length r.run) r.rest
       to_low = ap (scan (at start d n) p) r.parts ∙ scan_number d n p r.run r.rest r.number small_parts g
 
-      pub number_is : eqb (get_or r.rest 0 0) 45 ≡ false → Bodied d n p x (plain.Is (made p (p + j) kinds.Number d (value 0 x) (value 0 x)))
+      pub number_is : eqb (get_or r.rest 0 0) 45 ≡ false → Bodied d n p x (Ok (made p (p + j) kinds.Number d (value 0 x) (value 0 x)))
       unfolding word over elements
       number_is e =
           record {
@@ -327,7 +327,7 @@ module _ (d n p j : ℕ) (x : List ℕ) (r : Run x j) where
         to_dash : scan (at start d n) p x ≡ scan (at dash d (suc n)) (suc (p + length r.run)) y
         to_dash = to_low ∙ ap (scan (at low d (suc n)) (p + length r.run)) f ∙ scan_dash d (suc n) (p + length r.run) y
 
-        pub range_malformed : is_digit (get_or y 0 0) ≡ false → Bodied d n p x (plain.Refused 6 (p + j + 1))
+        pub range_malformed : is_digit (get_or y 0 0) ≡ false → Bodied d n p x (Err (Malformed (p + j + 1)))
         unfolding word over is_number digits is_digit
         range_malformed e =
             record {
@@ -352,7 +352,7 @@ module _ (d n p j : ℕ) (x : List ℕ) (r : Run x j) where
           second_run : value 0 y ≡ value 0 r₂.run
           second_run = ap (value 0) r₂.parts ∙ value_stops 0 r₂.run r₂.rest (number_digits r₂.run r₂.number) r₂.over_at
 
-          pub range_large : 4294967295 < value 0 y → Bodied d n p x (plain.Refused 8 (p + j + 1))
+          pub range_large : 4294967295 < value 0 y → Bodied d n p x (Err (TooLarge (p + j + 1)))
           unfolding word over
           range_large l =
               record {
@@ -381,7 +381,7 @@ module _ (d n p j : ℕ) (x : List ℕ) (r : Run x j) where
               place_second : p + j + 1 ≡ suc (p + length r.run)
               place_second = omega (arith, r.long)
 
-          pub range_is : value 0 y ≤ 4294967295 → Bodied d n p x (plain.Is (made p (p + j + 1 + i) kinds.Range d (value 0 x) (value 0 y)))
+          pub range_is : value 0 y ≤ 4294967295 → Bodied d n p x (Ok (made p (p + j + 1 + i) kinds.Range d (value 0 x) (value 0 y)))
           unfolding word over elements
           range_is l =
               let e : p + j + 1 + i ≡ p + length (r.run ++ 45 ∷ r₂.run) = omega (arith, r.long, r₂.long, length-append r.run (45 ∷ r₂.run)) in

@@ -12,7 +12,9 @@ use Rattle.text.specs.Text.{lead, past}
 use Rattle.parser.specs.Parser.{is_digit, value, run_at}
 use Rattle.pieces.specs.Pieces.{string_end, number_at}
 use Rattle.pieces.specs.declared.Kind.TheVariants as kinds
-use Rattle.lists.specs.declared.Plain.TheVariants as plain
+use Rattle.pieces.specs.declared.StringError.{StringError}
+use Rattle.pieces.specs.declared.StringError.TheVariants.{Broken}
+use Rattle.lists.specs.declared.ListError.TheVariants.{Malformed, TooLarge, TooMany}
 use Rattle.lists.specs.Grammar.{made}
 use Rattle.lists.specs.Scan.{outside}
 use Rattle.lists.specs.Strings.{Strung, strung}
@@ -73,23 +75,23 @@ opens_with s at b e = let n : suc at ≡ at + 1 = omega arith in drop-cons s at 
 
 -- a string at the place `at`
 module _ (s : List ℕ) (at d n : ℕ) (q : get_or s at 0 ≡ 34) where
-  pub string_over : 256 ≤ n → Bodied d n at (drop at s) (plain.Refused 9 at)
-  string_over g = subst (λ (x : List ℕ). Bodied d n at x (plain.Refused 9 at)) (sym (opens_with s at 33 q)) (string_late d n at (drop (at + 1) s) g)
+  pub string_over : 256 ≤ n → Bodied d n at (drop at s) (Err (TooMany at))
+  string_over g = subst (λ (x : List ℕ). Bodied d n at x (Err (TooMany at))) (sym (opens_with s at 33 q)) (string_late d n at (drop (at + 1) s) g)
 
-  module _ (g : n < 256) (r : Result ℕ ℕ) (f : r ≡ string_end 0 (at + 1) (drop (at + 1) s)) where
+  module _ (g : n < 256) (r : Result ℕ StringError) (f : r ≡ string_end 0 (at + 1) (drop (at + 1) s)) where
     read_string : Strung d (suc n) 0 (suc at) (drop (at + 1) s) r
     read_string =
         let e : suc at ≡ at + 1 = omega arith in
         subst (Strung d (suc n) 0 (suc at) (drop (at + 1) s)) (ap (λ (i : ℕ). string_end 0 i (drop (at + 1) s)) e ∙ sym f) (strung d (suc n) (drop (at + 1) s) 0 (suc at))
 
-    pub string_closed : (e : ℕ) → r ≡ Ok e → Bodied d n at (drop at s) (plain.Is (made at e kinds.String d 0 0))
+    pub string_closed : (e : ℕ) → r ≡ Ok e → Bodied d n at (drop at s) (Ok (made at e kinds.String d 0 0))
     string_closed e h =
-        subst (λ (x : List ℕ). Bodied d n at x (plain.Is (made at e kinds.String d 0 0))) (sym (opens_with s at 33 q))
+        subst (λ (x : List ℕ). Bodied d n at x (Ok (made at e kinds.String d 0 0))) (sym (opens_with s at 33 q))
         (string_is d n at (drop (at + 1) s) g e (subst (Strung d (suc n) 0 (suc at) (drop (at + 1) s)) h read_string))
 
-    pub string_open : (p : ℕ) → r ≡ Err p → Bodied d n at (drop at s) (plain.Refused 6 p)
+    pub string_open : (p : ℕ) → r ≡ Err (Broken p) → Bodied d n at (drop at s) (Err (Malformed p))
     string_open p h =
-        subst (λ (x : List ℕ). Bodied d n at x (plain.Refused 6 p)) (sym (opens_with s at 33 q))
+        subst (λ (x : List ℕ). Bodied d n at x (Err (Malformed p))) (sym (opens_with s at 33 q))
         (string_broken d n at (drop (at + 1) s) g p (subst (Strung d (suc n) 0 (suc at) (drop (at + 1) s)) h read_string))
 
 -- a run of digits that was read
@@ -99,7 +101,7 @@ record Valued (s : List ℕ) (p v e : ℕ) : Type 0 where
   end : e ≡ p + lead is_digit (drop p s)
 
 module _ (s : List ℕ) (p : ℕ) where
-  split : (b : Bool) → leb (value 0 (drop p s)) 4294967295 ≡ b → (v e : ℕ) → Some (v, e) ≡ (if b then Some ((value 0 (drop p s)), (past is_digit s p)) else None) → Valued s p v e
+  split : (b : Bool) → leb (value 0 (drop p s)) 4294967295 ≡ b → (v e : ℕ) → ◌≡◌ {A = Option (ℕ × ℕ)} (Some (v, e)) (if b then Some (value 0 (drop p s), past is_digit s p) else None) → Valued s p v e
   unfolding past
   split true h v e f = record { is = ap number_of f; small = leb-true (value 0 (drop p s)) 4294967295 h; end = ap end_of f }
     where
@@ -116,7 +118,7 @@ module _ (s : List ℕ) (p : ℕ) where
       is_value (Some (a, b)) = 1
       is_value None = 0
 
-  valued : (v e : ℕ) → Some (v, e) ≡ number_at s p → Valued s p v e
+  valued : (v e : ℕ) → ◌≡◌ {A = Option (ℕ × ℕ)} (Some (v, e)) (number_at s p) → Valued s p v e
   unfolding run_at
   valued v e = split (leb (value 0 (drop p s)) 4294967295) refl v e
 
@@ -124,7 +126,7 @@ module _ (s : List ℕ) (p : ℕ) where
   unfolding run_at
   too_large_lem = go (leb (value 0 (drop p s)) 4294967295) refl
     where
-      go : (b : Bool) → leb (value 0 (drop p s)) 4294967295 ≡ b → None ≡ (if b then Some ((value 0 (drop p s)), (past is_digit s p)) else None) → 4294967295 < value 0 (drop p s)
+      go : (b : Bool) → leb (value 0 (drop p s)) 4294967295 ≡ b → ◌≡◌ {A = Option (ℕ × ℕ)} None (if b then Some (value 0 (drop p s), past is_digit s p) else None) → 4294967295 < value 0 (drop p s)
       go true h f = absurd (let z : ◌≡◌ {A = ℕ} 0 1 = ap is_value f in omega arith)
         where
           is_value : Option (ℕ × ℕ) → ℕ
@@ -137,21 +139,21 @@ module _ (s : List ℕ) (at d n : ℕ) (q : is_digit (get_or s at 0) ≡ true) (
   digits_here : Run (drop at s) (lead is_digit (drop at s))
   digits_here = runs (drop at s) (ap is_digit (first_byte s at) ∙ q)
 
-  pub number_over : r ≡ None → Bodied d n at (drop at s) (plain.Refused 8 at)
+  pub number_over : r ≡ None → Bodied d n at (drop at s) (Err (TooLarge at))
   number_over h = number_large d n at (lead is_digit (drop at s)) (drop at s) digits_here (too_large_lem s at (sym h ∙ f))
 
   module _ (v e : ℕ) (h : r ≡ Some (v, e)) where
     here : Valued s at v e
     here = valued s at v e (sym h ∙ f)
 
-    pub number_over_count : 256 ≤ n → Bodied d n at (drop at s) (plain.Refused 9 at)
+    pub number_over_count : 256 ≤ n → Bodied d n at (drop at s) (Err (TooMany at))
     number_over_count g = number_late d n at (lead is_digit (drop at s)) (drop at s) digits_here here.small g
 
     behind : digits_here.rest ≡ drop e s
     behind = digits_here.left ∙ drop-drop (lead is_digit (drop at s)) at s ∙ ap (λ (i : ℕ). drop i s) (sym here.end)
 
     module _ (g : n < 256) where
-      pub number_alone : (get_or s e 0 ≡ 45 → ⊥) → Bodied d n at (drop at s) (plain.Is (made at e kinds.Number d v v))
+      pub number_alone : (get_or s e 0 ≡ 45 → ⊥) → Bodied d n at (drop at s) (Ok (made at e kinds.Number d v v))
       number_alone l =
           rw (here.is, here.end)
           (number_is d n at (lead is_digit (drop at s)) (drop at s) digits_here here.small g
@@ -164,21 +166,21 @@ module _ (s : List ℕ) (at d n : ℕ) (q : is_digit (get_or s at 0) ≡ true) (
         place : at + lead is_digit (drop at s) + 1 ≡ e + 1
         place = ap (λ (i : ℕ). i + 1) (sym here.end)
 
-        pub range_broken : is_digit (get_or s (e + 1) 0) ≡ false → Bodied d n at (drop at s) (plain.Refused 6 (e + 1))
+        pub range_broken : is_digit (get_or s (e + 1) 0) ≡ false → Bodied d n at (drop at s) (Err (Malformed (e + 1)))
         range_broken m =
-            subst (λ (i : ℕ). Bodied d n at (drop at s) (plain.Refused 6 i)) place
+            subst (λ (i : ℕ). Bodied d n at (drop at s) (Err (Malformed i))) place
             (range_malformed d n at (lead is_digit (drop at s)) (drop at s) digits_here here.small g (drop (e + 1) s) dash_behind (ap is_digit (first_byte s (e + 1)) ∙ m))
 
         module _ (m : is_digit (get_or s (e + 1) 0) ≡ true) (r₂ : Option (ℕ × ℕ)) (k : r₂ ≡ number_at s (e + 1)) where
           second : Run (drop (e + 1) s) (lead is_digit (drop (e + 1) s))
           second = runs (drop (e + 1) s) (ap is_digit (first_byte s (e + 1)) ∙ m)
 
-          pub range_over : r₂ ≡ None → Bodied d n at (drop at s) (plain.Refused 8 (e + 1))
+          pub range_over : r₂ ≡ None → Bodied d n at (drop at s) (Err (TooLarge (e + 1)))
           range_over i =
-              subst (λ (i : ℕ). Bodied d n at (drop at s) (plain.Refused 8 i)) place
+              subst (λ (i : ℕ). Bodied d n at (drop at s) (Err (TooLarge i))) place
               (range_large d n at (lead is_digit (drop at s)) (drop at s) digits_here here.small g (drop (e + 1) s) dash_behind (lead is_digit (drop (e + 1) s)) second (too_large_lem s (e + 1) (sym i ∙ k)))
 
-          pub range_whole : (u z : ℕ) → r₂ ≡ Some (u, z) → Bodied d n at (drop at s) (plain.Is (made at z kinds.Range d v u))
+          pub range_whole : (u z : ℕ) → r₂ ≡ Some (u, z) → Bodied d n at (drop at s) (Ok (made at z kinds.Range d v u))
           range_whole u z i =
               let there = valued s (e + 1) u z (sym i ∙ k) in
               let stop : z ≡ at + lead is_digit (drop at s) + 1 + lead is_digit (drop (e + 1) s) = omega (arith, there.end, here.end) in

@@ -1,5 +1,5 @@
 -- The ways out of the readers that call each other, and of those around them: what was told of a part, told of the whole.
-use Rattle.std.specs.Prelude.{◌≡◌, Bool, true, false, ◌||◌, List, [], ◌∷◌, ◌++◌, ℕ, zero, suc, ◌+◌, ◌≤◌, ◌<◌, length, get_or, drop, replicate, eqb, if◌then◌else◌}
+use Rattle.std.specs.Prelude.{Result, Ok, Err, ◌≡◌, Bool, true, false, ◌||◌, List, [], ◌∷◌, ◌++◌, ℕ, zero, suc, ◌+◌, ◌≤◌, ◌<◌, length, get_or, drop, replicate, eqb, if◌then◌else◌}
 use Rattle.std.proofs.Math.Path.{refl}
 use Rattle.std.proofs.Common.{sym, ap, ◌∙◌, subst, arith, length-append, length-drop, drop-drop, drop_at, eqb-true, ne_eqb}
 use Rattle.text.specs.Logic.{false_true}
@@ -8,11 +8,9 @@ use Rattle.text.specs.Laws.{past_bounds}
 use Rattle.text.specs.declared.Blanks.TheVariants.{Space}
 use Rattle.pieces.specs.declared.Kind.TheVariants as kinds
 use Rattle.pieces.specs.declared.Element.{Element}
-use Rattle.lists.specs.declared.Plain.{Plain}
-use Rattle.lists.specs.declared.Plain.TheVariants as plain
-use Rattle.lists.specs.declared.Step.{Step}
-use Rattle.lists.specs.declared.Step.TheVariants as steps
-use Rattle.lists.specs.Grammar.{Symbol, body, element, list, word, made}
+use Rattle.lists.specs.declared.ListError.{ListError}
+use Rattle.lists.specs.declared.ListError.TheVariants.{Malformed, TooDeep, TooMany}
+use Rattle.lists.specs.Grammar.{Symbol, body, element, list, word, made, number_of, place_of}
 use Rattle.lists.specs.Reader.{Read, Halted, Bodied, ends_at}
 use Rattle.lists.specs.Bodies.{lead_over}
 use Rattle.lists.specs.Join.{spaced_read, spaced_refused, bracket_deep, bracket_late, bracket_refused, bracket_unclosed, bracket_read, first_refused, list_ends, list_reads, list_refused}
@@ -93,9 +91,9 @@ module _ (s : List ℕ) (at place : ℕ) (q : place ≡ past (is_blank Space) s 
         (subst (λ (i : ℕ). Halted body d n i (drop place s) k p) place_is r)
 
     module _ (w : Bool) (m : List ℕ) where
-      pub plain_element : (r : Step) (after : List ℕ) → Told body d n place (drop place s) w m r after → Told element d n at (drop at s) w m r after
-      plain_element (steps.Next e k) after t = record { found = t.found; read = as_element t.found e k t.read; left = t.left }
-      plain_element (steps.Refused k p) after t = (as_refused k p t.0, t.1)
+      pub plain_element : (r : Result (ℕ × ℕ) ListError) (after : List ℕ) → Told body d n place (drop place s) w m r after → Told element d n at (drop at s) w m r after
+      plain_element (Ok (e, k)) after t = record { found = t.found; read = as_element t.found e k t.read; left = t.left }
+      plain_element (Err why) after t = (as_refused (number_of why) (place_of why) t.0, t.1)
 
       module _ (o : get_or s place 0 ≡ 40) where
         opened : drop place s ≡ 40 ∷ drop (suc place) s
@@ -104,14 +102,14 @@ module _ (s : List ℕ) (at place : ℕ) (q : place ≡ past (is_blank Space) s 
         halted_in : (k p : ℕ) → Halted body d n place (40 ∷ drop (suc place) s) k p → Halted element d n at (drop at s) k p
         halted_in k p r = as_refused k p (subst (λ (x : List ℕ). Halted body d n place x k p) (sym opened) r)
 
-        pub too_deep_lem : 4 ≤ d → Told element d n at (drop at s) w m (steps.Refused 7 place) m
+        pub too_deep_lem : 4 ≤ d → Told element d n at (drop at s) w m (Err (TooDeep place)) m
         too_deep_lem h = (halted_in 7 place (bracket_deep d n place (drop (suc place) s) h), λ e. refl)
 
         module _ (h : d < 4) where
-          pub too_late : 256 ≤ n → Told element d n at (drop at s) w m (steps.Refused 9 place) m
+          pub too_late : 256 ≤ n → Told element d n at (drop at s) w m (Err (TooMany place)) m
           too_late g = (halted_in 9 place (bracket_late d n place (drop (suc place) s) h g), λ e. refl)
 
-          module _ (g : n < 256) (r : Step) (after : List ℕ) (t : Told list (d + 1) (n + 1) (place + 1) (drop (place + 1) s) w m r after) where
+          module _ (g : n < 256) (r : Result (ℕ × ℕ) ListError) (after : List ℕ) (t : Told list (d + 1) (n + 1) (place + 1) (drop (place + 1) s) w m r after) where
             inner : Told list (suc d) (suc n) (suc place) (drop (suc place) s) w m r after
             inner =
                 let a : d + 1 ≡ suc d = omega arith in
@@ -122,29 +120,29 @@ module _ (s : List ℕ) (at place : ℕ) (q : place ≡ past (is_blank Space) s 
                 (subst (λ (i : ℕ). Told list i (n + 1) (place + 1) (drop (place + 1) s) w m r after) a t))
 
             -- the list within the brackets was refused
-            pub inner_refused : (k p : ℕ) → r ≡ steps.Refused k p → Told element d n at (drop at s) w m (steps.Refused k p) after
-            inner_refused k p e =
-                let u : Told list (suc d) (suc n) (suc place) (drop (suc place) s) w m (steps.Refused k p) after = subst (λ (q : Step). Told list (suc d) (suc n) (suc place) (drop (suc place) s) w m q after) e inner in
-                (halted_in k p (bracket_refused d n place (drop (suc place) s) h g k p u.0), u.1)
+            pub inner_refused : (why : ListError) → r ≡ Err why → Told element d n at (drop at s) w m (Err why) after
+            inner_refused why e =
+                let u : Told list (suc d) (suc n) (suc place) (drop (suc place) s) w m (Err why) after = subst (λ (q : Result (ℕ × ℕ) ListError). Told list (suc d) (suc n) (suc place) (drop (suc place) s) w m q after) e inner in
+                (halted_in (number_of why) (place_of why) (bracket_refused d n place (drop (suc place) s) h g (number_of why) (place_of why) u.0), u.1)
 
             -- it was read as far as e
-            module _ (e k : ℕ) (f : r ≡ steps.Next e k) where
+            module _ (e k : ℕ) (f : r ≡ Ok (e, k)) where
               members : Nexts list (suc d) (suc n) (suc place) (drop (suc place) s) w m after e k
-              members = subst (λ (q : Step). Told list (suc d) (suc n) (suc place) (drop (suc place) s) w m q after) f inner
+              members = subst (λ (q : Result (ℕ × ℕ) ListError). Told list (suc d) (suc n) (suc place) (drop (suc place) s) w m q after) f inner
 
               left_there : members.read.rest ≡ drop e s
               left_there = rest_there s members.read
 
-              pub inner_unclosed : (get_or s e 0 ≡ 41 → ⊥) → Told element d n at (drop at s) w m (steps.Refused 6 e) after
+              pub inner_unclosed : (get_or s e 0 ≡ 41 → ⊥) → Told element d n at (drop at s) w m (Err (Malformed e)) after
               inner_unclosed l = (
                 halted_in 6 e (bracket_unclosed d n place (drop (suc place) s) h g members.found e k members.read (not_ended d members.read.rest (members.read.ended refl) (ap (λ (y : List ℕ). eqb (get_or y 0 0) 41) left_there ∙ ap (λ (b : ℕ). eqb b 41) (first_byte s e) ∙ ne_eqb (get_or s e 0) 41 l))),
                 λ q. members.left ∙ ap (λ (b : Bool). written b m (suc n) members.found) q,
               )
 
-              pub inner_closed : get_or s e 0 ≡ 41 → (o : Element) → o ≡ made place (e + 1) kinds.List d 0 0 → (last : List ℕ) → last ≡ written w after n (o ∷ []) → Told element d n at (drop at s) w m (steps.Next (e + 1) k) last
+              pub inner_closed : get_or s e 0 ≡ 41 → (o : Element) → o ≡ made place (e + 1) kinds.List d 0 0 → (last : List ℕ) → last ≡ written w after n (o ∷ []) → Told element d n at (drop at s) w m (Ok ((e + 1), k)) last
               inner_closed l o i last q =
                   let c : e + 1 ≡ suc e = omega arith in
-                  subst (λ (i : ℕ). Told element d n at (drop at s) w m (steps.Next i k) last) (sym c)
+                  subst (λ (i : ℕ). Told element d n at (drop at s) w m (Ok (i, k)) last) (sym c)
                   (record {
                     found = made place (suc e) kinds.List d 0 0 ∷ members.found;
                     read =
@@ -155,17 +153,17 @@ module _ (s : List ℕ) (at place : ℕ) (q : place ≡ past (is_blank Space) s 
                   })
 
 -- a list from `at` on
-module _ (s : List ℕ) (at d n : ℕ) (w : Bool) (m : List ℕ) (r : Step) (after : List ℕ) (t : Told element d n at (drop at s) w m r after) where
-  pub head_refused : (k p : ℕ) → r ≡ steps.Refused k p → Told list d n at (drop at s) w m (steps.Refused k p) after
-  head_refused k p e =
-      let u : Told element d n at (drop at s) w m (steps.Refused k p) after = subst (λ (q : Step). Told element d n at (drop at s) w m q after) e t in
-      (first_refused d n at (drop at s) k p u.0, u.1)
+module _ (s : List ℕ) (at d n : ℕ) (w : Bool) (m : List ℕ) (r : Result (ℕ × ℕ) ListError) (after : List ℕ) (t : Told element d n at (drop at s) w m r after) where
+  pub head_refused : (why : ListError) → r ≡ Err why → Told list d n at (drop at s) w m (Err why) after
+  head_refused why e =
+      let u : Told element d n at (drop at s) w m (Err why) after = subst (λ (q : Result (ℕ × ℕ) ListError). Told element d n at (drop at s) w m q after) e t in
+      (first_refused d n at (drop at s) (number_of why) (place_of why) u.0, u.1)
 
-  module _ (e k : ℕ) (f : r ≡ steps.Next e k) where
+  module _ (e k : ℕ) (f : r ≡ Ok (e, k)) where
     pub first : Nexts element d n at (drop at s) w m after e k
-    first = subst (λ (q : Step). Told element d n at (drop at s) w m q after) f t
+    first = subst (λ (q : Result (ℕ × ℕ) ListError). Told element d n at (drop at s) w m q after) f t
 
-    pub list_over : (get_or s e 0 ≡ 44 → ⊥) → Told list d n at (drop at s) w m (steps.Next e k) after
+    pub list_over : (get_or s e 0 ≡ 44 → ⊥) → Told list d n at (drop at s) w m (Ok (e, k)) after
     list_over l =
         record {
           found = first.found;
@@ -175,8 +173,8 @@ module _ (s : List ℕ) (at d n : ℕ) (w : Bool) (m : List ℕ) (r : Step) (aft
           left = first.left;
         }
 
-    pub list_on : get_or s e 0 ≡ 44 → (q : Step) (last : List ℕ) → Told list d k (e + 1) (drop (e + 1) s) w after q last → Told list d n at (drop at s) w m q last
-    list_on l (steps.Next z j) last u =
+    pub list_on : get_or s e 0 ≡ 44 → (q : Result (ℕ × ℕ) ListError) (last : List ℕ) → Told list d k (e + 1) (drop (e + 1) s) w after q last → Told list d n at (drop at s) w m q last
+    list_on l (Ok (z, j)) last u =
         let c : e + 1 ≡ suc e = omega arith in
         let v : Nexts list d k (suc e) (drop (e + 1) s) w after last z j = subst (λ (i : ℕ). Nexts list d k i (drop (e + 1) s) w after last z j) c u in
         record {
@@ -184,15 +182,15 @@ module _ (s : List ℕ) (at d n : ℕ) (w : Bool) (m : List ℕ) (r : Step) (aft
           read = list_reads d n at (drop at s) first.found e k first.read (drop (e + 1) s) (rest_there s first.read ∙ opens_with s e 43 l) v.found z j v.read;
           left = written_more w m after last n k first.found v.found first.read.count first.left v.left;
         }
-    list_on l (steps.Refused j p) last u =
+    list_on l (Err why) last u =
         let c : e + 1 ≡ suc e = omega arith in (
-          list_refused d n at (drop at s) first.found e k first.read (drop (e + 1) s) (rest_there s first.read ∙ opens_with s e 43 l) j p (subst (λ (i : ℕ). Halted list d k i (drop (e + 1) s) j p) c u.0),
+          list_refused d n at (drop at s) first.found e k first.read (drop (e + 1) s) (rest_there s first.read ∙ opens_with s e 43 l) (number_of why) (place_of why) (subst (λ (i : ℕ). Halted list d k i (drop (e + 1) s) (number_of why) (place_of why)) c u.0),
           λ q. u.1 q ∙ first.left ∙ ap (λ (b : Bool). written b m n first.found) q,
         )
 
 -- a body that holds no list, left in the memory
-module _ (s : List ℕ) (at d n : ℕ) (w : Bool) (m : List ℕ) (r : Plain) (t : Bodied d n at (drop at s) r) where
-  pub plain_read : (e : Element) → r ≡ plain.Is e → (after : List ℕ) → after ≡ written w m n (e ∷ []) → Told body d n at (drop at s) w m (steps.Next e.end (n + 1)) after
+module _ (s : List ℕ) (at d n : ℕ) (w : Bool) (m : List ℕ) (r : Result Element ListError) (t : Bodied d n at (drop at s) r) where
+  pub plain_read : (e : Element) → r ≡ Ok e → (after : List ℕ) → after ≡ written w m n (e ∷ []) → Told body d n at (drop at s) w m (Ok (e.end, n + 1)) after
   plain_read e f after l =
       let c : suc n ≡ n + 1 = omega arith in
       record {
@@ -201,5 +199,5 @@ module _ (s : List ℕ) (at d n : ℕ) (w : Bool) (m : List ℕ) (r : Plain) (t 
         left = l;
       }
 
-  pub plain_refused : (k p : ℕ) → r ≡ plain.Refused k p → Told body d n at (drop at s) w m (steps.Refused k p) m
-  plain_refused k p f = (subst (Bodied d n at (drop at s)) f t, λ e. refl)
+  pub plain_refused : (why : ListError) → r ≡ Err why → Told body d n at (drop at s) w m (Err why) m
+  plain_refused why f = (subst (Bodied d n at (drop at s)) f t, λ e. refl)

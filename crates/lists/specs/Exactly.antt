@@ -1,16 +1,14 @@
 -- The promise leaves one result: a payload is accepted with these elements exactly where it has a derivation within the limits that gives them, and refused
 -- exactly at its first fault.
-use Rattle.std.specs.Prelude.{◌≡◌, refl, true, false, ℕ, suc, length, take}
+use Rattle.std.specs.Prelude.{Result, Ok, Err, ◌≡◌, refl, true, false, ℕ, suc, length, take}
 use Rattle.std.proofs.Math.Path.{sym, ap}
 use Rattle.std.proofs.Common.{◌∙◌, subst, ⊎_elim, arith}
 use mathlib.Core.List.{List, [], append-nil}
 use Rattle.std.proofs.lemmas.List.Edits.{sets}
 use Rattle.pieces.specs.declared.Element.{Element}
-use Rattle.lists.specs.declared.Listed.{Listed}
-use Rattle.lists.specs.declared.Listed.TheVariants.{Elements, Refused}
-use Rattle.lists.specs.declared.Step.{Step}
-use Rattle.lists.specs.declared.Step.TheVariants as steps
-use Rattle.lists.specs.Grammar.{Derivation, list, word, elements, numbers, Fault, malformed, passed, First, Accepted, Reading}
+use Rattle.lists.specs.declared.ListError.{ListError}
+use Rattle.lists.specs.declared.ListError.TheVariants.{Malformed, TooDeep, TooLarge, TooMany}
+use Rattle.lists.specs.Grammar.{Derivation, list, word, elements, numbers, Fault, malformed, passed, First, Accepted, Reading, number_of, place_of}
 use Rattle.lists.specs.Scan.{at, start, rests, final, limit, fault_in, told, fine, scan}
 use Rattle.lists.specs.Places.{not_fine}
 use Rattle.lists.specs.Shows.{nothing}
@@ -18,6 +16,29 @@ use Rattle.lists.specs.Onward.{reads}
 use Rattle.lists.specs.Unique.{one_derivation}
 use Rattle.lists.specs.Refusal.{passes}
 use Rattle.lists.specs.Told.{Whole}
+
+-- an error is known by its number and its place
+one_error : (x y : ListError) → number_of x ≡ number_of y → place_of x ≡ place_of y → x ≡ y
+one_error (Malformed p) (Malformed q) e f = ap Malformed f
+one_error (TooDeep p) (TooDeep q) e f = ap TooDeep f
+one_error (TooLarge p) (TooLarge q) e f = ap TooLarge f
+one_error (TooMany p) (TooMany q) e f = ap TooMany f
+one_error (Malformed p) (TooDeep q) e f = absurd (omega arith)
+one_error (Malformed p) (TooLarge q) e f = absurd (omega arith)
+one_error (Malformed p) (TooMany q) e f = absurd (omega arith)
+one_error (TooDeep p) (Malformed q) e f = absurd (omega arith)
+one_error (TooDeep p) (TooLarge q) e f = absurd (omega arith)
+one_error (TooDeep p) (TooMany q) e f = absurd (omega arith)
+one_error (TooLarge p) (Malformed q) e f = absurd (omega arith)
+one_error (TooLarge p) (TooDeep q) e f = absurd (omega arith)
+one_error (TooLarge p) (TooMany q) e f = absurd (omega arith)
+one_error (TooMany p) (Malformed q) e f = absurd (omega arith)
+one_error (TooMany p) (TooDeep q) e f = absurd (omega arith)
+one_error (TooMany p) (TooLarge q) e f = absurd (omega arith)
+
+abbrev pub RefusedAt : ℕ → ℕ → Result ℕ ListError → Type 0
+RefusedAt k p (Ok n) = ⊥
+RefusedAt k p (Err why) = (number_of why ≡ k) × (place_of why ≡ p)
 
 module _ (s : List ℕ) where
   -- a payload has one list of elements
@@ -48,38 +69,38 @@ module _ (s : List ℕ) where
       go (passed t z m e) = let h = passes s t (record { refusal = k; place = p; shown = z }) m e in not_fine (read_through es a) h.told
 
   module _ (m : List ℕ) where
-    pub one_reading : (x y : Listed) (a b : List ℕ) → Reading s m x a → Reading s m y b → (x ≡ y) × (a ≡ b)
-    one_reading (Elements n) (Elements k) a b v w =
+    pub one_reading : (x y : Result ℕ ListError) (a b : List ℕ) → Reading s m x a → Reading s m y b → (x ≡ y) × (a ≡ b)
+    one_reading (Ok n) (Ok k) a b v w =
         let e = one_list v.0 w.0 v.1.0 w.1.0 in
-        (ap Elements (v.1.1.0 ∙ ap length e ∙ sym w.1.1.0), v.1.1.1 ∙ ap (λ (l : List Element). sets m 0 (numbers l)) e ∙ sym w.1.1.1)
-    one_reading (Elements n) (Refused k p) a b v w = absurd (not_both v.0 k p v.1.0 w.0)
-    one_reading (Refused k p) (Elements n) a b v w = absurd (not_both w.0 k p w.1.0 v.0)
-    one_reading (Refused k p) (Refused j q) a b v w =
-        let e = one_fault k p j q v.0 w.0 in
-        (ap (λ (i : ℕ). Refused i p) e.0 ∙ ap (Refused j) e.1, v.1 ∙ sym w.1)
+        (ap Ok (v.1.1.0 ∙ ap length e ∙ sym w.1.1.0), v.1.1.1 ∙ ap (λ (l : List Element). sets m 0 (numbers l)) e ∙ sym w.1.1.1)
+    one_reading (Ok n) (Err why) a b v w = absurd (not_both v.0 (number_of why) (place_of why) v.1.0 w.0)
+    one_reading (Err why) (Ok n) a b v w = absurd (not_both w.0 (number_of why) (place_of why) w.1.0 v.0)
+    one_reading (Err x) (Err y) a b v w =
+        let e = one_fault (number_of x) (place_of x) (number_of y) (place_of y) v.0 w.0 in
+        (ap Err (one_error x y e.0 e.1), v.1 ∙ sym w.1)
 
-    module _ (r : Listed) (after : List ℕ) (w : Reading s m r after) where
+    module _ (r : Result ℕ ListError) (after : List ℕ) (w : Reading s m r after) where
       -- Accepted with these elements exactly where a derivation within the limits gives them.
-      pub accepts : (es : List Element) → Accepted s es → (r ≡ Elements (length es)) × (after ≡ sets m 0 (numbers es))
-      accepts es a = one_reading r (Elements (length es)) after (sets m 0 (numbers es)) w (es, (a, (refl, refl)))
+      pub accepts : (es : List Element) → Accepted s es → (r ≡ Ok (length es)) × (after ≡ sets m 0 (numbers es))
+      accepts es a = one_reading r (Ok (length es)) after (sets m 0 (numbers es)) w (es, (a, (refl, refl)))
 
-      -- Refused exactly at the first fault.
-      pub refuses : (k p : ℕ) → First s k p → (r ≡ Refused k p) × (after ≡ m)
-      refuses k p f = one_reading r (Refused k p) after m w (f, refl)
+      -- Refused exactly at the first fault, by its number and place.
+      pub refuses : (k p : ℕ) → First s k p → RefusedAt k p r × (after ≡ m)
+      refuses k p f = go r w
+        where
+          go : (q : Result ℕ ListError) → Reading s m q after → RefusedAt k p q × (after ≡ m)
+          go (Ok n) v = absurd (not_both v.0 k p v.1.0 f)
+          go (Err why) v = (one_fault (number_of why) (place_of why) k p v.0 f, v.1)
 
 -- A payload that was judged good is read again to be written; nothing was written before.
-module _ (s m : List ℕ) (r : Step) (between : List ℕ) (v : Whole s false m r between) where
-  pub judged_refused : (k p : ℕ) → r ≡ steps.Refused k p → Reading s m (Refused k p) between
-  judged_refused k p e = let u : Whole s false m (steps.Refused k p) between = subst (λ (q : Step). Whole s false m q between) e v in (u.0, u.1 refl)
+module _ (s m : List ℕ) (r : Result ℕ ListError) (between : List ℕ) (v : Whole s false m r between) where
+  pub judged_refused : (why : ListError) → r ≡ Err why → Reading s m (Err why) between
+  judged_refused why e = let u : Whole s false m (Err why) between = subst (λ (q : Result ℕ ListError). Whole s false m q between) e v in (u.0, u.1 refl)
 
-  module _ (e k : ℕ) (f : r ≡ steps.Next e k) (x : Step) (after : List ℕ) (w : Whole s true between x after) where
-    judged : Whole s false m (steps.Next e k) between
-    judged = subst (λ (q : Step). Whole s false m q between) f v
+  module _ (k : ℕ) (f : r ≡ Ok k) (after : List ℕ) where
+    judged : Whole s false m (Ok k) between
+    judged = subst (λ (q : Result ℕ ListError). Whole s false m q between) f v
 
-    pub judged_read : (i j : ℕ) → x ≡ steps.Next i j → Reading s m (Elements j) after
-    judged_read i j h =
-        let u : Whole s true between (steps.Next i j) after = subst (λ (q : Step). Whole s true between q after) h w in
-        (u.0, (u.1.0, (u.1.1.0, u.1.1.1 ∙ ap (λ (l : List ℕ). sets l 0 (numbers u.0)) judged.1.1.1)))
-
-    pub never_refused : (j p : ℕ) → x ≡ steps.Refused j p → ⊥
-    never_refused j p h = not_both s judged.0 j p judged.1.0 (subst (λ (q : Step). Whole s true between q after) h w).0
+    pub read_again : (x : Result ℕ ListError) → Whole s true between x after → Reading s m x after
+    read_again (Ok j) u = (u.0, (u.1.0, (u.1.1.0, u.1.1.1 ∙ ap (λ (l : List ℕ). sets l 0 (numbers u.0)) judged.1.1.1)))
+    read_again (Err why) u = absurd (not_both s judged.0 (number_of why) (place_of why) judged.1.0 u.0)

@@ -3,7 +3,7 @@
 --   element = *SP ( "" / number [ "-" number ] / string / "(" list ")" )
 --   number  = 1*DIGIT
 --   string  = DQUOTE *( char / "\" HEX HEX ) DQUOTE
-use Rattle.std.specs.Prelude.{◌≡◌, ◌⊎◌, Bool, true, false, ◌&&◌, ℕ, suc, ◌+◌, ◌≤◌, ◌<◌, length, take, replicate, leb, ltb, if◌then◌else◌}
+use Rattle.std.specs.Prelude.{Result, Ok, Err, ◌≡◌, ◌⊎◌, Bool, true, false, ◌&&◌, ℕ, suc, ◌+◌, ◌≤◌, ◌<◌, length, take, replicate, leb, ltb, if◌then◌else◌}
 use mathlib.Core.List.{List, [], ◌∷◌, ◌++◌, Memᴰ}
 use Rattle.std.proofs.lemmas.List.Edits.{sets}
 use Rattle.text.specs.Bytes.{bytes}
@@ -12,8 +12,8 @@ use Rattle.pieces.specs.Pieces.{is_hex, is_char, numbers_of}
 use Rattle.pieces.specs.declared.Kind.{Kind}
 use Rattle.pieces.specs.declared.Kind.TheVariants as kinds
 use Rattle.pieces.specs.declared.Element.{Element}
-use Rattle.lists.specs.declared.Listed.{Listed}
-use Rattle.lists.specs.declared.Listed.TheVariants.{Elements, Refused}
+use Rattle.lists.specs.declared.ListError.{ListError}
+use Rattle.lists.specs.declared.ListError.TheVariants.{Malformed, TooDeep, TooLarge, TooMany}
 
 -- *DIGIT
 unfoldable pub digits : List ℕ → Bool
@@ -136,7 +136,20 @@ pub record Accepted (s : List ℕ) (es : List Element) : Type 0 where
   pub within : over tree 0 0 0 ≡ []
   pub gives : elements tree 0 0 ≡ es
 
+-- document 02's number of a refusal, and its place
+abbrev pub number_of : ListError → ℕ
+number_of (Malformed p) = 6
+number_of (TooDeep p) = 7
+number_of (TooLarge p) = 8
+number_of (TooMany p) = 9
+
+abbrev pub place_of : ListError → ℕ
+place_of (Malformed p) = p
+place_of (TooDeep p) = p
+place_of (TooLarge p) = p
+place_of (TooMany p) = p
+
 -- What a call tells of the payload s, and what it leaves in the memory m: the elements, from the front, the rest as it was; or the first fault, and all as it was.
-abbrev pub Reading : List ℕ → List ℕ → Listed → List ℕ → Type 0
-Reading s m (Elements n) after = (es : List Element) × (Accepted s es × ((n ≡ length es) × (after ≡ sets m 0 (numbers es))))
-Reading s m (Refused k p) after = First s k p × (after ≡ m)
+abbrev pub Reading : List ℕ → List ℕ → Result ℕ ListError → List ℕ → Type 0
+Reading s m (Ok n) after = (es : List Element) × (Accepted s es × ((n ≡ length es) × (after ≡ sets m 0 (numbers es))))
+Reading s m (Err why) after = First s (number_of why) (place_of why) × (after ≡ m)

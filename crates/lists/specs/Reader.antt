@@ -1,14 +1,13 @@
 -- What the readers tell, each of what stands from its place on: a derivation read to its end, or one that begins as the bytes do, with the fault.
-use Rattle.std.specs.Prelude.{◌≡◌, refl, ◌⊎◌, Bool, true, false, not, ◌&&◌, ◌||◌, ℕ, zero, suc, ◌+◌, ◌≤◌, ◌<◌, length, get_or, eqb, leb, ltb, if◌then◌else◌}
+use Rattle.std.specs.Prelude.{Result, Ok, Err, ◌≡◌, refl, ◌⊎◌, Bool, true, false, not, ◌&&◌, ◌||◌, ℕ, zero, suc, ◌+◌, ◌≤◌, ◌<◌, length, get_or, eqb, leb, ltb, if◌then◌else◌}
 use Rattle.std.proofs.Common.{sym, subst, le-leb, lt-ltb, le-ltb, eqb-true}
 use mathlib.Core.List.{List, [], ◌∷◌, ◌++◌, Memᴰ}
 use Rattle.std.proofs.lemmas.Bool.{lt-leb}
 use Rattle.text.specs.Logic.{false_true}
 use Rattle.parser.specs.Parser.{is_digit, value}
 use Rattle.pieces.specs.declared.Element.{Element}
-use Rattle.lists.specs.declared.Plain.{Plain}
-use Rattle.lists.specs.declared.Plain.TheVariants as plain
-use Rattle.lists.specs.Grammar.{Symbol, body, element, list, Derivation, word, elements, Over, too_deep, too_large, too_many, over}
+use Rattle.lists.specs.declared.ListError.{ListError}
+use Rattle.lists.specs.Grammar.{Symbol, body, element, list, Derivation, word, elements, Over, too_deep, too_large, too_many, over, number_of, place_of}
 use Rattle.lists.specs.Scan.{at, dead, start, done, closed, behind, step, is_dead, rests, outside, final, fault_in, stop, scan}
 use Rattle.lists.specs.Shows.{Follow}
 use Rattle.lists.specs.Shows as shows
@@ -61,12 +60,12 @@ pub record Halted (c : Symbol) (d n p : ℕ) (x : List ℕ) (k q : ℕ) : Type 0
   pub verdict : scan (at start d n) p x ≡ stop k q
 
 -- the reader of a body that holds no list
-abbrev pub Bodied : ℕ → ℕ → ℕ → List ℕ → Plain → Type 0
-Bodied d n p x (plain.Is e) = Read body d n p x (e ∷ []) e.end (suc n)
-Bodied d n p x (plain.Refused k q) = Halted body d n p x k q
+abbrev pub Bodied : ℕ → ℕ → ℕ → List ℕ → Result Element ListError → Type 0
+Bodied d n p x (Ok e) = Read body d n p x (e ∷ []) e.end (suc n)
+Bodied d n p x (Err why) = Halted body d n p x (number_of why) (place_of why)
 
-pub bodied_as : (d n p : ℕ) (x : List ℕ) (e f : Element) → e ≡ f → Bodied d n p x (plain.Is f) → Bodied d n p x (plain.Is e)
-bodied_as d n p x e f q = subst (λ (o : Element). Bodied d n p x (plain.Is o)) (sym q)
+pub bodied_as : (d n p : ℕ) (x : List ℕ) (e f : Element) → e ≡ f → Bodied d n p x (Ok f) → Bodied d n p x (Ok e)
+bodied_as d n p x e f q = subst (λ (o : Element). Bodied d n p x (Ok o)) (sym q)
 
 -- may an element end where x is still to come, within d brackets?
 unfoldable pub ends_at : ℕ → List ℕ → Bool

@@ -11,6 +11,8 @@ use Rattle.text.specs.Logic.{and_both}
 use Rattle.parser.specs.Parser.{is_digit}
 use Rattle.pieces.specs.Pieces.{is_char, is_hex, heard, goes_on, string_end}
 use Rattle.pieces.specs.declared.Heard.TheVariants.{Owes, Closes, Breaks}
+use Rattle.pieces.specs.declared.StringError.{StringError}
+use Rattle.pieces.specs.declared.StringError.TheVariants.{Broken}
 use Rattle.lists.specs.Grammar.{Piece, char, escape, piece_word}
 use Rattle.lists.specs.Scan.{at, done, text, in_string, step, is_dead, rests, final, fault_in, stop, scan}
 use Rattle.lists.specs.Places.{here_stops}
@@ -45,9 +47,9 @@ module _ (d n owed p : ℕ) (x : List ℕ) where
     pub place : q ≡ p + length seen
     pub verdict : scan (at (text owed) d n) p x ≡ stop 6 q
 
-  abbrev pub Strung : Result ℕ ℕ → Type 0
+  abbrev pub Strung : Result ℕ StringError → Type 0
   Strung (Ok e) = Closed e
-  Strung (Err q) = Breaks-off q
+  Strung (Err (Broken q)) = Breaks-off q
 
 pub no_owing : (w : List ℕ) → length w ≡ 0 → w ≡ []
 no_owing [] e = refl
@@ -73,7 +75,7 @@ zeros zero = refl
 zeros (suc k) = zeros k
 
 module _ (d n p : ℕ) (x : List ℕ) where
-  breaks_here : (owed : ℕ) → fault_in (at (text owed) d n) x ≡ 6 → Strung d n owed p x (Err p)
+  breaks_here : (owed : ℕ) → fault_in (at (text owed) d n) x ≡ 6 → Strung d n owed p x (Err (Broken p))
   unfolding piece_word
   breaks_here owed e =
       record {
@@ -91,7 +93,7 @@ module _ (d n p : ℕ) (x : List ℕ) where
       }
 
 module _ (d n p b : ℕ) (x : List ℕ) where
-  on_hex : (k : ℕ) (r : Result ℕ ℕ) → is_hex b ≡ true → Strung d n k (suc p) x r → Strung d n (suc k) p (b ∷ x) r
+  on_hex : (k : ℕ) (r : Result ℕ StringError) → is_hex b ≡ true → Strung d n k (suc p) x r → Strung d n (suc k) p (b ∷ x) r
   unfolding hexes
   on_hex k (Ok e) h w =
       record {
@@ -104,7 +106,7 @@ module _ (d n p b : ℕ) (x : List ℕ) where
         end = omega (arith, w.end);
         onward = scan_hex d n p k b x h ∙ w.onward;
       }
-  on_hex k (Err q) h w =
+  on_hex k (Err (Broken q)) h w =
       record {
         owing = b ∷ w.owing;
         pieces = w.pieces;
@@ -119,7 +121,7 @@ module _ (d n p b : ℕ) (x : List ℕ) where
         verdict = scan_hex d n p k b x h ∙ w.verdict;
       }
 
-  on_char : (r : Result ℕ ℕ) → is_char b ≡ true → Strung d n 0 (suc p) x r → Strung d n 0 p (b ∷ x) r
+  on_char : (r : Result ℕ StringError) → is_char b ≡ true → Strung d n 0 (suc p) x r → Strung d n 0 p (b ∷ x) r
   unfolding piece_word hexes
   on_char (Ok e) h w =
       let o = no_owing w.owing w.many in
@@ -133,7 +135,7 @@ module _ (d n p b : ℕ) (x : List ℕ) where
         end = omega (arith, w.end, ap (λ (l : List ℕ). length (l ++ piece_word w.pieces)) o);
         onward = scan_char d n p b x h ∙ w.onward;
       }
-  on_char (Err q) h w =
+  on_char (Err (Broken q)) h w =
       let o = no_owing w.owing w.many in
       record {
         owing = [];
@@ -149,7 +151,7 @@ module _ (d n p b : ℕ) (x : List ℕ) where
         verdict = scan_char d n p b x h ∙ w.verdict;
       }
 
-  on_back : (r : Result ℕ ℕ) → b ≡ 92 → Strung d n 2 (suc p) x r → Strung d n 0 p (b ∷ x) r
+  on_back : (r : Result ℕ StringError) → b ≡ 92 → Strung d n 2 (suc p) x r → Strung d n 0 p (b ∷ x) r
   unfolding piece_word hexes
   on_back (Ok e) h w =
       let o = two_owing w.owing w.many w.hex in
@@ -163,7 +165,7 @@ module _ (d n p b : ℕ) (x : List ℕ) where
         end = omega (arith, w.end, ap (λ (l : List ℕ). length (l ++ piece_word w.pieces)) o.both);
         onward = ap (λ (a : ℕ). scan (at (text 0) d n) p (a ∷ x)) h ∙ scan_back d n p x ∙ w.onward;
       }
-  on_back (Err q) h w =
+  on_back (Err (Broken q)) h w =
       let o = two_owing w.owing w.many w.hex in
       record {
         owing = [];

@@ -1,5 +1,5 @@
 -- What each reader promises: what it read or refused, and what it left in the memory; and what that makes of a whole payload.
-use Rattle.std.specs.Prelude.{◌≡◌, ◌⊎◌, Bool, ◌&&◌, ℕ, suc, ◌+◌, ◌*◌, ◌≤◌, ◌<◌, length, get_or, set, take, eqb, if◌then◌else◌}
+use Rattle.std.specs.Prelude.{Result, Ok, Err, ◌≡◌, ◌⊎◌, Bool, ◌&&◌, ℕ, suc, ◌+◌, ◌*◌, ◌≤◌, ◌<◌, length, get_or, set, take, eqb, if◌then◌else◌}
 use Rattle.std.proofs.Math.Path.{refl}
 use Rattle.std.proofs.Common.{sym, ap, ◌∙◌, subst, inl, inr, ⊎_elim, arith, length-append, take-take}
 use Rattle.std.proofs.Math.Bool.{true, false}
@@ -9,9 +9,9 @@ use Rattle.std.proofs.lemmas.List.{set_comm, take-append-le}
 use Rattle.text.specs.Logic.{false_true, order}
 use Rattle.pieces.specs.Pieces.{numbers_of}
 use Rattle.pieces.specs.declared.Element.{Element}
-use Rattle.lists.specs.declared.Step.{Step}
-use Rattle.lists.specs.declared.Step.TheVariants as steps
-use Rattle.lists.specs.Grammar.{Symbol, list, Derivation, word, numbers, Over, over, Begins, Fault, malformed, passed, First, Accepted}
+use Rattle.lists.specs.declared.ListError.{ListError}
+use Rattle.lists.specs.declared.ListError.TheVariants.{Malformed}
+use Rattle.lists.specs.Grammar.{Symbol, list, Derivation, word, numbers, Over, over, Begins, Fault, malformed, passed, First, Accepted, number_of, place_of}
 use Rattle.lists.specs.Scan.{State, at, done, stop}
 use Rattle.lists.specs.Places.{told_one, here_stops}
 use Rattle.lists.specs.Ends.{is_number_lem}
@@ -28,9 +28,9 @@ pub record Nexts (c : Symbol) (d n p : ℕ) (x : List ℕ) (w : Bool) (m after :
   pub read : Read c d n p x found e k
   pub left : after ≡ written w m n found
 
-abbrev pub Told : Symbol → ℕ → ℕ → ℕ → List ℕ → Bool → List ℕ → Step → List ℕ → Type 0
-Told c d n p x w m (steps.Next e k) after = Nexts c d n p x w m after e k
-Told c d n p x w m (steps.Refused k q) after = Halted c d n p x k q × (w ≡ false → after ≡ m)
+abbrev pub Told : Symbol → ℕ → ℕ → ℕ → List ℕ → Bool → List ℕ → Result (ℕ × ℕ) ListError → List ℕ → Type 0
+Told c d n p x w m (Ok (e, k)) after = Nexts c d n p x w m after e k
+Told c d n p x w m (Err why) after = Halted c d n p x (number_of why) (place_of why) × (w ≡ false → after ≡ m)
 
 -- elements one behind another in the memory
 sets_append : (xs ys m : List ℕ) (i : ℕ) → sets (sets m i xs) (i + length xs) ys ≡ sets m i (xs ++ ys)
@@ -198,22 +198,22 @@ whole_count : (s : List ℕ) (es : List Element) (e k : ℕ) → Read list 0 0 0
 whole_count s es e k r = omega (arith, r.count)
 
 -- what a reading of the whole promises, written or not
-abbrev pub Whole : List ℕ → Bool → List ℕ → Step → List ℕ → Type 0
-Whole s w m (steps.Next e k) after = (es : List Element) × (Accepted s es × ((k ≡ length es) × (after ≡ written w m 0 es)))
-Whole s w m (steps.Refused k p) after = First s k p × (w ≡ false → after ≡ m)
+abbrev pub Whole : List ℕ → Bool → List ℕ → Result ℕ ListError → List ℕ → Type 0
+Whole s w m (Ok k) after = (es : List Element) × (Accepted s es × ((k ≡ length es) × (after ≡ written w m 0 es)))
+Whole s w m (Err why) after = First s (number_of why) (place_of why) × (w ≡ false → after ≡ m)
 
-module _ (s : List ℕ) (w : Bool) (m : List ℕ) (r : Step) (after : List ℕ) (t : Told list 0 0 0 s w m r after) where
-  pub whole_refused : (k p : ℕ) → r ≡ steps.Refused k p → Whole s w m (steps.Refused k p) after
-  whole_refused k p e =
-      let u : Told list 0 0 0 s w m (steps.Refused k p) after = subst (λ (q : Step). Told list 0 0 0 s w m q after) e t in
-      (first_fault s k p u.0, u.1)
+module _ (s : List ℕ) (w : Bool) (m : List ℕ) (r : Result (ℕ × ℕ) ListError) (after : List ℕ) (t : Told list 0 0 0 s w m r after) where
+  pub whole_refused : (why : ListError) → r ≡ Err why → Whole s w m (Err why) after
+  whole_refused why e =
+      let u : Told list 0 0 0 s w m (Err why) after = subst (λ (q : Result (ℕ × ℕ) ListError). Told list 0 0 0 s w m q after) e t in
+      (first_fault s (number_of why) (place_of why) u.0, u.1)
 
-  module _ (e k : ℕ) (f : r ≡ steps.Next e k) where
+  module _ (e k : ℕ) (f : r ≡ Ok (e, k)) where
     came : Nexts list 0 0 0 s w m after e k
-    came = subst (λ (q : Step). Told list 0 0 0 s w m q after) f t
+    came = subst (λ (q : Result (ℕ × ℕ) ListError). Told list 0 0 0 s w m q after) f t
 
-    pub whole_stops : e < length s → Whole s w m (steps.Refused 6 e) after
+    pub whole_stops : e < length s → Whole s w m (Err (Malformed e)) after
     whole_stops h = (first_fault s 6 e (whole_longer s came.found e k came.read h), λ q. came.left ∙ ap (λ (b : Bool). written b m 0 came.found) q)
 
-    pub whole_read : length s ≤ e → Whole s w m (steps.Next e k) after
+    pub whole_read : length s ≤ e → Whole s w m (Ok k) after
     whole_read h = (came.found, (whole_accepted s came.found e k came.read h, (whole_count s came.found e k came.read, came.left)))

@@ -5,51 +5,60 @@
 
 ghost use Rattle.std.specs.Prelude.{◌≡◌, true, [], ◌∷◌, ◌≤◌, ◌<◌, length, drop, get_or};
 ghost use Rattle.parser.specs.Parser.{is_digit};
-ghost use Rattle.lists.specs.Grammar.{body, element, list, made, Reading};
+ghost use Rattle.lists.specs.Grammar.{body, element, list, made, number_of, place_of, Reading};
 ghost use Rattle.lists.specs.Reader.{Bodied, Bare, ends_at};
 ghost use Rattle.lists.specs.Told.{Told, Whole, written};
 
-use pieces::{Element, Kind};
+use pieces::{Element, Kind, StringError};
 use text::Blanks;
 
 // Within how many brackets an element may stand.
 const DEEPEST: usize = 4;
 
-// What a payload is: so many elements, or a refusal by its number, with its place.
+// Why a payload is refused, with the place of the fault: refusals 6 to 9.
 #[derive(Clone, Copy)]
-pub enum Listed {
-    Elements(usize),
-    Refused(u32, usize),
+pub enum ListError {
+    Malformed(usize),
+    TooDeep(usize),
+    TooLarge(usize),
+    TooMany(usize),
 }
 
-// A body without a list in it: the element that it is, or a refusal.
-#[derive(Clone, Copy)]
-enum Plain {
-    Is(Element),
-    Refused(u32, usize),
-}
+impl ListError {
+    // The refusal's number.
+    pub fn number(self) -> u32
+        ensures { result ≡ number_of self }
+    {
+        match self {
+            ListError::Malformed(_) => 6,
+            ListError::TooDeep(_) => 7,
+            ListError::TooLarge(_) => 8,
+            ListError::TooMany(_) => 9,
+        }
+    }
 
-// How far a reader came, and with how many elements begun; or a refusal.
-#[derive(Clone, Copy)]
-enum Step {
-    Next(usize, usize),
-    Refused(u32, usize),
+    // Where the fault is.
+    pub fn place(self) -> usize
+        ensures { result ≡ place_of self }
+    {
+        match self {
+            ListError::Malformed(place)
+            | ListError::TooDeep(place)
+            | ListError::TooLarge(place)
+            | ListError::TooMany(place) => place,
+        }
+    }
 }
 
 // May an element end at `at`? Before a comma; within brackets before a closing one; outside at the end.
+#[tactic(auto, using(crate::specs::Calls::ends_past, crate::specs::Calls::ends_comma, crate::specs::Calls::ends_outside, crate::specs::Calls::ends_inside))]
 fn ends_at(s: &[u8], at: usize, depth: usize) -> bool
     ensures { result ≡ ends_at depth (drop at s.now) }
 {
     if s.len() <= at {
         return depth == 0;
     }
-    if s[at] == b',' {
-        return true;
-    }
-    if depth == 0 {
-        return false;
-    }
-    s[at] == b')'
+    s[at] == b',' || (depth != 0 && s[at] == b')')
 }
 
 // An element that has no value.
@@ -57,97 +66,101 @@ fn without_value(place: usize, end: usize, kind: Kind, depth: usize) -> Element
     ensures { result ≡ made place end kind depth 0 0 }
 {
     Element {
-        place: place,
-        end: end,
-        kind: kind,
-        depth: depth,
+        place,
+        end,
+        kind,
+        depth,
         low: 0,
         high: 0,
     }
 }
 
 // An empty element at `at`, where nothing else begins.
-fn empty_at(s: &[u8], at: usize, depth: usize, n: usize) -> Plain
+#[tactic(auto, using(crate::specs::Bodies::empty_malformed, crate::specs::Bodies::empty_late, crate::specs::Bodies::empty_is, crate::specs::Reader::bodied_as))]
+fn empty_at(s: &[u8], at: usize, depth: usize, n: usize) -> Result<Element, ListError>
     requires { Bare (drop at s.now) }
     ensures { Bodied depth n at (drop at s.now) result }
 {
     if !ends_at(s, at, depth) {
-        return Plain::Refused(6, at);
+        return Err(ListError::Malformed(at));
     }
     if pieces::MOST <= n {
-        return Plain::Refused(9, at);
+        return Err(ListError::TooMany(at));
     }
-    Plain::Is(without_value(at, at, Kind::Empty, depth))
+    Ok(without_value(at, at, Kind::Empty, depth))
 }
 
 // A string whose first quote stands at `at`.
-fn string_at(s: &[u8], at: usize, depth: usize, n: usize) -> Plain
+#[tactic(auto, using(crate::specs::Calls::string_over, crate::specs::Calls::string_closed, crate::specs::Calls::string_open, crate::specs::Reader::bodied_as))]
+fn string_at(s: &[u8], at: usize, depth: usize, n: usize) -> Result<Element, ListError>
     requires { (at < length s.now) × (get_or s.now at 0 ≡ 34) }
     ensures { Bodied depth n at (drop at s.now) result }
 {
     if n >= pieces::MOST {
-        return Plain::Refused(9, at);
+        return Err(ListError::TooMany(at));
     }
     match pieces::string_end(s, at + 1) {
-        Ok(e) => Plain::Is(without_value(at, e, Kind::String, depth)),
-        Err(p) => Plain::Refused(6, p),
+        Ok(end) => Ok(without_value(at, end, Kind::String, depth)),
+        Err(StringError::Broken(place)) => Err(ListError::Malformed(place)),
     }
 }
 
 // A number, or a range, whose first digit stands at `at`.
-fn number_at(s: &[u8], at: usize, depth: usize, n: usize) -> Plain
+#[tactic(auto, using(crate::specs::Calls::number_over, crate::specs::Calls::number_over_count, crate::specs::Calls::number_alone, crate::specs::Calls::range_broken, crate::specs::Calls::range_over, crate::specs::Calls::range_whole, crate::specs::Calls::told_byte))]
+fn number_at(s: &[u8], at: usize, depth: usize, n: usize) -> Result<Element, ListError>
     requires { (at < length s.now) × (is_digit (get_or s.now at 0) ≡ true) }
     ensures { Bodied depth n at (drop at s.now) result }
 {
     let Some((low, e)) = pieces::number_at(s, at) else {
-        return Plain::Refused(8, at);
+        return Err(ListError::TooLarge(at));
     };
     if pieces::MOST <= n {
-        return Plain::Refused(9, at);
+        return Err(ListError::TooMany(at));
     }
+    let number = Element {
+        place: at,
+        end: e,
+        kind: Kind::Number,
+        depth,
+        low,
+        high: low,
+    };
     if text::byte_at(s, e) != b'-' {
-        return Plain::Is(Element {
-            place: at,
-            end: e,
-            kind: Kind::Number,
-            depth: depth,
-            low: low,
-            high: low,
-        });
+        return Ok(number);
     }
     let second = e + 1;
     if !parser::is_digit(text::byte_at(s, second)) {
-        return Plain::Refused(6, second);
+        return Err(ListError::Malformed(second));
     }
     match pieces::number_at(s, second) {
-        Some((high, end)) => Plain::Is(Element {
-            place: at,
-            end: end,
+        Some((high, end)) => Ok(Element {
+            end,
             kind: Kind::Range,
-            depth: depth,
-            low: low,
-            high: high,
+            high,
+            ..number
         }),
-        None => Plain::Refused(8, second),
+        None => Err(ListError::TooLarge(second)),
     }
 }
 
 // What stands at `at`, where neither a space nor an opening bracket does: a number or a range, a string, or an empty element.
-fn plain_at(s: &[u8], at: usize, depth: usize, n: usize) -> Plain
+#[tactic(auto, using(crate::specs::Calls::told_byte, crate::specs::Calls::told_digit, crate::specs::Calls::bare))]
+fn plain_at(s: &[u8], at: usize, depth: usize, n: usize) -> Result<Element, ListError>
     requires { (at ≤ length s.now) × ((get_or s.now at 0 ≡ 32 → ⊥) × (get_or s.now at 0 ≡ 40 → ⊥)) }
     ensures { Bodied depth n at (drop at s.now) result }
 {
     let b = text::byte_at(s, at);
     if parser::is_digit(b) {
-        return number_at(s, at, depth, n);
+        number_at(s, at, depth, n)
+    } else if b == b'"' {
+        string_at(s, at, depth, n)
+    } else {
+        empty_at(s, at, depth, n)
     }
-    if b == b'"' {
-        return string_at(s, at, depth, n);
-    }
-    empty_at(s, at, depth, n)
 }
 
 // Leaves e in the memory, where it is to be written.
+#[tactic(auto, using(crate::specs::Told::written_one))]
 fn leave(e: Element, n: usize, writes: bool, elements: &mut [u64; pieces::NUMBERS])
     ensures { elements.new ≡ written writes elements.old n (e ∷ []) }
 {
@@ -157,6 +170,7 @@ fn leave(e: Element, n: usize, writes: bool, elements: &mut [u64; pieces::NUMBER
 }
 
 // What stands at `at`, where neither a space nor an opening bracket does, read and left in the memory.
+#[tactic(auto, using(crate::specs::Cycle::plain_read, crate::specs::Cycle::plain_refused))]
 fn read_plain(
     s: &[u8],
     at: usize,
@@ -164,20 +178,18 @@ fn read_plain(
     n: usize,
     writes: bool,
     elements: &mut [u64; pieces::NUMBERS],
-) -> Step
+) -> Result<(usize, usize), ListError>
     requires { (at ≤ length s.now) × ((n ≤ 256) × ((get_or s.now at 0 ≡ 32 → ⊥) × (get_or s.now at 0 ≡ 40 → ⊥))) }
     ensures { Told body depth n at (drop at s.now) writes elements.old result elements.new }
 {
-    match plain_at(s, at, depth, n) {
-        Plain::Is(e) => {
-            leave(e, n, writes, elements);
-            Step::Next(e.end, n + 1)
-        }
-        Plain::Refused(k, p) => Step::Refused(k, p),
-    }
+    let e = plain_at(s, at, depth, n)?;
+    leave(e, n, writes, elements);
+    Ok((e.end, n + 1))
 }
 
 // An element from `at` on: its spaces, then a list in brackets, or what holds none. A list is left in the memory before its members, once it is closed.
+// How far it came, and with how many elements begun.
+#[tactic(auto, using(crate::specs::Calls::told_byte, crate::specs::Cycle::place_within, crate::specs::Cycle::no_space, crate::specs::Cycle::plain_element, crate::specs::Cycle::too_deep_lem, crate::specs::Cycle::too_late, crate::specs::Cycle::inner_refused, crate::specs::Cycle::inner_unclosed, crate::specs::Cycle::inner_closed))]
 #[cycle(read_element_read_list)]
 fn read_element(
     s: &[u8],
@@ -186,7 +198,7 @@ fn read_element(
     n: usize,
     writes: bool,
     elements: &mut [u64; pieces::NUMBERS],
-) -> Step
+) -> Result<(usize, usize), ListError>
     requires { (at ≤ length s.now) × ((depth ≤ 4) × (n ≤ 256)) }
     ensures { Told element depth n at (drop at s.now) writes elements.old result elements.new }
 {
@@ -195,26 +207,27 @@ fn read_element(
         return read_plain(s, place, depth, n, writes, elements);
     }
     if DEEPEST <= depth {
-        return Step::Refused(7, place);
+        return Err(ListError::TooDeep(place));
     }
     if pieces::MOST <= n {
-        return Step::Refused(9, place);
+        return Err(ListError::TooMany(place));
     }
-    match read_list(s, place + 1, depth + 1, n + 1, writes, elements) {
-        Step::Next(e, m) => {
-            if text::byte_at(s, e) != b')' {
-                return Step::Refused(6, e);
-            }
-            let end = e + 1;
-            let opened = without_value(place, end, Kind::List, depth);
-            leave(opened, n, writes, elements);
-            Step::Next(end, m)
-        }
-        Step::Refused(k, p) => Step::Refused(k, p),
+    let (e, m) = read_list(s, place + 1, depth + 1, n + 1, writes, elements)?;
+    if text::byte_at(s, e) != b')' {
+        return Err(ListError::Malformed(e));
     }
+    let end = e + 1;
+    leave(
+        without_value(place, end, Kind::List, depth),
+        n,
+        writes,
+        elements,
+    );
+    Ok((end, m))
 }
 
 // A list from `at` on: an element, and as long as a comma follows, the list behind it.
+#[tactic(auto, using(crate::specs::Calls::told_byte, crate::specs::Cycle::came_to, crate::specs::Cycle::head_refused, crate::specs::Cycle::first, crate::specs::Cycle::list_over, crate::specs::Cycle::list_on))]
 #[cycle(read_element_read_list)]
 fn read_list(
     s: &[u8],
@@ -223,46 +236,38 @@ fn read_list(
     n: usize,
     writes: bool,
     elements: &mut [u64; pieces::NUMBERS],
-) -> Step
+) -> Result<(usize, usize), ListError>
     requires { (at ≤ length s.now) × ((depth ≤ 4) × (n ≤ 256)) }
     ensures { Told list depth n at (drop at s.now) writes elements.old result elements.new }
 {
-    match read_element(s, at, depth, n, writes, elements) {
-        Step::Next(e, m) => {
-            if text::byte_at(s, e) != b',' {
-                return Step::Next(e, m);
-            }
-            read_list(s, e + 1, depth, m, writes, elements)
-        }
-        Step::Refused(k, p) => Step::Refused(k, p),
+    let (e, m) = read_element(s, at, depth, n, writes, elements)?;
+    if text::byte_at(s, e) != b',' {
+        return Ok((e, m));
     }
+    read_list(s, e + 1, depth, m, writes, elements)
 }
 
-// The whole payload as one list; its elements are written, or only judged.
-fn read_whole(s: &[u8], writes: bool, elements: &mut [u64; pieces::NUMBERS]) -> Step
+// The whole payload as one list; its elements are written, or only judged. How many they are.
+#[tactic(auto, using(crate::specs::Told::whole_refused, crate::specs::Told::whole_stops, crate::specs::Told::whole_read))]
+fn read_whole(
+    s: &[u8],
+    writes: bool,
+    elements: &mut [u64; pieces::NUMBERS],
+) -> Result<usize, ListError>
     ensures { Whole s.now writes elements.old result elements.new }
 {
-    match read_list(s, 0, 0, 0, writes, elements) {
-        Step::Next(e, m) => {
-            if e < s.len() {
-                return Step::Refused(6, e);
-            }
-            Step::Next(e, m)
-        }
-        Step::Refused(k, p) => Step::Refused(k, p),
+    let (e, m) = read_list(s, 0, 0, 0, writes, elements)?;
+    if e < s.len() {
+        return Err(ListError::Malformed(e));
     }
+    Ok(m)
 }
 
 // Reads the payload of an answer behind its colon. Its elements stand at the front of the memory, in order, a list before its members; the rest of the memory stays.
 // Refused, nothing is written: so the payload is judged whole before it is read again to be written.
-pub fn read(payload: &[u8], elements: &mut [u64; pieces::NUMBERS]) -> Listed
+pub fn read(payload: &[u8], elements: &mut [u64; pieces::NUMBERS]) -> Result<usize, ListError>
     ensures { Reading payload.now elements.old result elements.new }
 {
-    match read_whole(payload, false, elements) {
-        Step::Next(_, _) => match read_whole(payload, true, elements) {
-            Step::Next(_, m) => Listed::Elements(m),
-            Step::Refused(k, p) => Listed::Refused(k, p),
-        },
-        Step::Refused(k, p) => Listed::Refused(k, p),
-    }
+    read_whole(payload, false, elements)?;
+    read_whole(payload, true, elements)
 }
