@@ -2,8 +2,7 @@
 // It promises only that it doesn't trip. What a payload holds is `lists::read`'s promise; how it is shown is held to tests/atlist. bin/atlist makes the status.
 #![tactic(auto)]
 
-use lists::Listed;
-use pieces::{Element, Kind};
+use pieces::{Element, Kind, NUMBERS};
 use std::io;
 
 // The longest payload; and that with a line ending and one byte more, so that a longer input is seen to be.
@@ -19,173 +18,139 @@ const COLUMNS: usize = 76;
 
 const BEFORE: usize = 38;
 
-// a - b, at least 0.
-fn minus(a: usize, b: usize) -> usize {
-    if a < b {
-        return 0;
+// What is to be printed: the first `at` bytes of the memory.
+#[derive(Drop)]
+struct Page {
+    mem: [u8; ROOM],
+    at: usize,
+}
+
+impl Page {
+    fn words(&mut self, t: &[u8]) {
+        self.at = ink::words(&mut self.mem, self.at, t);
     }
-    a - b
+
+    // A number behind a text.
+    fn behind(&mut self, t: &[u8], n: u64) {
+        self.words(t);
+        self.at = ink::decimal(&mut self.mem, self.at, n);
+    }
+
+    // The value of a number or a range; the text of a string, as it stands between the quotes: escapes are left, and of an empty string nothing is shown.
+    fn value(&mut self, payload: &[u8], e: Element) {
+        match e.kind {
+            Kind::Number => self.behind(b" ", e.low),
+            Kind::Range => {
+                self.behind(b" ", e.low);
+                self.behind(b"-", e.high);
+            }
+            Kind::String => {
+                let quoted = text::part(payload, e.place, e.end.saturating_sub(e.place));
+                if let [_, inner @ .., _] = quoted
+                    && !inner.is_empty()
+                {
+                    self.words(b" ");
+                    self.words(inner);
+                }
+            }
+            Kind::Empty | Kind::List => {}
+        }
+    }
+
+    // The line of an element.
+    fn line(&mut self, payload: &[u8], e: Element) {
+        self.behind(b"", e.place as u64);
+        self.behind(b" ", e.depth as u64);
+        self.words(name(e.kind));
+        self.value(payload, e);
+        self.words(b"\n");
+    }
+
+    // The payload, of a long one the part around the place, and under it the mark, which for the payload's end stands behind the last byte.
+    fn marked(&mut self, payload: &[u8], place: usize) {
+        let len = payload.len();
+        let from = place
+            .saturating_sub(BEFORE)
+            .min(len.saturating_sub(COLUMNS - 1));
+        let part = text::part(payload, from, len.saturating_sub(from).min(COLUMNS));
+        for b in part {
+            self.words(&[column(*b)]);
+        }
+        self.words(b"\n");
+        let blanks = [b' '; COLUMNS];
+        self.words(text::part(&blanks, 0, place.saturating_sub(from)));
+        self.words(b"^\n");
+    }
+
+    // A refusal: its number, its place, what it means, and the place marked.
+    fn refusal(&mut self, payload: &[u8], number: u32, place: usize) {
+        self.behind(b"refused ", number as u64);
+        self.behind(b" at ", place as u64);
+        self.words(meaning(number));
+        self.marked(payload, place);
+    }
 }
 
 // The input without the one line ending, LF or CRLF, that it may end in.
 fn payload_of(input: &[u8]) -> &[u8] {
-    let last = minus(input.len(), 1);
-    if text::byte_at(input, last) != b'\n' {
-        return input;
+    match input.strip_suffix(b"\n") {
+        Some(line) => line.strip_suffix(b"\r").unwrap_or(line),
+        None => input,
     }
-    let before = minus(last, 1);
-    if text::byte_at(input, before) != b'\r' {
-        return text::part(input, 0, last);
-    }
-    text::part(input, 0, before)
-}
-
-// A space and a number.
-fn and_number(out: &mut [u8], at: usize, n: u64) -> usize {
-    let from = ink::words(out, at, b" ");
-    ink::decimal(out, from, n)
-}
-
-// A range, by its two numbers.
-fn range(out: &mut [u8], at: usize, low: u64, high: u64) -> usize {
-    let first = and_number(out, at, low);
-    let from = ink::words(out, first, b"-");
-    ink::decimal(out, from, high)
-}
-
-// What stands between the quotes of a string, as it stands there: escapes are left. Of an empty string nothing, and no space before it.
-fn between_quotes(out: &mut [u8], at: usize, quoted: &[u8]) -> usize {
-    if quoted.len() <= 2 {
-        return at;
-    }
-    let from = ink::words(out, at, b" ");
-    ink::words(out, from, text::part(quoted, 1, quoted.len() - 2))
 }
 
 // The kind's name, a space before it.
-fn name(out: &mut [u8], at: usize, kind: Kind) -> usize {
+fn name(kind: Kind) -> &'static [u8] {
     match kind {
-        Kind::Empty => ink::words(out, at, b" empty"),
-        Kind::Number => ink::words(out, at, b" number"),
-        Kind::Range => ink::words(out, at, b" range"),
-        Kind::String => ink::words(out, at, b" string"),
-        Kind::List => ink::words(out, at, b" list"),
+        Kind::Empty => b" empty",
+        Kind::Number => b" number",
+        Kind::Range => b" range",
+        Kind::String => b" string",
+        Kind::List => b" list",
     }
-}
-
-// The value of a number or a range, the text of a string.
-fn value(out: &mut [u8], at: usize, payload: &[u8], e: Element) -> usize {
-    let kind = e.kind;
-    match kind {
-        Kind::Empty => at,
-        Kind::Number => and_number(out, at, e.low),
-        Kind::Range => range(out, at, e.low, e.high),
-        Kind::String => between_quotes(
-            out,
-            at,
-            text::part(payload, e.place, minus(e.end, e.place)),
-        ),
-        Kind::List => at,
-    }
-}
-
-// The line of an element.
-fn line(out: &mut [u8], at: usize, payload: &[u8], e: Element) -> usize {
-    let kind = e.kind;
-    let placed = ink::decimal(out, at, e.place as u64);
-    let deep = and_number(out, placed, e.depth as u64);
-    let named = name(out, deep, kind);
-    let valued = value(out, named, payload, e);
-    ink::words(out, valued, b"\n")
-}
-
-// The lines of so many elements.
-fn lines(out: &mut [u8], payload: &[u8], elements: &[u64; pieces::NUMBERS], count: usize) -> usize {
-    let mut at = 0;
-    let mut i = 0;
-    while i < count {
-        at = line(out, at, payload, pieces::element_at(elements, i));
-        i += 1;
-    }
-    at
 }
 
 // What a refusal's number means, in words.
-fn meaning(out: &mut [u8], at: usize, number: u32) -> usize {
+fn meaning(number: u32) -> &'static [u8] {
     match number {
-        6 => ink::words(out, at, b": malformed: the grammar can't go on here\n"),
-        7 => ink::words(out, at, b": too deep: a bracket opens within 4 others\n"),
-        8 => ink::words(out, at, b": number too large: over 4,294,967,295\n"),
-        _ => ink::words(out, at, b": too many elements: this one is over 256\n"),
+        6 => b": malformed: the grammar can't go on here\n",
+        7 => b": too deep: a bracket opens within 4 others\n",
+        8 => b": number too large: over 4,294,967,295\n",
+        _ => b": too many elements: this one is over 256\n",
     }
 }
 
 // A byte in one column: itself where it can be printed, else `?`.
 fn column(b: u8) -> u8 {
-    if b < 0x20 {
-        return b'?';
-    }
-    if 0x7E < b {
-        return b'?';
-    }
-    b
+    if matches!(b, b' '..=b'~') { b } else { b'?' }
 }
 
-// Bytes in one column each.
-fn columns(out: &mut [u8], at: usize, s: &[u8]) -> usize {
-    let mut used = at;
-    let mut i = 0;
-    while i < s.len() {
-        let one = [column(s[i])];
-        used = ink::words(out, used, &one);
-        i += 1;
-    }
-    used
-}
-
-// The payload, of a long one the part around the place, and under it the mark, which for the payload's end stands behind the last byte.
-fn marked(out: &mut [u8], at: usize, payload: &[u8], place: usize) -> usize {
-    let len = payload.len();
-    let from = text::fitting(minus(place, BEFORE), minus(len, COLUMNS - 1));
-    let part = text::part(payload, from, text::fitting(minus(len, from), COLUMNS));
-    let shown = columns(out, at, part);
-    let ended = ink::words(out, shown, b"\n");
-    let blanks = [b' '; COLUMNS];
-    let under = ink::words(out, ended, text::part(&blanks, 0, minus(place, from)));
-    ink::words(out, under, b"^\n")
-}
-
-// A refusal: its number, its place, what it means, and the place marked.
-fn refusal(out: &mut [u8], payload: &[u8], number: u32, place: usize) -> usize {
-    let refused = ink::words(out, 0, b"refused");
-    let numbered = and_number(out, refused, number as u64);
-    let behind = ink::words(out, numbered, b" at");
-    let placed = and_number(out, behind, place as u64);
-    let meant = meaning(out, placed, number);
-    marked(out, meant, payload, place)
-}
-
-// What is printed of a payload, at the front of the memory; and how long it is.
-fn report(payload: &[u8], out: &mut [u8]) -> usize {
+// What is printed of a payload.
+fn report(page: &mut Page, payload: &[u8]) {
     if LONGEST < payload.len() {
-        return ink::words(out, 0, b"too long\n");
+        page.words(b"too long\n");
+        return;
     }
-    let mut elements = [0u64; pieces::NUMBERS];
+    let mut elements = [0; NUMBERS];
     match lists::read(payload, &mut elements) {
-        Listed::Elements(count) => {
-            let listed = lines(out, payload, &elements, count);
-            let worded = ink::words(out, listed, b"elements");
-            let counted = and_number(out, worded, count as u64);
-            ink::words(out, counted, b"\n")
+        Ok(count) => {
+            for i in 0..count {
+                page.line(payload, pieces::element_at(&elements, i));
+            }
+            page.behind(b"elements ", count as u64);
+            page.words(b"\n");
         }
-        Listed::Refused(number, place) => refusal(out, payload, number, place),
+        Err((number, place)) => page.refusal(payload, number, place),
     }
 }
 
 fn main(rt: HostRuntime) -> io::Result<()> {
-    let mut input = [0u8; INPUT];
+    let mut input = [0; INPUT];
     let n = intake::read_full(&mut rt.stdin(), &mut input)?;
-    let mut out = [0u8; ROOM];
-    let k = report(payload_of(text::part(&input, 0, n)), &mut out);
-    rt.write_all(text::part(&out, 0, k))
+    let mut page = Page {
+        mem: [0; ROOM],
+        at: 0,
+    };
+    report(&mut page, payload_of(&input[..n]));
+    rt.write_all(text::part(&page.mem, 0, page.at))
 }

@@ -5,10 +5,10 @@ use std::io;
 
 fn main(rt: HostRuntime) -> io::Result<()> {
     // One byte more than the longest input, so that a longer one is seen to be.
-    let mut input = [0u8; 4097];
+    let mut input = [0; 4097];
     let n = intake::read_full(&mut rt.stdin(), &mut input)?;
-    let mut out = [0u8; 229376];
-    if let Ok(k) = report::report(text::part(&input, 0, n), &mut out) {
+    let mut out = [0; report::ROOM];
+    if let Ok(k) = report::report(&input[..n], &mut out) {
         rt.write_all(text::part(&out, 0, k))?;
     }
     Ok(())

@@ -4,7 +4,7 @@
 #![tactic(auto)]
 
 use answers::Kind;
-use fields::Memory;
+use fields::{LENGTH, Memory};
 use std::io;
 use table::TableError;
 use text::Blanks;
@@ -24,7 +24,7 @@ const ROOM: usize = 196608;
 enum Fault {
     Word,
     Number,
-    Result<usize, Misspelt>(Misspelt),
+    Payload(Misspelt),
     Behind,
     Hex,
     LateTable,
@@ -35,6 +35,29 @@ enum Fault {
     Short,
 }
 
+impl From<Misspelt> for Fault {
+    fn from(m: Misspelt) -> Fault {
+        Fault::Payload(m)
+    }
+}
+
+impl From<TableError> for Fault {
+    fn from(e: TableError) -> Fault {
+        let TableError::Faulty(k) = e;
+        Fault::BadTable(k)
+    }
+}
+
+impl From<SayError> for Fault {
+    fn from(e: SayError) -> Fault {
+        match e {
+            SayError::BadTable(k) => Fault::BadTable(k),
+            SayError::Unread => Fault::Unread,
+            SayError::Short => Fault::Short,
+        }
+    }
+}
+
 // Before the table, behind it, behind an answer.
 #[derive(Clone, Copy)]
 enum Stage {
@@ -43,327 +66,189 @@ enum Stage {
     Answered,
 }
 
-// How far the script has come: the table's length, and how many bytes the answers have.
-#[derive(Clone, Copy)]
-struct Far {
+// A script on its way: how far it has come, its table, the memory of a payload, and the answers written one behind the other.
+#[derive(Drop)]
+struct Script {
     stage: Stage,
-    table: usize,
+    table: Memory,
+    table_len: usize,
+    payload: Memory,
+    out: [u8; ROOM],
     written: usize,
-}
-
-// The script goes on behind a line, or the line is wrong.
-#[derive(Clone, Copy)]
-enum Taken {
-    On(Far),
-    Not(Fault),
-}
-
-// How many bytes all the answers have, or the number of the line that is wrong.
-#[derive(Clone, Copy)]
-enum Ended {
-    Is(usize),
-    Not(usize, Fault),
-}
-
-// A number, where the kind has one, and where the payload begins.
-#[derive(Clone, Copy)]
-enum Numbered {
-    Is(Option<u32>, usize),
-    Not,
 }
 
 // Is an answer of the kind ever written? What else stands in its line isn't looked at where it isn't.
 fn is_written(kind: Kind) -> bool {
-    match kind {
-        Kind::None => false,
-        Kind::Unknown => false,
-        Kind::NotAllowed => false,
-        Kind::Custom => false,
-        _ => true,
-    }
+    !matches!(
+        kind,
+        Kind::None | Kind::Unknown | Kind::NotAllowed | Kind::Custom
+    )
 }
 
 fn has_payload(kind: Kind) -> bool {
-    match kind {
-        Kind::Ok => true,
-        Kind::Notice => true,
-        _ => false,
+    matches!(kind, Kind::Ok | Kind::Notice)
+}
+
+// The first word, and what stands behind the spaces behind it.
+fn first_word(s: &[u8]) -> (&[u8], &[u8]) {
+    let Some((word, rest)) = fields::split_once(s, b' ') else {
+        return (s, b"");
+    };
+    match rest.iter().position(|b| *b != b' ') {
+        Some(from) => (word, &rest[from..]),
+        None => (word, b""),
     }
 }
 
-// The number that stands in a line from `from` on, where the kind has one.
-fn number_at(line: &[u8], from: usize, kind: Kind) -> Numbered {
+// The number at the front, where the kind has one, and what stands behind it.
+fn number_first(kind: Kind, s: &[u8]) -> Result<(Option<u32>, &[u8]), Fault> {
     if !answers::has_number(kind) {
-        return Numbered::Is(None, from);
+        return Ok((None, s));
     }
-    let end = fields::seek(line, from, b' ');
-    match words::number(fields::between(line, from, end)) {
-        None => Numbered::Not,
-        Some(n) => Numbered::Is(Some(n), text::skip(Blanks::Space, line, end)),
-    }
+    let (word, rest) = first_word(s);
+    let n = words::number(word).ok_or(Fault::Number)?;
+    Ok((Some(n), rest))
 }
 
-// The table, once, before any answer.
-fn take_table(far: Far, s: &[u8], table: &mut Memory) -> Taken {
-    let stage = far.stage;
-    match stage {
-        Stage::Begun => check_table(far, s, table),
-        Stage::Tabled => Taken::Not(Fault::SecondTable),
-        Stage::Answered => Taken::Not(Fault::LateTable),
-    }
-}
-
-// The table's bytes, into its memory.
-fn check_table(far: Far, s: &[u8], table: &mut Memory) -> Taken {
-    let Some(n) = data::plain(s, table, 0) else {
-        return Taken::Not(Fault::Hex);
-    };
-    if let Err(TableError::Faulty(k)) = table::check(text::part(table, 0, n)) {
-        return Taken::Not(Fault::BadTable(k));
-    }
-    Taken::On(Far {
-        stage: Stage::Tabled,
-        table: n,
-        written: far.written,
-    })
-}
-
-// An answer, written behind those before it.
-fn put(far: Far, table: &[u8], kind: Kind, number: Option<u32>, payload: &[u8], out: &mut [u8]) -> Taken {
-    let at = far.written;
-    if out.len() < at {
-        return Taken::Not(Fault::Short);
-    }
-    match writer::say(table, kind, number, payload, &mut out[at..]) {
-        Err(SayError::BadTable(k)) => Taken::Not(Fault::BadTable(k)),
-        Err(SayError::Unread) => Taken::Not(Fault::Unread),
-        Err(SayError::Short) => Taken::Not(Fault::Short),
-        Ok(n) => Taken::On(Far {
-            stage: Stage::Answered,
-            table: far.table,
-            written: fields::plus(at, n),
-        }),
-    }
-}
-
-// An answer of a kind, what stands in its line from `from` on being its number and its payload.
-fn take_answer(
-    far: Far,
-    kind: Kind,
-    line: &[u8],
-    from: usize,
-    table: &Memory,
-    mem: &mut Memory,
-    out: &mut [u8],
-) -> Taken {
-    let Numbered::Is(number, behind) = number_at(line, from, kind) else {
-        return Taken::Not(Fault::Number);
-    };
-    let rest = fields::between(line, behind, line.len());
-    if 0 < rest.len() {
-        if !has_payload(kind) {
-            return Taken::Not(Fault::Behind);
+impl Script {
+    // The table, once, before any answer.
+    fn take_table(&mut self, s: &[u8]) -> Result<(), Fault> {
+        match self.stage {
+            Stage::Begun => {}
+            Stage::Tabled => return Err(Fault::SecondTable),
+            Stage::Answered => return Err(Fault::LateTable),
         }
+        let n = data::plain(s, &mut self.table).ok_or(Fault::Hex)?;
+        table::check(text::part(&self.table, 0, n))?;
+        self.stage = Stage::Tabled;
+        self.table_len = n;
+        Ok(())
     }
-    match words::payload_of(rest, mem) {
-        Err(m) => Taken::Not(Fault::Payload(m)),
-        Ok(n) => put(
-            far,
-            text::part(table, 0, far.table),
-            kind,
-            number,
-            text::part(mem, 0, n),
-            out,
-        ),
-    }
-}
 
-// A line without the blanks around it, which is no comment.
-fn take_words(
-    far: Far,
-    line: &[u8],
-    table: &mut Memory,
-    mem: &mut Memory,
-    out: &mut [u8],
-) -> Taken {
-    let end = fields::seek(line, 0, b' ');
-    let word = fields::between(line, 0, end);
-    let from = text::skip(Blanks::Space, line, end);
-    if words::is_word(word, b"table") {
-        return take_table(far, fields::between(line, from, line.len()), table);
+    // An answer of a kind, of which s has its number and its payload, written behind those before it.
+    fn take_answer(&mut self, kind: Kind, s: &[u8]) -> Result<(), Fault> {
+        let (number, rest) = number_first(kind, s)?;
+        if !rest.is_empty() && !has_payload(kind) {
+            return Err(Fault::Behind);
+        }
+        let payload = words::payload_of(rest, &mut self.payload)?;
+        let table = text::part(&self.table, 0, self.table_len);
+        let out = self.out.get_mut(self.written..).ok_or(Fault::Short)?;
+        let n = writer::say(table, kind, number, payload, out)?;
+        self.written = self.written.saturating_add(n);
+        self.stage = Stage::Answered;
+        Ok(())
     }
-    let Some(kind) = words::kind_named(word) else {
-        return Taken::Not(Fault::Word);
-    };
-    if !is_written(kind) {
-        return Taken::Not(Fault::OtherKind);
-    }
-    take_answer(far, kind, line, from, table, mem, out)
-}
 
-// Any line.
-fn take_line(far: Far, line: &[u8], table: &mut Memory, mem: &mut Memory, out: &mut [u8]) -> Taken {
-    let t = text::trim(Blanks::Run, line);
-    let words = text::part(line, t.start, t.len);
-    if words.len() == 0 {
-        return Taken::On(far);
+    // Any line. Blank ones and comments are passed over.
+    fn take_line(&mut self, line: &[u8]) -> Result<(), Fault> {
+        let t = text::trim(Blanks::Run, line);
+        let line = text::part(line, t.start, t.len);
+        if line.is_empty() || line.starts_with(b"#") {
+            return Ok(());
+        }
+        let (word, rest) = first_word(line);
+        if matches!(word, b"table") {
+            return self.take_table(rest);
+        }
+        let kind = words::kind_named(word).ok_or(Fault::Word)?;
+        if !is_written(kind) {
+            return Err(Fault::OtherKind);
+        }
+        self.take_answer(kind, rest)
     }
-    if text::byte_at(words, 0) == b'#' {
-        return Taken::On(far);
-    }
-    take_words(far, words, table, mem, out)
-}
 
-// All lines, the answers written one behind the other.
-fn take_lines(input: &[u8], table: &mut Memory, mem: &mut Memory, out: &mut [u8]) -> Ended {
-    let mut far = Far {
-        stage: Stage::Begun,
-        table: 0,
-        written: 0,
-    };
-    let mut from = 0;
-    let mut line = 0;
-    let mut left = fields::parts(input, b'\n');
-    while 0 < left {
-        let to = fields::seek(input, from, b'\n');
-        match take_line(far, fields::between(input, from, to), table, mem, out) {
-            Taken::Not(f) => {
-                return Ended::Not(line, f);
-            }
-            Taken::On(next) => {
-                far = next;
+    // All lines; or the number of the line that is wrong.
+    fn take_lines(&mut self, input: &[u8]) -> Result<(), (usize, Fault)> {
+        for (number, line) in input.split(|b| *b == b'\n').enumerate() {
+            if let Err(f) = self.take_line(line) {
+                return Err((number, f));
             }
         }
-        from = fields::plus(to, 1);
-        line = fields::plus(line, 1);
-        left -= 1;
+        Ok(())
     }
-    Ended::Is(far.written)
-}
-
-fn tell(rt: &impl Eprint, t: &str) -> io::Result<()> {
-    rt.eprint(t)
 }
 
 // What is wrong with a payload.
-fn tell_misspelt(rt: &impl Eprint, m: Misspelt) -> io::Result<()> {
+fn misspelt(m: Misspelt) -> &'static str {
     match m {
-        Misspelt::Hex => tell(
-            rt,
-            "its payload must be HEX, two digits a byte, or text in double quotes",
-        ),
-        Misspelt::Unclosed => tell(rt, "its text has no closing quote"),
-        Misspelt::Unprintable => tell(
-            rt,
-            "its text has a byte that can not be printed; HEX takes any byte",
-        ),
-        Misspelt::Escape => tell(
-            rt,
-            "a backslash in its text may only begin \\r \\n \\\" \\\\",
-        ),
-        Misspelt::Behind => tell(rt, "something stands behind its end"),
-        Misspelt::Long => tell(rt, "its payload is longer than there is memory for"),
+        Misspelt::Hex => "its payload must be HEX, two digits a byte, or text in double quotes",
+        Misspelt::Unclosed => "its text has no closing quote",
+        Misspelt::Unprintable => "its text has a byte that can not be printed; HEX takes any byte",
+        Misspelt::Escape => "a backslash in its text may only begin \\r \\n \\\" \\\\",
+        Misspelt::Behind => "something stands behind its end",
+        Misspelt::Long => "its payload is longer than there is memory for",
     }
 }
 
 // What is wrong in a line that doesn't read.
-fn tell_misread(rt: &impl Eprint, f: Fault) -> io::Result<()> {
+fn misread(f: Fault) -> &'static str {
     match f {
-        Fault::Word => tell(
-            rt,
-            "its first word is none of ok cme cms error nocarrier busy noanswer nodialtone prompt notice table",
-        ),
-        Fault::Number => tell(
-            rt,
-            "its number must be decimal, at most 4,294,967,295, with no zero in front",
-        ),
-        Fault::Payload(m) => tell_misspelt(rt, m),
-        Fault::Behind => tell(rt, "something stands behind its end"),
-        Fault::Hex => tell(rt, "its table must be HEX, two digits a byte"),
-        Fault::LateTable => tell(rt, "a table must stand before the first answer"),
-        Fault::SecondTable => tell(
-            rt,
-            "a table was given before, in the options or in a line above",
-        ),
-        _ => tell(rt, "the answers are longer than there is memory for"),
+        Fault::Word => {
+            "its first word is none of ok cme cms error nocarrier busy noanswer nodialtone prompt notice table"
+        }
+        Fault::Number => "its number must be decimal, at most 4,294,967,295, with no zero in front",
+        Fault::Payload(m) => misspelt(m),
+        Fault::Behind => "something stands behind its end",
+        Fault::Hex => "its table must be HEX, two digits a byte",
+        Fault::LateTable => "a table must stand before the first answer",
+        Fault::SecondTable => "a table was given before, in the options or in a line above",
+        _ => "the answers are longer than there is memory for",
     }
-}
-
-fn tell_refusal(rt: &impl Eprint, number: u64) -> io::Result<()> {
-    tell(rt, "refused ")?;
-    rt.eprint(number)?;
-    tell(rt, ": ")
 }
 
 // Why a line is wrong.
 fn tell_why(rt: &impl Eprint, f: Fault) -> io::Result<()> {
     match f {
         Fault::BadTable(k) => {
-            tell_refusal(rt, 2)?;
-            tell(rt, "the table is faulty in its record ")?;
-            rt.eprint(k)?;
-            tell(rt, ", counted from 0")?;
+            eprintln!(rt; "refused 2: the table is faulty in its record {k}, counted from 0")
         }
-        Fault::OtherKind => {
-            tell_refusal(rt, 16)?;
-            tell(rt, "answers of this kind are not written")?;
-        }
-        Fault::Unread => {
-            tell_refusal(rt, 16)?;
-            tell(rt, "it would not be read back so")?;
-        }
+        Fault::OtherKind => eprintln!(rt; "refused 16: answers of this kind are not written"),
+        Fault::Unread => eprintln!(rt; "refused 16: it would not be read back so"),
         _ => {
-            tell(rt, "it does not read: ")?;
-            tell_misread(rt, f)?;
+            let why = misread(f);
+            eprintln!(rt; "it does not read: {why}")
         }
     }
-    tell(rt, "\n")
 }
 
-// Which line it is. Line 0 is that of the options.
-fn tell_line(rt: &impl Eprint, line: usize) -> io::Result<()> {
-    if line == 0 {
-        return tell(rt, "the options: ");
-    }
-    tell(rt, "line ")?;
-    rt.eprint(line)?;
-    tell(rt, ": ")
-}
-
-// Writes the answers, or tells what is wrong.
+// Writes the answers, or tells which line is wrong and why. Line 0 is that of the options.
 fn answer(rt: &(impl Print + Eprint), input: &[u8]) -> io::Result<()> {
-    let mut table = [0u8; fields::LENGTH];
-    let mut mem = [0u8; fields::LENGTH];
-    let mut out = [0u8; ROOM];
-    match take_lines(input, &mut table, &mut mem, &mut out) {
-        Ended::Not(line, f) => {
-            tell_line(rt, line)?;
-            tell_why(rt, f)
+    let mut script = Script {
+        stage: Stage::Begun,
+        table: [0; LENGTH],
+        table_len: 0,
+        payload: [0; LENGTH],
+        out: [0; ROOM],
+        written: 0,
+    };
+    if let Err((line, f)) = script.take_lines(input) {
+        if line == 0 {
+            rt.eprint("the options: ")?;
+        } else {
+            eprint!(rt; "line {line}: ")?;
         }
-        Ended::Is(n) => {
-            if rt.write_all(text::part(&out, 0, n)).is_err() {
-                tell(rt, "the answers could not be written\n")?;
-            }
-            Ok(())
-        }
+        return tell_why(rt, f);
     }
+    let written = text::part(&script.out, 0, script.written);
+    if rt.write_all(written).is_err() {
+        rt.eprint("the answers could not be written\n")?;
+    }
+    Ok(())
 }
 
 // Is the script, which begins behind line 0, too long? So is an input that fills its memory.
 fn is_long(input: &[u8]) -> bool {
-    if INPUT <= input.len() {
-        return true;
-    }
-    let script = fields::plus(fields::seek(input, 0, b'\n'), 1);
-    LONGEST < fields::between(input, script, input.len()).len()
+    INPUT <= input.len()
+        || fields::split_once(input, b'\n').is_some_and(|(_, script)| LONGEST < script.len())
 }
 
 fn main(rt: HostRuntime) -> io::Result<()> {
-    let mut input = [0u8; INPUT];
+    let mut input = [0; INPUT];
     let n = intake::read_full(&mut rt.stdin(), &mut input)?;
-    let all = text::part(&input, 0, n);
+    let all = &input[..n];
     if is_long(all) {
-        return tell(&rt, "the script is over 65,536 bytes\n");
+        return rt.eprint("the script is over 65,536 bytes\n");
     }
     answer(&rt, all)
 }

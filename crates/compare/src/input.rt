@@ -5,107 +5,64 @@ use std::io::Read;
 use text::Blanks;
 
 // Where the reading stands: the bytes of the chunk from `from` up to `to` wait, and `len` bytes of a line are gathered.
-#[derive(Clone, Copy)]
-pub struct Input {
-    pub from: usize,
-    pub to: usize,
-    pub len: usize,
-    pub is_whole: bool,
+#[derive(Drop)]
+pub struct Input<S> {
+    source: S,
+    chunk: Memory,
+    from: usize,
+    to: usize,
+    line: Memory,
+    len: usize,
     pub is_over: bool,
 }
 
-// Nothing read.
-pub fn fresh() -> Input {
-    Input {
-        from: 0,
-        to: 0,
-        len: 0,
-        is_whole: false,
-        is_over: false,
-    }
-}
-
-// How many gathered bytes the line goes on from: none where a whole line was answered.
-fn kept(now: Input) -> usize {
-    let is_whole = now.is_whole;
-    if is_whole {
-        return 0;
-    }
-    now.len
-}
-
-// Gathers one more byte of the line; past the memory it is dropped, and the line, which fills it, is too long.
-fn keep(line: &mut Memory, len: usize, b: u8) -> usize {
-    if len < LENGTH {
-        line[len] = b;
-        return len + 1;
-    }
-    len
-}
-
-// Gathers the bytes of the chunk up to the next line end, or all of them.
-fn gather(chunk: &[u8], line: &mut Memory, now: Input) -> Input {
-    let to = now.to;
-    let mut from = now.from;
-    let mut len = kept(now);
-    while from < to {
-        let b = text::byte_at(chunk, from);
-        from += 1;
-        if b == b'\n' {
-            return Input {
-                from: from,
-                to: to,
-                len: len,
-                is_whole: true,
-                is_over: false,
-            };
+impl<S: Read> Input<S> {
+    // Nothing read.
+    pub fn new(source: S) -> Input<S> {
+        Input {
+            source,
+            chunk: [0; LENGTH],
+            from: 0,
+            to: 0,
+            line: [0; LENGTH],
+            len: 0,
+            is_over: false,
         }
-        len = keep(line, len, b);
     }
-    Input {
-        from: from,
-        to: to,
-        len: len,
-        is_whole: false,
-        is_over: false,
-    }
-}
 
-// Where the chunk is used up before the line's end, reads the next one; where none is left the line counts as whole, and the input is over.
-fn refill(source: &mut impl Read, chunk: &mut Memory, now: Input) -> io::Result<Input> {
-    let is_whole = now.is_whole;
-    if is_whole {
-        return Ok(now);
+    // Gathers the bytes of the chunk up to the next line end, or all of them, and answers whether the line is whole.
+    // Past the memory they are dropped, and the line, which fills it, is too long.
+    fn gather(&mut self) -> bool {
+        let from = self.from;
+        let len = self.len;
+        let rest = text::part(&self.chunk, from, self.to.saturating_sub(from));
+        let end = rest.iter().position(|b| *b == b'\n');
+        let n = end.unwrap_or(rest.len());
+        let kept = text::part(rest, 0, n.min(LENGTH.saturating_sub(len)));
+        self.len = len.saturating_add(kept.len());
+        self.from = from.saturating_add(n).saturating_add(1);
+        moves::put(&mut self.line, len, kept);
+        end.is_some()
     }
-    let n = source.read(chunk)?;
-    let is_over = n == 0;
-    Ok(Input {
-        from: 0,
-        to: n,
-        len: now.len,
-        is_whole: is_over,
-        is_over: is_over,
-    })
-}
 
-// Gathers to the next line's end, or comes as far as the next chunk.
-pub fn read_on(
-    source: &mut impl Read,
-    chunk: &mut Memory,
-    line: &mut Memory,
-    now: Input,
-) -> io::Result<Input> {
-    let gathered = gather(chunk, line, now);
-    refill(source, chunk, gathered)
+    // Gathers to the next line's end, or comes as far as the next chunk; the line once it is whole. Where no chunk is left the line counts as whole, and the input is over.
+    pub fn read_on(&mut self) -> io::Result<Option<&[u8]>> {
+        if !self.gather() {
+            self.to = self.source.read(&mut self.chunk)?;
+            self.from = 0;
+            if self.to != 0 {
+                return Ok(None);
+            }
+            self.is_over = true;
+        }
+        let len = self.len;
+        self.len = 0;
+        Ok(Some(text::part(&self.line, 0, len)))
+    }
 }
 
 // Is the line a comment, or blank? One that fills the memory is too long, and may go on with anything.
 pub fn is_idle(line: &[u8]) -> bool {
-    if text::byte_at(line, 0) == b'#' {
-        return true;
-    }
-    if line.len() == LENGTH {
-        return false;
-    }
-    text::skip(Blanks::Run, line, 0) == line.len()
+    line.starts_with(b"#")
+        || line.len() != LENGTH && text::skip(Blanks::Run, line, 0) == line.len()
 }

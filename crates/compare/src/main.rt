@@ -3,94 +3,54 @@
 
 mod input;
 
-use fields::Memory;
 use input::Input;
+use say::Out;
+use script::Room;
 use std::io;
 use std::io::Read;
 
-// Answers the gathered line once it is whole, unless it is to be skipped.
-fn answer_line(
-    rt: &impl Print,
-    now: Input,
-    line: &Memory,
-    piece: &mut Memory,
-    table: &mut Memory,
-    buf: &mut Memory,
-    slot_mem: &mut Memory,
-    queue_mem: &mut Memory,
-    out: &mut Memory,
-    at: usize,
-) -> io::Result<usize> {
-    let is_whole = now.is_whole;
-    if !is_whole {
-        return Ok(at);
-    }
-    let whole = text::part(line, 0, now.len);
-    if input::is_idle(whole) {
-        return Ok(at);
-    }
-    script::answer(rt, whole, piece, table, buf, slot_mem, queue_mem, out, at)
-}
-
-// Reads on until the input is over; the turns end too, after more than any run uses up. What is still to be written of the answers is told; where the input can't be
-// read on, those up to there are written first.
-fn all_lines(
-    rt: &impl Print,
-    source: &mut impl Read,
-    chunk: &mut Memory,
-    line: &mut Memory,
-    piece: &mut Memory,
-    table: &mut Memory,
-    buf: &mut Memory,
-    slot_mem: &mut Memory,
-    queue_mem: &mut Memory,
-    out: &mut Memory,
-) -> io::Result<usize> {
-    let mut now = input::fresh();
-    let mut at = 0;
-    let mut turns = u64::MAX;
-    while 0 < turns {
-        match input::read_on(source, chunk, line, now) {
-            Ok(next) => {
-                now = next;
+// Answers each line that isn't to be skipped, until the input is over; the turns end too, after more than any run uses up. Where the input can't be read on, the
+// answers up to there are written first.
+fn all_lines<R: Print, S: Read>(
+    out: &mut Out<'_, R>,
+    input: &mut Input<S>,
+    room: &mut Room<'_>,
+) -> io::Result<()> {
+    for _ in 0..u64::MAX {
+        match input.read_on() {
+            Ok(Some(line)) => {
+                if !input::is_idle(line) {
+                    script::answer(out, line, room)?;
+                }
             }
+            Ok(None) => {}
             Err(e) => {
-                say::flush(rt, out, at)?;
+                out.flush()?;
                 return Err(e);
             }
         }
-        at = answer_line(
-            rt, now, line, piece, table, buf, slot_mem, queue_mem, out, at,
-        )?;
-        let is_over = now.is_over;
-        if is_over {
-            return Ok(at);
+        if input.is_over {
+            break;
         }
-        turns -= 1;
     }
-    Ok(at)
+    out.flush()
 }
 
 fn main(rt: HostRuntime) -> io::Result<()> {
-    let mut chunk = [0u8; fields::LENGTH];
-    let mut line = [0u8; fields::LENGTH];
     let mut piece = [0u8; fields::LENGTH];
     let mut table = [0u8; fields::LENGTH];
     let mut buf = [0u8; fields::LENGTH];
-    let mut slot_mem = [0u8; fields::LENGTH];
-    let mut queue_mem = [0u8; fields::LENGTH];
-    let mut out = [0u8; fields::LENGTH];
-    let at = all_lines(
-        &rt,
-        &mut rt.stdin(),
-        &mut chunk,
-        &mut line,
-        &mut piece,
-        &mut table,
-        &mut buf,
-        &mut slot_mem,
-        &mut queue_mem,
-        &mut out,
-    )?;
-    say::flush(&rt, &out, at)
+    let mut slot = [0u8; fields::LENGTH];
+    let mut queue = [0u8; fields::LENGTH];
+    let mut gathered = [0u8; fields::LENGTH];
+    let mut room = Room {
+        piece: &mut piece,
+        table: &mut table,
+        buf: &mut buf,
+        slot: &mut slot,
+        queue: &mut queue,
+    };
+    let mut out = Out::new(&rt, &mut gathered);
+    let mut input = Input::new(rt.stdin());
+    all_lines(&mut out, &mut input, &mut room)
 }

@@ -2,40 +2,26 @@
 // so the tests run this under a limit of 1 MiB.
 #![tactic(auto)]
 
+use answers::DigestError;
 use lines::Digester;
 use std::io;
 
-// CR at each even place, LF at each odd one.
-fn byte_at(i: usize) -> u8 {
-    if i % 2 == 0 {
-        return b'\r';
-    }
-    b'\n'
-}
-
-// Fills the buffer with CRLF, again and again.
-fn fill(buf: &mut [u8]) {
-    let mut i = 0;
-    while i < buf.len() {
-        buf[i] = byte_at(i);
-        i += 1;
-    }
-}
-
 fn main(rt: HostRuntime) -> io::Result<()> {
-    let mut buf = [0u8; 4096];
-    fill(&mut buf);
+    let mut buf = [0; 4096];
+    for pair in buf.chunks_exact_mut(2) {
+        pair.copy_from_slice(b"\r\n");
+    }
     match digest::digest(Digester::Verbose, b"", &buf) {
         Ok(a) => {
-            if answers::is_found(a) {
-                rt.write_all(b"4096 bytes of CRLF: found something, ")?;
+            let heard = if answers::is_found(a) {
+                "found something"
             } else {
-                rt.write_all(b"4096 bytes of CRLF: None, ")?;
-            }
-            rt.print(a.consumed)?;
-            rt.write_all(b"\n")
+                "None"
+            };
+            let consumed = a.consumed;
+            println!(rt; "4096 bytes of CRLF: {heard}, {consumed}")
         }
-        Err(DigestError::TooLong) => rt.write_all(b"refused 1\n"),
-        Err(DigestError::BadTable(_)) => rt.write_all(b"refused 2\n"),
+        Err(DigestError::TooLong) => println!(rt; "refused 1"),
+        Err(DigestError::BadTable(_)) => println!(rt; "refused 2"),
     }
 }

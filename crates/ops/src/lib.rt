@@ -1,4 +1,4 @@
-// An op of a script, done through the public calls, and its answer said. It is part of a harness and promises only that it doesn't trip.
+// A script of ops, done through the public calls, and the answers said. It is part of a harness and promises only that it doesn't trip.
 #![tactic(auto)]
 
 use answers::Kind;
@@ -7,16 +7,17 @@ use findings::NUMBERS;
 use ingress::{AdvanceError, WriteError};
 use notation::op::Op;
 use queue::{Notice, TakeError};
+use say::Out;
 use selector::Selector;
 use slot::{Held, Looked, ResetError, Slot, SlotError};
 use std::io;
-use turn::State;
+use turn::{Memories, State};
 
 // What an op answered. Full is refusal 5 of a write, with the bytes taken.
 #[derive(Clone, Copy)]
 enum Answered {
     Took(usize),
-    Result<State, AdvanceError>,
+    Advanced,
     Done,
     Nothing,
     Notice(Notice),
@@ -26,323 +27,254 @@ enum Answered {
     Full(usize),
 }
 
-// What an op answered, and the state that it left.
-#[derive(Clone, Copy)]
-struct Left {
-    state: State,
-    outcome: Answered,
+// A script on its way: the state so far, whether an op with findings was among those done, the findings, and what each call is made with.
+#[derive(Drop)]
+pub struct Run<'a> {
+    pub now: State,
+    pub fed: bool,
+    pub numbers: [u64; NUMBERS],
+    pub selector: Selector,
+    pub table: &'a [u8],
+    pub memories: Memories<'a>,
 }
 
-fn leaving(s: State, o: Answered) -> Left {
-    Left {
-        state: s,
-        outcome: o,
+impl<'a> Run<'a> {
+    // At its start, with the findings in what the buffer holds.
+    pub fn new(
+        start: State,
+        selector: Selector,
+        table: &'a [u8],
+        memories: Memories<'a>,
+    ) -> Run<'a> {
+        let mut run = Run {
+            now: start,
+            fed: false,
+            numbers: [0; NUMBERS],
+            selector,
+            table,
+            memories,
+        };
+        run.find();
+        run
     }
-}
 
-// What a write answered. A refused one leaves the state as it was, but for refusal 5.
-fn of_write(now: State, wrote: Result<(State, usize), WriteError>) -> Left {
-    match wrote {
-        Ok((s, n)) => leaving(s, Answered::Took(n)),
-        Err(WriteError::TooLong) => leaving(now, Answered::Refused(1)),
-        Err(WriteError::BadTable(k)) => leaving(now, Answered::BadTable(k)),
-        Err(WriteError::BadState) => leaving(now, Answered::Refused(3)),
-        Err(WriteError::Full(s, n)) => leaving(s, Answered::Full(n)),
+    // Finds afresh in what the buffer holds, as far as it reaches.
+    fn find(&mut self) {
+        let end = self.now.end.min(self.memories.buf.len());
+        let found = findings::start(text::part(self.memories.buf, 0, end));
+        findings::lay(&mut self.numbers, found);
     }
-}
 
-// What an advance answered, likewise.
-fn of_advance(now: State, went: Result<State, AdvanceError>) -> Left {
-    match went {
-        Ok(s) => leaving(s, Answered::Advanced),
-        Err(AdvanceError::TooLong) => leaving(now, Answered::Refused(1)),
-        Err(AdvanceError::BadTable(k)) => leaving(now, Answered::BadTable(k)),
-        Err(AdvanceError::BadState) => leaving(now, Answered::Refused(3)),
-        Err(AdvanceError::NoRoom) => leaving(now, Answered::Refused(4)),
-        Err(AdvanceError::Full(s)) => leaving(s, Answered::Refused(5)),
+    // Findings without a word to the buffer.
+    fn forget(&mut self) -> Answered {
+        findings::lay(&mut self.numbers, findings::none());
+        Answered::Done
     }
-}
 
-// Finds afresh in what the buffer holds, as far as it reaches.
-pub fn find(state: State, numbers: &mut [u64; NUMBERS], buf: &[u8]) {
-    let held = text::part(buf, 0, text::fitting(state.end, buf.len()));
-    findings::lay(numbers, findings::start(held));
-}
-
-// Each op through its public call.
-fn do_write(
-    now: State,
-    p: &[u8],
-    selector: Selector,
-    table: &[u8],
-    numbers: &mut [u64; NUMBERS],
-    buf: &mut [u8],
-    slot_mem: &mut [u8],
-    queue_mem: &mut [u8],
-) -> Left {
-    let wrote = ingress::write(now, p, selector, table, buf, slot_mem, queue_mem);
-    let left = of_write(now, wrote);
-    find(left.state, numbers, buf);
-    left
-}
-
-fn do_advance(
-    now: State,
-    n: usize,
-    selector: Selector,
-    table: &[u8],
-    numbers: &mut [u64; NUMBERS],
-    buf: &mut [u8],
-    slot_mem: &mut [u8],
-    queue_mem: &mut [u8],
-) -> Left {
-    let went = ingress::advance(now, n, selector, table, buf, slot_mem, queue_mem);
-    let left = of_advance(now, went);
-    find(left.state, numbers, buf);
-    left
-}
-
-// The same with findings, which these calls keep.
-fn do_write_with(
-    now: State,
-    p: &[u8],
-    selector: Selector,
-    table: &[u8],
-    numbers: &mut [u64; NUMBERS],
-    buf: &mut [u8],
-    slot_mem: &mut [u8],
-    queue_mem: &mut [u8],
-) -> Left {
-    let wrote = feed::write(now, p, selector, table, numbers, buf, slot_mem, queue_mem);
-    of_write(now, wrote)
-}
-
-fn do_advance_with(
-    now: State,
-    n: usize,
-    selector: Selector,
-    table: &[u8],
-    numbers: &mut [u64; NUMBERS],
-    buf: &mut [u8],
-    slot_mem: &mut [u8],
-    queue_mem: &mut [u8],
-) -> Left {
-    let went = feed::advance(now, n, selector, table, numbers, buf, slot_mem, queue_mem);
-    of_advance(now, went)
-}
-
-fn do_forget(now: State, numbers: &mut [u64; NUMBERS]) -> Left {
-    findings::lay(numbers, findings::none());
-    leaving(now, Answered::Done)
-}
-
-fn do_clear(now: State, numbers: &mut [u64; NUMBERS]) -> Left {
-    findings::lay(numbers, findings::none());
-    leaving(now.with_end(ingress::clear(now.end)), Answered::Done)
-}
-
-fn do_reset(now: State, serial: u32, slot_mem: &[u8]) -> Left {
-    let slot = now.slot;
-    match slot.reset(serial, slot_mem) {
-        Ok(x) => leaving(now.with_slot(x), Answered::Done),
-        Err(ResetError::BadLength) => leaving(now, Answered::Refused(3)),
-        Err(ResetError::Repeated) => leaving(now, Answered::Refused(15)),
-    }
-}
-
-// The serial number after the one in force; the largest is followed by 0.
-fn next_serial(now: State) -> u32 {
-    let slot = now.slot;
-    if slot.serial == fields::MOST {
-        return 0;
-    }
-    slot.serial + 1
-}
-
-fn do_signal(now: State, kind: Kind, n: u32, p: &[u8], slot_mem: &mut [u8]) -> Left {
-    let slot = now.slot;
-    match slot.signal(answers::with_number(kind, n, 0), p, slot_mem) {
-        Ok(x) => leaving(now.with_slot(x), Answered::Done),
-        Err(SlotError::BadLength) => leaving(now, Answered::Refused(3)),
-    }
-}
-
-fn do_take(now: State, queue_mem: &[u8]) -> Left {
-    let queue = now.queue;
-    match queue.take(queue_mem) {
-        Ok((q, Some(notice))) => leaving(now.with_queue(q), Answered::Notice(notice)),
-        Ok((q, None)) => leaving(now.with_queue(q), Answered::Nothing),
-        Err(TakeError::Bad) => leaving(now, Answered::Refused(3)),
-    }
-}
-
-fn do_look(now: State, slot_mem: &[u8]) -> Left {
-    let slot = now.slot;
-    match slot.lookup(slot_mem) {
-        Looked::Signalled(x) => leaving(now.with_slot(x), Answered::Held(x)),
-        Looked::Nothing(x) => leaving(now.with_slot(x), Answered::Nothing),
-        Looked::BadLength => leaving(now, Answered::Refused(3)),
-    }
-}
-
-// Does an op that leaves the buffer alone. One that doesn't read isn't met here, since its script isn't done.
-fn perform_apart(
-    op: Op,
-    now: State,
-    piece: &[u8],
-    numbers: &mut [u64; NUMBERS],
-    slot_mem: &mut [u8],
-    queue_mem: &[u8],
-) -> Left {
-    match op {
-        Op::Clear => do_clear(now, numbers),
-        Op::Forget => do_forget(now, numbers),
-        Op::Reset(n) => do_reset(now, n, slot_mem),
-        Op::ResetNext => do_reset(now, next_serial(now), slot_mem),
-        Op::Take => do_take(now, queue_mem),
-        Op::Look => do_look(now, slot_mem),
-        Op::Signal(kind, n, len) => {
-            let p = text::part(piece, 0, len);
-            do_signal(now, kind, n, p, slot_mem)
+    // What a write answered. A refused one leaves the state as it was, but for refusal 5.
+    fn wrote(&mut self, wrote: Result<(State, usize), WriteError>) -> Answered {
+        match wrote {
+            Ok((next, n)) => {
+                self.now = next;
+                Answered::Took(n)
+            }
+            Err(WriteError::TooLong) => Answered::Refused(1),
+            Err(WriteError::BadTable(k)) => Answered::BadTable(k),
+            Err(WriteError::BadState) => Answered::Refused(3),
+            Err(WriteError::Full(next, n)) => {
+                self.now = next;
+                Answered::Full(n)
+            }
         }
-        _ => leaving(now, Answered::Nothing),
     }
-}
 
-// Does an op; `piece` has its bytes at the front.
-fn perform(
-    op: Op,
-    now: State,
-    piece: &[u8],
-    selector: Selector,
-    table: &[u8],
-    numbers: &mut [u64; NUMBERS],
-    buf: &mut [u8],
-    slot_mem: &mut [u8],
-    queue_mem: &mut [u8],
-) -> Left {
-    match op {
-        Op::Write(len) => {
-            let p = text::part(piece, 0, len);
-            do_write(now, p, selector, table, numbers, buf, slot_mem, queue_mem)
+    // What an advance answered, likewise.
+    fn advanced(&mut self, went: Result<State, AdvanceError>) -> Answered {
+        match went {
+            Ok(next) => {
+                self.now = next;
+                Answered::Advanced
+            }
+            Err(AdvanceError::TooLong) => Answered::Refused(1),
+            Err(AdvanceError::BadTable(k)) => Answered::BadTable(k),
+            Err(AdvanceError::BadState) => Answered::Refused(3),
+            Err(AdvanceError::NoRoom) => Answered::Refused(4),
+            Err(AdvanceError::Full(next)) => {
+                self.now = next;
+                Answered::Refused(5)
+            }
         }
-        Op::Advance(n, len) => {
-            moves::put(buf, now.end, text::part(piece, 0, len));
-            do_advance(now, n, selector, table, numbers, buf, slot_mem, queue_mem)
+    }
+
+    // Each op through its public call.
+    fn write(&mut self, p: &[u8]) -> Answered {
+        let wrote = ingress::write(self.now, p, self.selector, self.table, &mut self.memories);
+        let answered = self.wrote(wrote);
+        self.find();
+        answered
+    }
+
+    fn advance(&mut self, n: usize, p: &[u8]) -> Answered {
+        let end = self.now.end;
+        moves::put(self.memories.buf, end, p);
+        let went = ingress::advance(self.now, n, self.selector, self.table, &mut self.memories);
+        let answered = self.advanced(went);
+        self.find();
+        answered
+    }
+
+    // The same with findings, which these calls keep.
+    fn write_with(&mut self, p: &[u8]) -> Answered {
+        let wrote = feed::write(
+            self.now,
+            p,
+            self.selector,
+            self.table,
+            &mut self.numbers,
+            &mut self.memories,
+        );
+        self.wrote(wrote)
+    }
+
+    fn advance_with(&mut self, p: &[u8]) -> Answered {
+        let end = self.now.end;
+        moves::put(self.memories.buf, end, p);
+        let went = feed::advance(
+            self.now,
+            p.len(),
+            self.selector,
+            self.table,
+            &mut self.numbers,
+            &mut self.memories,
+        );
+        self.advanced(went)
+    }
+
+    fn clear(&mut self) -> Answered {
+        self.now.end = ingress::clear(self.now.end);
+        self.forget()
+    }
+
+    fn reset(&mut self, serial: u32) -> Answered {
+        match self.now.slot.reset(serial, self.memories.slot) {
+            Ok(slot) => {
+                self.now.slot = slot;
+                Answered::Done
+            }
+            Err(ResetError::BadLength) => Answered::Refused(3),
+            Err(ResetError::Repeated) => Answered::Refused(15),
         }
-        Op::WriteWith(len) => {
-            let p = text::part(piece, 0, len);
-            do_write_with(now, p, selector, table, numbers, buf, slot_mem, queue_mem)
+    }
+
+    fn signal(&mut self, kind: Kind, n: u32, p: &[u8]) -> Answered {
+        let a = answers::with_number(kind, n, 0);
+        match self.now.slot.signal(a, p, self.memories.slot) {
+            Ok(slot) => {
+                self.now.slot = slot;
+                Answered::Done
+            }
+            Err(SlotError::BadLength) => Answered::Refused(3),
         }
-        Op::AdvanceWith(len) => {
-            moves::put(buf, now.end, text::part(piece, 0, len));
-            do_advance_with(now, len, selector, table, numbers, buf, slot_mem, queue_mem)
+    }
+
+    fn take(&mut self) -> Answered {
+        match self.now.queue.take(self.memories.queue) {
+            Ok((queue, notice)) => {
+                self.now.queue = queue;
+                match notice {
+                    Some(x) => Answered::Notice(x),
+                    None => Answered::Nothing,
+                }
+            }
+            Err(TakeError::Bad) => Answered::Refused(3),
         }
-        _ => perform_apart(op, now, piece, numbers, slot_mem, queue_mem),
+    }
+
+    fn look(&mut self) -> Answered {
+        match self.now.slot.lookup(self.memories.slot) {
+            Ok(Looked::Signalled(slot)) => {
+                self.now.slot = slot;
+                Answered::Held(slot)
+            }
+            Ok(Looked::Nothing(slot)) => {
+                self.now.slot = slot;
+                Answered::Nothing
+            }
+            Err(SlotError::BadLength) => Answered::Refused(3),
+        }
+    }
+
+    // Does an op. The serial number after the largest is 0.
+    fn perform(&mut self, op: Op<'_>) -> Answered {
+        match op {
+            Op::Write(p) => self.write(p),
+            Op::Advance(n, p) => self.advance(n, p),
+            Op::WriteWith(p) => self.write_with(p),
+            Op::AdvanceWith(p) => self.advance_with(p),
+            Op::Forget => self.forget(),
+            Op::Clear => self.clear(),
+            Op::Reset(n) => self.reset(n),
+            Op::ResetNext => self.reset(self.now.slot.serial.wrapping_add(1)),
+            Op::Take => self.take(),
+            Op::Look => self.look(),
+            Op::Signal(kind, n, p) => self.signal(kind, n, p),
+        }
+    }
+
+    // Says what an op answered.
+    fn say<R: Print>(&self, out: &mut Out<'_, R>, answered: Answered) -> io::Result<()> {
+        match answered {
+            Answered::Took(n) => out.took(n),
+            Answered::Advanced => out.words(b"advanced"),
+            Answered::Done => out.words(b"done"),
+            Answered::Nothing => out.words(b"nothing"),
+            Answered::Notice(x) => say_notice(out, x, self.memories.queue),
+            Answered::Held(x) => say_held(out, x, self.memories.slot),
+            Answered::Refused(n) => out.refusal(n),
+            Answered::BadTable(k) => out.refusal_of_record(k),
+            Answered::Full(n) => {
+                out.words(b"refused 5 ")?;
+                out.took(n)
+            }
+        }
+    }
+
+    // Reads an op, does it, and says its answer. One that doesn't read isn't met here, since its script isn't done.
+    pub fn do_op<R: Print>(
+        &mut self,
+        out: &mut Out<'_, R>,
+        s: &[u8],
+        piece: &mut Memory,
+    ) -> io::Result<()> {
+        if let Some(op) = notation::op::read_op(s, piece) {
+            let answered = self.perform(op);
+            self.fed = self.fed || notation::op::has_findings(op);
+            self.say(out, answered)?;
+        }
+        out.words(b";")
     }
 }
 
 // A notice's number and its payload in hex.
-fn say_notice(
-    rt: &impl Print,
-    x: Notice,
-    queue_mem: &[u8],
-    out: &mut Memory,
-    at: usize,
-) -> io::Result<usize> {
-    let head = say::words(rt, out, at, b"notice")?;
-    let numbered = say::and_number(rt, out, head, x.number as u64)?;
-    let apart = say::words(rt, out, numbered, b" ")?;
-    say::hex(rt, out, apart, text::part(queue_mem, x.place, x.len))
+fn say_notice<R: Print>(out: &mut Out<'_, R>, x: Notice, queue_mem: &[u8]) -> io::Result<()> {
+    out.behind(b"notice ", x.number as u64)?;
+    out.words(b" ")?;
+    out.hex(text::part(queue_mem, x.place, x.len))
 }
 
 // What a slot holds, and its number.
-pub fn say_content(rt: &impl Print, x: Slot, out: &mut Memory, at: usize) -> io::Result<usize> {
-    let held = x.held;
-    match held {
-        Held::Heard(k) => say::kind_number(rt, out, at, k, x.number),
-        Held::Capacity => say::words(rt, out, at, b"capacity -"),
+pub fn say_content<R: Print>(out: &mut Out<'_, R>, x: Slot) -> io::Result<()> {
+    match x.held {
+        Held::Heard(k) => out.kind_number(k, x.number),
+        Held::Capacity => out.words(b"capacity -"),
     }
 }
 
 // What a signalled slot holds, with its payload or digits in hex and the serial number that it bears.
-fn say_held(
-    rt: &impl Print,
-    x: Slot,
-    slot_mem: &[u8],
-    out: &mut Memory,
-    at: usize,
-) -> io::Result<usize> {
-    let head = say::words(rt, out, at, b"held ")?;
-    let named = say_content(rt, x, out, head)?;
-    let apart = say::words(rt, out, named, b" ")?;
-    let bytes = say::hex(rt, out, apart, x.payload(slot_mem))?;
-    say::serial(rt, out, bytes, x.serial)
-}
-
-// Refusal 5 of a write.
-fn say_full(rt: &impl Print, n: usize, out: &mut Memory, at: usize) -> io::Result<usize> {
-    let used = say::words(rt, out, at, b"refused 5 ")?;
-    say::took(rt, out, used, n)
-}
-
-// Says what an op answered.
-fn say_outcome(
-    rt: &impl Print,
-    o: Answered,
-    slot_mem: &[u8],
-    queue_mem: &[u8],
-    out: &mut Memory,
-    at: usize,
-) -> io::Result<usize> {
-    match o {
-        Answered::Took(n) => say::took(rt, out, at, n),
-        Answered::Advanced => say::words(rt, out, at, b"advanced"),
-        Answered::Done => say::words(rt, out, at, b"done"),
-        Answered::Nothing => say::words(rt, out, at, b"nothing"),
-        Answered::Notice(x) => say_notice(rt, x, queue_mem, out, at),
-        Answered::Held(x) => say_held(rt, x, slot_mem, out, at),
-        Answered::Refused(n) => say::refusal(rt, out, at, n),
-        Answered::BadTable(k) => say::refusal_of_record(rt, out, at, k),
-        Answered::Full(n) => say_full(rt, n, out, at),
-    }
-}
-
-// The state after an op, how much of the answers' memory is used, and whether an op with findings was among those done.
-#[derive(Clone, Copy)]
-pub struct Said {
-    pub state: State,
-    pub at: usize,
-    pub fed: bool,
-}
-
-// Reads an op, does it, and says its answer.
-pub fn do_op(
-    rt: &impl Print,
-    s: &[u8],
-    now: Said,
-    piece: &mut Memory,
-    selector: Selector,
-    table: &[u8],
-    numbers: &mut [u64; NUMBERS],
-    buf: &mut [u8],
-    slot_mem: &mut [u8],
-    queue_mem: &mut [u8],
-    out: &mut Memory,
-) -> io::Result<Said> {
-    let op = notation::op::read_op(s, piece);
-    let state = now.state;
-    let fed = now.fed;
-    let done = perform(
-        op, state, piece, selector, table, numbers, buf, slot_mem, queue_mem,
-    );
-    let next = done.state;
-    let outcome = done.outcome;
-    let used = say_outcome(rt, outcome, slot_mem, queue_mem, out, now.at)?;
-    let behind = say::words(rt, out, used, b";")?;
-    Ok(Said {
-        state: next,
-        at: behind,
-        fed: fed || notation::op::has_findings(op),
-    })
+fn say_held<R: Print>(out: &mut Out<'_, R>, x: Slot, slot_mem: &[u8]) -> io::Result<()> {
+    out.words(b"held ")?;
+    say_content(out, x)?;
+    out.words(b" ")?;
+    out.hex(x.payload(slot_mem))?;
+    out.serial(x.serial)
 }
