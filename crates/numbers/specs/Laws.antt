@@ -3,12 +3,9 @@ use Rattle.std.specs.Prelude.{◌≡◌, refl, Bool, true, false, ◌&&◌, List
 use Rattle.std.proofs.Math.Path.{sym}
 use Rattle.std.proofs.Common.{ap, ◌∙◌, ⊎_elim, arith}
 use Prim.Native.Nat.{ℕ, zero, suc, ◌+◌, ◌≤◌, ◌<◌, min}
-use Rattle.std.proofs.Math.ListN.{get_or-eq_default}
-use borrow.Author.Tests.{lt-ltb, le-ltb, ltb-true, ltb-false, eq-eqb, ne_eqb, eqb-true}
+use borrow.Author.Tests.{lt-ltb, le-ltb, ltb-true, ltb-false, eq-eqb, eqb-true}
 use Rattle.outcome.specs.Laws.{ways}
 use Rattle.text.specs.Logic.{and_both, order}
-use Rattle.lines.specs.declared.Digester.TheVariants.{Verbose}
-use Rattle.selector.specs.declared.Selector.TheVariants.{Verbal}
 use Rattle.answers.specs.declared.Kind.{Kind}
 use Rattle.answers.specs.declared.Kind.TheVariants as kind
 use Rattle.slot.specs.Slot.{freed}
@@ -16,34 +13,11 @@ use Rattle.slot.specs.declared.Held.{Held}
 use Rattle.slot.specs.declared.Held.TheVariants.{Heard, Capacity}
 use Rattle.turn.specs.declared.State.{State}
 use Rattle.answers.specs.Answer.{kind_number, kinds}
-use Rattle.numbers.specs.Numbers.{selector_of, kind_of, word, held_number, held_of, slot_of, state_of, kept, with_slot, with_state}
+use Rattle.numbers.specs.Numbers.{kind_of, word, held_number, held_of, slot_of, state_of, kept, with_slot, with_state}
 
 -- what a slot holds
 pub held_capacity : (n : ℕ) → 13 < n → Capacity ≡ held_of n
 held_capacity n h = ap (λ (b : Bool). if b then Capacity else Heard (kind_of n)) (sym (lt-ltb 13 n h))
-
-pub held_heard : (n : ℕ) → n ≤ 13 → (k : Kind) → k ≡ kind_of n → Heard k ≡ held_of n
-held_heard n h k e = ap Heard e ∙ ap (λ (b : Bool). if b then Capacity else Heard (kind_of n)) (sym (le-ltb 13 n h))
-
--- n is none of the numbers below k, and so k or more
-abbrev pub NoneBelow : ℕ → ℕ → Type 0
-NoneBelow zero n = Unit {0}
-NoneBelow (suc k) n = NoneBelow k n × (n ≡ k → ⊥)
-
-up : (k n : ℕ) → k ≤ n → (n ≡ k → ⊥) → suc k ≤ n
-up k n h e = omega arith
-
-none_below : (k n : ℕ) → NoneBelow k n → k ≤ n
-none_below zero n h = omega arith
-none_below (suc k) n h = up k n (none_below k n h.0) h.1
-
--- a number that is no other digester's is that of document 01's
-pub selector_other : (n : ℕ) → (n ≡ 1 → ⊥) → (n ≡ 2 → ⊥) → Verbal Verbose ≡ selector_of n
-selector_other n h g = rw (ne_eqb n 1 h, ne_eqb n 2 g)
-
--- a number over 13 is no kind's
-pub kind_none : (n : ℕ) → NoneBelow 14 n → kind.None ≡ kind_of n
-kind_none n h = sym (get_or-eq_default kinds kind.None {n = n} (none_below 14 n h))
 
 -- the ways out of `kept`, and what is read where it stands
 module _ (most old new : ℕ) where

@@ -1,6 +1,7 @@
 -- What each number of a lent array means: a state as ten numbers, what a call answers at the front of an array of nine, and a digester by its number.
-use Rattle.std.specs.Prelude.{List, [], ◌∷◌, ℕ, min, get_or, eqb, ltb, if◌then◌else◌}
+use Rattle.std.specs.Prelude.{List, [], ◌∷◌, ℕ, ◌+◌, min, get_or, eqb, ltb, if◌then◌else◌}
 use Rattle.std.proofs.lemmas.List.Edits.{sets}
+use Rattle.text.specs.declared.Span.{Span}
 use Rattle.lines.specs.declared.Digester.TheVariants.{Verbose, Connect}
 use Rattle.answers.specs.declared.Kind.{Kind}
 use Rattle.answers.specs.declared.Kind.TheVariants as kind
@@ -26,9 +27,13 @@ kind_of n = get_or kinds n kind.None
 abbrev pub word : ℕ → ℕ
 word n = min n 4294967295
 
+-- a part of the input: its place, and behind that its length
+abbrev pub span_of : List ℕ → ℕ → Span
+span_of v i = record { start = get_or v i 0; len = get_or v (i + 1) 0 }
+
 -- an answer from its nine numbers, in the order in which the digester's export leaves them
 abbrev pub answer_of : List ℕ → Answer
-answer_of v = record { kind = kind_of (get_or v 0 0); number = word (get_or v 1 0); place = get_or v 2 0; len = get_or v 3 0; digits_place = get_or v 5 0; digits_len = get_or v 6 0; text_place = get_or v 7 0; text_len = get_or v 8 0; consumed = get_or v 4 0 }
+answer_of v = record { kind = kind_of (get_or v 0 0); number = word (get_or v 1 0); payload = span_of v 2; digits = span_of v 5; text = span_of v 7; consumed = get_or v 4 0 }
 
 -- what a slot holds: 0 to 13 a kind, 14 CapacityError; a number over 14 reads as CapacityError too
 abbrev pub held_number : Held → ℕ

@@ -3,14 +3,15 @@
 // as it stood, in plain form or not: so a call changes no number but those that it gives another meaning.
 #![tactic(auto)]
 
-ghost use Rattle.std.specs.Prelude.{◌≡◌, ◌<◌, get_or, if◌then◌else◌};
-ghost use Rattle.numbers.specs.Numbers.{selector_of, kind_of, word, held_number, held_of, answer_of, slot_of, queue_of, state_of, kept, with_slot, with_queue, with_state, laid, answer_values};
+ghost use Rattle.std.specs.Prelude.{◌≡◌, ◌+◌, ◌<◌, get_or};
+ghost use Rattle.numbers.specs.Numbers.{selector_of, kind_of, word, held_number, held_of, span_of, answer_of, slot_of, queue_of, state_of, kept, with_slot, with_queue, with_state, laid, answer_values};
 
 use answers::{Answer, Kind};
 use lines::Digester;
 use queue::Queue;
 use selector::Selector;
 use slot::{Held, Slot};
+use text::Span;
 use turn::State;
 
 // How many numbers a call may answer, and how many a state has.
@@ -48,7 +49,7 @@ const MOST_SIGNALLED: u64 = 1;
 
 const MOST_HELD: u64 = 14;
 
-const MOST_WORD: u64 = 4294967295;
+const MOST_WORD: u64 = u32::MAX as u64;
 
 // The digester of a number: 0 document 01's, 1 the one that hears the text of a CONNECT line too (R-3), 2 the one for V0 (R-1); any other number reads as 0.
 pub fn selector_of(n: u32) -> Selector
@@ -61,37 +62,36 @@ pub fn selector_of(n: u32) -> Selector
     }
 }
 
+// The kinds in the order of their numbers.
+const KINDS: [Kind; 14] = [
+    Kind::None,
+    Kind::Ok,
+    Kind::Prompt,
+    Kind::Cme,
+    Kind::Cms,
+    Kind::Unknown,
+    Kind::NotAllowed,
+    Kind::Error,
+    Kind::NoCarrier,
+    Kind::Busy,
+    Kind::NoAnswer,
+    Kind::NoDialtone,
+    Kind::Custom,
+    Kind::Notice,
+];
+
 // The kind of a number; one over 13 reads as None.
 pub fn kind_of(n: u64) -> Kind
     ensures { result ≡ kind_of n }
 {
-    match n {
-        0 => Kind::None,
-        1 => Kind::Ok,
-        2 => Kind::Prompt,
-        3 => Kind::Cme,
-        4 => Kind::Cms,
-        5 => Kind::Unknown,
-        6 => Kind::NotAllowed,
-        7 => Kind::Error,
-        8 => Kind::NoCarrier,
-        9 => Kind::Busy,
-        10 => Kind::NoAnswer,
-        11 => Kind::NoDialtone,
-        12 => Kind::Custom,
-        13 => Kind::Notice,
-        _ => Kind::None,
-    }
+    KINDS.get(n as usize).copied().unwrap_or(Kind::None)
 }
 
 // A number of 32 bits; one over 4,294,967,295 reads as that.
 fn word(n: u64) -> u32
     ensures { result ≡ word n }
 {
-    if MOST_WORD < n {
-        return MOST_WORD as u32;
-    }
-    n as u32
+    n.min(MOST_WORD) as u32
 }
 
 // The number of what a slot holds.
@@ -109,19 +109,21 @@ fn held_of(n: u64) -> Held
     ensures { result ≡ held_of n }
 {
     if 13 < n {
-        return Held::Capacity;
+        Held::Capacity
+    } else {
+        Held::Heard(kind_of(n))
     }
-    Held::Heard(kind_of(n))
 }
 
-// 1 for a signalled slot, 0 for a free one.
-fn flag_number(b: bool) -> u64
-    ensures { result ≡ (if b then 1 else 0) }
+// A part of the input from its place, at `at`, and its length behind that.
+fn span_of(answer: &[u64; OUT], at: usize) -> Span
+    requires { at + 1 < 9 }
+    ensures { result ≡ span_of answer.now at }
 {
-    if b {
-        return 1;
+    Span {
+        start: answer[at] as usize,
+        len: answer[at + 1] as usize,
     }
-    0
 }
 
 // An answer from the nine numbers that `wx_digest` leaves.
@@ -131,12 +133,9 @@ pub fn answer_of(answer: &[u64; OUT]) -> Answer
     Answer {
         kind: kind_of(answer[0]),
         number: word(answer[1]),
-        place: answer[2] as usize,
-        len: answer[3] as usize,
-        digits_place: answer[5] as usize,
-        digits_len: answer[6] as usize,
-        text_place: answer[7] as usize,
-        text_len: answer[8] as usize,
+        payload: span_of(answer, 2),
+        digits: span_of(answer, 5),
+        text: span_of(answer, 7),
         consumed: answer[4] as usize,
     }
 }
@@ -179,46 +178,37 @@ pub fn state_of(state: &[u64; NUMBERS]) -> State
 
 // What is to stand at a place of the state, so that it reads as `new`: what stands there where it reads so already, since a number over `most`
 // reads as that. It is looked at only where `new` is `most`: another that reads as `new` is `new`.
+#[tactic(auto, unfolding(crate::specs::Numbers::kept))]
 fn kept(state: &[u64; NUMBERS], at: usize, most: u64, new: u64) -> u64
     requires { at < 10 }
     ensures { result ≡ kept most (get_or state.now at 0) new }
 {
-    if new != most {
-        return new;
+    if new == most && most < state[at] {
+        state[at]
+    } else {
+        new
     }
-    let old = state[at];
-    if old <= most {
-        return new;
-    }
-    old
 }
 
 // Another slot, the other numbers as they stood.
 pub fn put_slot(state: &mut [u64; NUMBERS], x: Slot)
     ensures { state.new ≡ with_slot state.old x }
 {
-    let held = x.held;
-    let signalled = kept(state, SIGNALLED, MOST_SIGNALLED, flag_number(x.signalled));
-    let content = kept(state, HELD, MOST_HELD, held_number(held));
-    let number = kept(state, NUMBER, MOST_WORD, x.number as u64);
-    let lost = kept(state, SLOT_LOST, MOST_WORD, x.lost as u64);
-    let serial = kept(state, SERIAL, MOST_WORD, x.serial as u64);
-    state[SIGNALLED] = signalled;
-    state[HELD] = content;
-    state[NUMBER] = number;
+    state[SIGNALLED] = kept(state, SIGNALLED, MOST_SIGNALLED, x.signalled as u64);
+    state[HELD] = kept(state, HELD, MOST_HELD, held_number(x.held));
+    state[NUMBER] = kept(state, NUMBER, MOST_WORD, x.number as u64);
     state[LEN] = x.len as u64;
-    state[SLOT_LOST] = lost;
-    state[SERIAL] = serial;
+    state[SLOT_LOST] = kept(state, SLOT_LOST, MOST_WORD, x.lost as u64);
+    state[SERIAL] = kept(state, SERIAL, MOST_WORD, x.serial as u64);
 }
 
 // Another queue, the other numbers as they stood.
 pub fn put_queue(state: &mut [u64; NUMBERS], x: Queue)
     ensures { state.new ≡ with_queue state.old x }
 {
-    let lost = kept(state, QUEUE_LOST, MOST_WORD, x.lost as u64);
     state[START] = x.start as u64;
     state[COUNT] = x.count as u64;
-    state[QUEUE_LOST] = lost;
+    state[QUEUE_LOST] = kept(state, QUEUE_LOST, MOST_WORD, x.lost as u64);
 }
 
 // A state as its ten numbers.
@@ -234,14 +224,15 @@ pub fn put_state(state: &mut [u64; NUMBERS], s: State)
 pub fn lay_answer(out: &mut [u64; OUT], a: Answer)
     ensures { out.new ≡ laid (answer_values a) out.old }
 {
-    let kind = a.kind;
-    out[0] = answers::kind_number(kind);
-    out[1] = a.number as u64;
-    out[2] = a.payload.start as u64;
-    out[3] = a.payload.len as u64;
-    out[4] = a.consumed as u64;
-    out[5] = a.digits.start as u64;
-    out[6] = a.digits.len as u64;
-    out[7] = a.text.start as u64;
-    out[8] = a.text.len as u64;
+    *out = [
+        answers::kind_number(a.kind),
+        a.number as u64,
+        a.payload.start as u64,
+        a.payload.len as u64,
+        a.consumed as u64,
+        a.digits.start as u64,
+        a.digits.len as u64,
+        a.text.start as u64,
+        a.text.len as u64,
+    ];
 }
