@@ -16,10 +16,13 @@ use Rattle.lines.specs.declared.Digester.TheVariants as digester
 use Rattle.lines.specs.declared.Fixed.{Fixed}
 use Rattle.lines.specs.declared.Fixed.TheVariants as fixed
 use Rattle.parser.specs.Parser.{numeric_error, prompt_from, custom_prompt, notice_at}
+use Rattle.text.specs.declared.Span.{Span}
+use Rattle.parser.specs.declared.Digits.{Digits}
 use Rattle.parser.specs.declared.Notice.{Notice}
 use Rattle.parser.specs.declared.Notice.TheVariants as notice
 use Rattle.answers.specs.Answer.{is_found, nothing, with_number, shift}
 use Rattle.answers.specs.declared.Answer.{Answer}
+use Rattle.items.specs.declared.Occurrence.{Occurrence}
 use Rattle.items.specs.Rules.{or_else, first_of, skipped, heard, notices, first_custom, kind_of, success, custom_success, line_success, first_connect, connected, connect_success, successes, prompt_tried, custom_prompts, prompts, custom_error, heads, numeric_tried, numeric_errors, error_lines, line_tried, line_errors, not_allowed, errors, tried}
 use Rattle.items.specs.Laws.{or_next_lem}
 use Rattle.items.specs.Connect.{connect_bare}
@@ -27,7 +30,7 @@ use Rattle.digest.specs.Digest.{retries, again, after, digest_by, digest_in}
 
 -- an answer without its digits and its text
 abbrev plain : Answer → Answer
-plain a = record { kind = a.kind; number = a.number; place = a.payload.start; len = a.payload.len; digits_place = 0; digits_len = 0; text_place = 0; text_len = 0; consumed = a.consumed }
+plain a = let nowhere : Span = record { start = 0; len = 0 } in record a { digits = nowhere; text = nowhere }
 
 abbrev plainly : Option Answer → Option Answer
 plainly (Some a) = Some (plain a)
@@ -76,9 +79,9 @@ module _ (s : List ℕ) (e : ℕ) where
   notices_plain [] = refl
   notices_plain (x ∷ l) = either_plain (heard (notice_at x.text s e) x.number s e) (notices l s e) _ _ (heard_plain (notice_at x.text s e) x.number s e) (notices_plain l)
 
-  custom_success_plain : (r : Option (ℕ × ℕ × ℕ)) → plainly (custom_success r s e) ≡ custom_success r s e
+  custom_success_plain : (r : Option Occurrence) → plainly (custom_success r s e) ≡ custom_success r s e
   unfolding custom_success success
-  custom_success_plain (Some (n, len, k)) = refl
+  custom_success_plain (Some o) = refl
   custom_success_plain None = refl
 
   line_success_plain : (l : Fixed) (r : Option ℕ) → plainly (line_success s e l r) ≡ line_success s e l r
@@ -117,9 +120,9 @@ module _ (s : List ℕ) (e : ℕ) where
       either_plain (custom_prompts l s e) _ _ _ (custom_prompts_plain l)
       (either_plain (prompt_tried (prompt_from 62 s e) 62 s) (prompt_tried (prompt_from 64 s e) 64 s) _ _ (prompt_plain (prompt_from 62 s e) 62) (prompt_plain (prompt_from 64 s e) 64))
 
-  custom_error_plain : (r : Option (ℕ × ℕ × ℕ)) → plainly (custom_error r) ≡ custom_error r
+  custom_error_plain : (r : Option Occurrence) → plainly (custom_error r) ≡ custom_error r
   unfolding custom_error
-  custom_error_plain (Some (n, len, k)) = refl
+  custom_error_plain (Some o) = refl
   custom_error_plain None = refl
 
   numeric_plain : (h : Fixed) (r : Option Digits) → plainly (numeric_tried h r) ≡ numeric_before h r

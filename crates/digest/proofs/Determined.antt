@@ -2,7 +2,7 @@
 use mathlib.Core.Path.{◌≡◌}
 use Rattle.outcome.specs.One.{Alike, One}
 use Rattle.text.specs.Logic.{determined}
-use Rattle.digest.specs.Calls.{outcome_one}
+use Rattle.answers.specs.Laws.{outcome_one}
 use Rattle.digest.proofs as calls
 
 pub digest_one : One calls.digest.Reads.Post

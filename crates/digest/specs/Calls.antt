@@ -1,36 +1,29 @@
 -- The calls that a user makes: their refusals, and what they heard.
-use Rattle.std.specs.Prelude.{Result, Ok, Err, ◌≡◌, List, [], ◌∷◌, ℕ, ◌≤◌, ◌<◌, length, ltb}
+use Rattle.std.specs.Prelude.{Result, Ok, Err, is_ok, true, ◌≡◌, List, [], ◌∷◌, ℕ, ◌≤◌, ◌<◌, length, ltb}
 use Rattle.std.proofs.Math.Path.{refl, ap}
 use Rattle.std.proofs.Common.{sym, ◌∙◌, arith, le-ltb, lt-ltb}
 use Rattle.outcome.specs.Outcome.{Outcome, answered, refused}
 use Rattle.text.specs.Logic.{false_true}
 use Rattle.table.specs.Table.{tokens, ruling}
+use Rattle.table.specs.Table as tables
+use Rattle.table.specs.declared.TableError.{TableError}
 use Rattle.table.specs.declared.Mark.TheVariants as mark
 use Rattle.table.specs.Laws.{good_tokens, numbers_below}
 use Rattle.lines.specs.declared.Digester.{Digester}
 use Rattle.answers.specs.declared.Answer.{Answer}
-use Rattle.answers.specs.declared.DigestError.{DigestError}
-use Rattle.answers.specs.declared.DigestError.TheVariants as says
 use Rattle.outcome.specs.Laws.{ways}
-use Rattle.answers.specs.Answer.{nothing, Within}
+use Rattle.answers.specs.Answer.{Within}
 use Rattle.answers.specs.Laws.{nothing_within}
-use Rattle.digest.specs.Digest.{digest_in, under_table, digest, digest_unchecked, outcome}
+use Rattle.digest.specs.Digest.{digest_in, under_table, digest, digest_unchecked}
 use Rattle.digest.specs.Heard.{Heard, HeardIn}
 use Rattle.digest.specs.Step.{digest_within}
 use Rattle.digest.specs.Numbered.{Below, digest_below}
 use Rattle.digest.specs.Theorem.{heard_so}
 
--- no two answers of `digest` have the same outcome
-pub outcome_one : (r q : Result Answer DigestError) → outcome r ≡ outcome q → r ≡ q
-outcome_one (Ok a) (Ok b) e = cc
-outcome_one (Ok a) (Err says.TooLong) e = let z : ◌≡◌ {A = ℕ} 0 1 = cc in absurd (omega arith)
-outcome_one (Ok a) (Err (says.BadTable k)) e = let z : ◌≡◌ {A = ℕ} 0 1 = cc in absurd (omega arith)
-outcome_one (Err says.TooLong) (Ok a) e = let z : ◌≡◌ {A = ℕ} 0 1 = cc in absurd (omega arith)
-outcome_one (Err says.TooLong) (Err says.TooLong) e = refl
-outcome_one (Err says.TooLong) (Err (says.BadTable k)) e = let z : ◌≡◌ {A = ℕ} 0 1 = cc in absurd (omega arith)
-outcome_one (Err (says.BadTable k)) (Ok a) e = let z : ◌≡◌ {A = ℕ} 0 1 = cc in absurd (omega arith)
-outcome_one (Err (says.BadTable k)) (Err says.TooLong) e = let z : ◌≡◌ {A = ℕ} 0 1 = cc in absurd (omega arith)
-outcome_one (Err (says.BadTable k)) (Err (says.BadTable m)) e = cc
+-- a table that `check` finds good
+pub found_good : (t : List ℕ) (r : Result ℕ TableError) → tables.outcome r ≡ ruling t → is_ok r ≡ true → (n : ℕ) × (answered n ≡ ruling t)
+found_good t (Ok n) p h = (n, p)
+found_good t (Err e) p h = cc
 
 -- what a digest under a good table hears
 pub digest_heard : (d : Digester) (t s : List ℕ) (n : ℕ) → ruling t ≡ answered n → (a : Answer) → a ≡ digest_in d (tokens t) s → Heard d (tokens t) s a
@@ -71,10 +64,6 @@ module _ (d : Digester) (t s : List ℕ) where
     -- demand 3, first half, under a good table that isn't checked again
     pub unchecked_heard : (n : ℕ) → ruling t ≡ answered n → Heard d (tokens t) s (digest_unchecked d t s)
     unchecked_heard n h = digest_heard d t s n h (digest_unchecked d t s) (sym (unchecked_is (digest_in d (tokens t) s) refl))
-
-  pub unchecked_long : 4096 < length s → (a : Answer) → a ≡ nothing 0 → a ≡ digest_unchecked d t s
-  unfolding digest_unchecked
-  unchecked_long h a w = rw (lt-ltb 4096 (length s) h) w
 
   -- what a digest under a checked table consumes lies in the input, and payload, digits and text in what is consumed
   pub unchecked_inside : Within (length s) (digest_unchecked d t s)

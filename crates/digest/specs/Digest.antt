@@ -1,5 +1,5 @@
 -- Rules 6 and 7 of one digest, and its refusals. They compute. Rules 1 to 5 are items' `Rules`.
-use Rattle.std.specs.Prelude.{Option, Some, None, Result, Ok, Err, Bool, ◌&&◌, List, [], ◌∷◌, ℕ, zero, suc, ◌+◌, ◌-◌, length, drop, ltb, if◌then◌else◌}
+use Rattle.std.specs.Prelude.{Option, Some, None, Bool, ◌&&◌, List, [], ℕ, zero, suc, ◌+◌, ◌-◌, length, drop, ltb, if◌then◌else◌}
 use Rattle.outcome.specs.Outcome.{Outcome, answered, refused}
 use Rattle.text.specs.Text.{stands}
 use Rattle.table.specs.Table.{Token, tokens, ruling}
@@ -8,8 +8,6 @@ use Rattle.lines.specs.declared.Digester.{Digester}
 use Rattle.answers.specs.declared.Answer.{Answer}
 use Rattle.answers.specs.Answer.{is_found, nothing, shift}
 use Rattle.items.specs.Rules.{skipped, tried}
-use Rattle.answers.specs.declared.DigestError.{DigestError}
-use Rattle.answers.specs.declared.DigestError.TheVariants as says
 
 -- Rule 6. If buf starts with CRLF and has more than 4 bytes, the digester calls itself on what follows those two bytes.
 unfoldable pub retries : List ℕ → ℕ → Bool
@@ -46,12 +44,6 @@ under_table (refused n values) d t s = refused n values
 unfoldable pub digest : Digester → List ℕ → List ℕ → Outcome Answer
 unfolding under_table
 digest d t s = if ltb 4096 (length s) then refused 1 [] else under_table (ruling t) d t s
-
--- document 01's number and values for each case of the digest's answer
-abbrev pub outcome : Result Answer DigestError → Outcome Answer
-outcome (Ok a) = answered a
-outcome (Err says.TooLong) = refused 1 []
-outcome (Err (says.BadTable k)) = refused 2 (k ∷ [])
 
 -- under a table that isn't asked about: its records as they lie; an input over 4,096 bytes is None, 0
 unfoldable pub digest_unchecked : Digester → List ℕ → List ℕ → Answer

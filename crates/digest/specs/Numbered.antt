@@ -13,11 +13,13 @@ use Rattle.lines.specs.Lines.{fixed_text}
 use Rattle.lines.specs.declared.Digester.{Digester}
 use Rattle.lines.specs.declared.Fixed.{Fixed}
 use Rattle.lines.specs.declared.Fixed.TheVariants as fixed
+use Rattle.parser.specs.declared.Digits.{Digits}
 use Rattle.parser.specs.Parser.{numeric_error, prompt_from, custom_prompt, notice_at}
 use Rattle.parser.specs.declared.Notice.{Notice}
 use Rattle.parser.specs.declared.Notice.TheVariants as notice
 use Rattle.answers.specs.declared.Answer.{Answer}
 use Rattle.answers.specs.Answer.{is_found, is_notice, shift}
+use Rattle.items.specs.declared.Occurrence.{Occurrence}
 use Rattle.items.specs.Rules.{or_else, skipped, heard, notices, first_custom, kind_of, success, custom_success, line_success, connect_at, first_connect, connected, connect_success, successes, prompt_tried, custom_prompts, prompts, custom_error, heads, numeric_tried, numeric_errors, error_lines, line_tried, line_errors, not_allowed, errors, tried}
 use Rattle.digest.specs.Digest.{retries, again, after, digest_in}
 use Rattle.digest.specs.Step.{TriedHas, either_has, first_has, by_length, rest_shorter, digest_step}
@@ -56,9 +58,9 @@ module _ (k : ℕ) (s : List ℕ) (e : ℕ) where
   notices_below [] w = tt
   notices_below (x ∷ l) w = either_has (Below k) (heard (notice_at x.text s e) x.number s e) (notices l s e) (heard_below x.number w.0 (notice_at x.text s e)) (notices_below l w.1)
 
-  custom_success_below : (r : Option (ℕ × ℕ × ℕ)) → TriedHas (Below k) (custom_success r s e)
+  custom_success_below : (r : Option Occurrence) → TriedHas (Below k) (custom_success r s e)
   unfolding custom_success success
-  custom_success_below (Some (n, len, p)) = other false refl
+  custom_success_below (Some o) = other false refl
   custom_success_below None = tt
 
   line_success_below : (l : Fixed) (r : Option ℕ) → TriedHas (Below k) (line_success s e l r)
@@ -85,9 +87,9 @@ module _ (k : ℕ) (s : List ℕ) (e : ℕ) where
   custom_prompts_below [] = tt
   custom_prompts_below (x ∷ l) = either_has (Below k) (prompt_tried (custom_prompt x.text s e) x.prompt s) (custom_prompts l s e) (prompt_below (custom_prompt x.text s e) x.prompt) (custom_prompts_below l)
 
-  custom_error_below : (r : Option (ℕ × ℕ × ℕ)) → TriedHas (Below k) (custom_error r)
+  custom_error_below : (r : Option Occurrence) → TriedHas (Below k) (custom_error r)
   unfolding custom_error
-  custom_error_below (Some (n, len, p)) = other false refl
+  custom_error_below (Some o) = other false refl
   custom_error_below None = tt
 
   numeric_below : (h : Fixed) (r : Option Digits) → TriedHas (Below k) (numeric_tried h r)

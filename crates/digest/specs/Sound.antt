@@ -27,6 +27,7 @@ use Rattle.answers.specs.declared.Kind.TheVariants as kind
 use Rattle.answers.specs.declared.Answer.{Answer}
 use Rattle.answers.specs.Answer.{has_number, stored, kind_found, is_found, is_numeric, placed, bare, nothing, with_number, with_digits, with_payload, with_text}
 use Rattle.answers.specs.Laws.{numbered_some, placed_some}
+use Rattle.items.specs.declared.Occurrence.{Occurrence}
 use Rattle.items.specs.Rules.{or_else, first_of, heard, notices, occurs_or, first_custom, kind_of, success, custom_success, line_success, connect_at, first_connect, connected, connect_success, successes, prompt_tried, custom_prompts, prompts, custom_error, heads, numeric_tried, numeric_errors, error_lines, line_tried, line_errors, not_allowed, errors, tried}
 use Rattle.items.specs.Connect.{TextAt, connect_told}
 use Rattle.items.specs.Laws.{next_both, done_next, wrapped_length}
@@ -199,36 +200,35 @@ module _ (d : Digester) (ts : List Token) (good : Texts ts) (s : List ℕ) (e : 
   abbrev CustomAt : ℕ → ℕ → Entry → Type 0
   CustomAt len k x = (stands (wrapped x.text) s k ≡ true) × (len ≡ length x.text)
 
-  custom_at : (x : Entry) (l : List Entry) (f : Option ℕ) → find_in (wrapped x.text) s e ≡ f → (r : Option (ℕ × ℕ × ℕ)) → ((n len k : ℕ) → r ≡ Some (n, len, k) → AnyOf (CustomAt len k) l) → (n len k : ℕ) → occurs_or f x r ≡ Some (n, len, k) → AnyOf (CustomAt len k) (x ∷ l)
+  custom_at : (x : Entry) (l : List Entry) (f : Option ℕ) → find_in (wrapped x.text) s e ≡ f → (r : Option Occurrence) → ((o : Occurrence) → r ≡ Some o → AnyOf (CustomAt o.len o.place) l) → (o : Occurrence) → occurs_or f x r ≡ Some o → AnyOf (CustomAt o.len o.place) (x ∷ l)
   unfolding occurs_or
-  custom_at x l (Some j) q r ih n len k h =
-      let a : j ≡ k = cc in
-      let b : length x.text ≡ len = cc in
-      inl (ap (stands (wrapped x.text) s) (sym a) ∙ (found_at (wrapped x.text) s e j q).here, sym b)
-  custom_at x l None q r ih n len k h = inr (ih n len k h)
+  custom_at x l (Some j) q r ih o h =
+      let a : ◌≡◌ {A = Occurrence} (record { number = x.number; len = length x.text; place = j }) o = cc in
+      inl (ap (λ (v : Occurrence). stands (wrapped x.text) s v.place) (sym a) ∙ (found_at (wrapped x.text) s e j q).here, ap (λ (v : Occurrence). v.len) (sym a))
+  custom_at x l None q r ih o h = inr (ih o h)
 
-  custom_some : (l : List Entry) (n len k : ℕ) → first_custom l s e ≡ Some (n, len, k) → AnyOf (CustomAt len k) l
+  custom_some : (l : List Entry) (o : Occurrence) → first_custom l s e ≡ Some o → AnyOf (CustomAt o.len o.place) l
   unfolding first_custom
-  custom_some [] n len k h = let z : ◌≡◌ {A = ℕ} 0 1 = cc in absurd (omega arith)
-  custom_some (x ∷ l) n len k h = custom_at x l (find_in (wrapped x.text) s e) refl (first_custom l s e) (λ m b j g. custom_some l m b j g) n len k h
+  custom_some [] o h = cc
+  custom_some (x ∷ l) o h = custom_at x l (find_in (wrapped x.text) s e) refl (first_custom l s e) (custom_some l) o h
 
   custom_hit : (l : List Entry) (len k : ℕ) → AnyOf (CustomAt len k) l → (AnyOf (λ x. Line (wrapped x.text) (drop k s) (len + 4)) l → Item d ts (drop k s) (len + 4)) → (a : Answer) → a.consumed ≡ k + (len + 4) → Plain a → Hit d ts s e a
   custom_hit l len k h mk a c g =
       let i = mk (some_map (CustomAt len k) (λ x. Line (wrapped x.text) (drop k s) (len + 4)) (λ x v. (sym (stands_here (wrapped x.text) s k) ∙ v.0, omega (arith, v.1, wrapped_length x.text))) l h) in
       some_any (CustomAt len k) (Hit d ts s e a) (λ x v. line_hit (wrapped x.text) (wrapped_opens x.text) (wrapped_last x.text) k v.0 (len + 4) (omega (arith, v.1, wrapped_length x.text)) i a c g) l h
 
-  custom_success_sound : (r : Option (ℕ × ℕ × ℕ)) → first_custom (of_mark mark.Success 0 ts) s e ≡ r → (a : Answer) → custom_success r s e ≡ Some a → Hit d ts s e a
+  custom_success_sound : (r : Option Occurrence) → first_custom (of_mark mark.Success 0 ts) s e ≡ r → (a : Answer) → custom_success r s e ≡ Some a → Hit d ts s e a
   unfolding custom_success success
-  custom_success_sound (Some (n, len, k)) q a h =
-      let z : with_payload kind.Ok 0 (trimmed_part s e k) (k + (len + 4)) ≡ a = cc in
-      custom_hit (of_mark mark.Success 0 ts) len k (custom_some (of_mark mark.Success 0 ts) n len k q) items.custom_success a (ap (λ (x : Answer). x.consumed) (sym z)) (rw (sym z) (refl, (refl, (refl, refl))))
+  custom_success_sound (Some o) q a h =
+      let z : with_payload kind.Ok 0 (trimmed_part s e o.place) (o.place + (o.len + 4)) ≡ a = cc in
+      custom_hit (of_mark mark.Success 0 ts) o.len o.place (custom_some (of_mark mark.Success 0 ts) o q) items.custom_success a (ap (λ (x : Answer). x.consumed) (sym z)) (rw (sym z) (refl, (refl, (refl, refl))))
   custom_success_sound None q a h = absurd (done_next a h refl)
 
-  custom_error_sound : (r : Option (ℕ × ℕ × ℕ)) → first_custom (of_mark mark.Error 0 ts) s e ≡ r → (a : Answer) → custom_error r ≡ Some a → Hit d ts s e a
+  custom_error_sound : (r : Option Occurrence) → first_custom (of_mark mark.Error 0 ts) s e ≡ r → (a : Answer) → custom_error r ≡ Some a → Hit d ts s e a
   unfolding custom_error
-  custom_error_sound (Some (n, len, k)) q a h =
-      let z : with_payload kind.Custom n (record { start = k + 2; len = len }) (k + (len + 4)) ≡ a = cc in
-      custom_hit (of_mark mark.Error 0 ts) len k (custom_some (of_mark mark.Error 0 ts) n len k q) items.custom_error a (ap (λ (x : Answer). x.consumed) (sym z)) (rw (sym z) (refl, (refl, (refl, refl))))
+  custom_error_sound (Some o) q a h =
+      let z : with_payload kind.Custom o.number (record { start = o.place + 2; len = o.len }) (o.place + (o.len + 4)) ≡ a = cc in
+      custom_hit (of_mark mark.Error 0 ts) o.len o.place (custom_some (of_mark mark.Error 0 ts) o q) items.custom_error a (ap (λ (x : Answer). x.consumed) (sym z)) (rw (sym z) (refl, (refl, (refl, refl))))
   custom_error_sound None q a h = absurd (done_next a h refl)
 
   -- numeric errors, with their digits

@@ -1,13 +1,12 @@
 -- The digester's own equation, with no fuel in it, and that an answer stays within its input.
 -- Rests on the retry's suffix being shorter; everything above goes by `digest_step` and by induction on the length.
-use Rattle.std.specs.Prelude.{Option, Some, None, ◌≡◌, Bool, ℕ, zero, suc, ◌+◌, ◌-◌, ◌≤◌, ◌<◌, take, drop, ltb, if◌then◌else◌}
+use Rattle.std.specs.Prelude.{Option, Some, None, unwrap_or, ◌≡◌, Bool, ℕ, zero, suc, ◌+◌, ◌-◌, ◌≤◌, ◌<◌, take, drop, ltb, if◌then◌else◌}
 use Rattle.std.proofs.Math.Path.{refl, sym, ap}
 use Rattle.std.proofs.Common.{◌∙◌, not-suc-le-zero, arith, length-drop}
 use Rattle.std.proofs.Math.Bool.{true, false}
 use mathlib.Core.List.{List, [], ◌∷◌}
 use Rattle.std.proofs.Math.ListN.{length}
 use borrow.Author.Tests.{ltb-true}
-use Rattle.std.specs.declared.ops.ControlFlow.{ControlFlow}
 use Rattle.std.specs.declared.ops.ControlFlow.TheVariants.{Break, Continue}
 use Rattle.outcome.specs.Laws.{ways, same_way}
 use Rattle.text.specs.Logic.{and_both}
@@ -19,6 +18,7 @@ use Rattle.lines.specs.Lines.{crlf, fixed_text}
 use Rattle.lines.specs.declared.Digester.{Digester}
 use Rattle.lines.specs.declared.Fixed.{Fixed}
 use Rattle.lines.specs.declared.Fixed.TheVariants as fixed
+use Rattle.parser.specs.declared.Digits.{Digits}
 use Rattle.parser.specs.Parser.{numeric_error, prompt_from, custom_prompt, notice_at}
 use Rattle.parser.specs.Laws.{notice_bounds, error_bounds}
 use Rattle.parser.specs.declared.Notice.{Notice}
@@ -26,44 +26,32 @@ use Rattle.parser.specs.declared.Notice.TheVariants as notice
 use Rattle.answers.specs.declared.Kind.{Kind}
 use Rattle.answers.specs.declared.Kind.TheVariants as kind
 use Rattle.answers.specs.declared.Answer.{Answer}
-use Rattle.answers.specs.Answer.{is_found, nothing, with_payload, shift, longest, shift_within, Within}
-use Rattle.answers.specs.Laws.{longer_within, bare_within, nothing_within, number_within, digits_within, payload_within, text_within, shift_within_lem, shift_is, shift_shift}
+use Rattle.answers.specs.Answer.{is_found, nothing, with_payload, shift, Within}
+use Rattle.answers.specs.Laws.{longer_within, bare_within, nothing_within, number_within, digits_within, payload_within, text_within, shift_within_lem, shift_shift}
 use Rattle.items.specs.declared.Hints.{Hints}
+use Rattle.items.specs.declared.Occurrence.{Occurrence}
 use Rattle.items.specs.Rules.{or_else, first_of, skipped, heard, notices, first_custom, kind_of, success, custom_success, line_success, connect_at, first_connect, connected, connect_success, successes, prompt_tried, custom_prompts, prompts, custom_error, heads, numeric_tried, numeric_errors, error_lines, line_tried, line_errors, not_allowed, errors, tried}
-use Rattle.items.specs.Hints.{Known, Says}
+use Rattle.items.specs.Hints.{Level, Known, Says}
 use Rattle.items.specs.Laws.{occurs_room}
 use Rattle.items.specs.Connect.{LeastSays, least_connect, connect_room}
-use Rattle.level.specs.Level.{below, level_from, GoneAll}
-use Rattle.level.specs.Laws.{line_room, na_room, skipped_le, level_below}
-use Rattle.level.specs.Levels.{handed, level_says}
+use Rattle.level.specs.Level.{outermost, below, GoneAll}
+use Rattle.level.specs.Laws.{line_room, na_room, skipped_le}
+use Rattle.level.specs.Levels.{handed, level_says, level_below_says}
 use Rattle.digest.specs.Digest.{retries, again, after, digest_by, digest_in}
 
 -- rule 6
 module _ (s : List ℕ) (e : ℕ) where
-  pub retries_off : stands crlf s e ≡ false → false ≡ retries s e
-  unfolding retries
-  retries_off h = rw h
-
   pub retries_on : stands crlf s e ≡ true → ltb 4 (length s - e) ≡ retries s e
   unfolding retries
   retries_on h = rw h
 
-  retries_room : retries s e ≡ true → e + 4 < length s
+  pub retries_room : retries s e ≡ true → e + 4 < length s
   unfolding retries
   retries_room h = omega (arith, ltb-true 4 (length s - e) (and_both (stands crlf s e) (ltb 4 (length s - e)) h).1)
 
 -- An answer of the retry seen from the front, before which m bytes stand: moved; None, whose consumed count is dropped, is no answer.
 unfoldable pub seen_from : ℕ → Answer → Option Answer
 seen_from m a = if is_found a then Some (shift m a) else None
-
-module _ (a : Answer) (m : ℕ) (b : Bool) (p : b ≡ is_found a) where
-  pub seen_lost : b ≡ false → None ≡ seen_from m a
-  unfolding seen_from
-  seen_lost q = rw (sym p ∙ q)
-
-  pub seen_found : b ≡ true → m ≤ longest → Within longest a → (r : Answer) → r ≡ shift_within m a → Some r ≡ seen_from m a
-  unfolding seen_from
-  seen_found q l v r w = rw (sym p ∙ q) (ap Some (w ∙ shift_is m longest a v (omega arith) l))
 
 -- a level of the retry more, seen from the front
 seen_again : (m e : ℕ) (r : Answer) → seen_from (m + (e + 2)) r ≡ seen_from m (again e r)
@@ -75,18 +63,14 @@ seen_again m e r = go (is_found r) refl
     go false q = refl
 
 -- what the retry from e on gives, where nothing is moved: its answer, or rule 7's None
-abbrev or_none : Option Answer → ℕ → Answer
-or_none (Some a) e = a
-or_none None e = nothing e
-
-seen_front : (s : List ℕ) (f : List ℕ → Answer) (e : ℕ) → or_none (seen_from 0 (after s f e None)) e ≡ after s f e None
+seen_front : (s : List ℕ) (f : List ℕ → Answer) (e : ℕ) → unwrap_or (seen_from 0 (after s f e None)) (nothing e) ≡ after s f e None
 unfolding after seen_from again
 seen_front s f e = go (retries s e) (is_found (f (drop (e + 2) s))) refl
   where
     r : Answer
     r = f (drop (e + 2) s)
 
-    go : (b c : Bool) → is_found r ≡ c → or_none (if is_found (if b then (if c then shift (e + 2) r else nothing e) else nothing e) then Some (shift 0 (if b then (if c then shift (e + 2) r else nothing e) else nothing e)) else None) e ≡ (if b then (if c then shift (e + 2) r else nothing e) else nothing e)
+    go : (b c : Bool) → is_found r ≡ c → unwrap_or (if is_found (if b then (if c then shift (e + 2) r else nothing e) else nothing e) then Some (shift 0 (if b then (if c then shift (e + 2) r else nothing e) else nothing e)) else None) (nothing e) ≡ (if b then (if c then shift (e + 2) r else nothing e) else nothing e)
     go true true q = let i : 0 + (e + 2) ≡ e + 2 = omega arith in (unfold shift in rw q (shift_shift (e + 2) 0 r)) ∙ ap (λ (k : ℕ). shift k r) i
     go true false q = refl
     go false c q = refl
@@ -161,14 +145,14 @@ module _ (s : List ℕ) (e : ℕ) where
   notices_within h [] = tt
   notices_within h (x ∷ l) = either_has (Within (length s)) (heard (notice_at x.text s e) x.number s e) (notices l s e) (heard_within h x.text x.number (notice_at x.text s e) refl) (notices_within h l)
 
-  custom_success_within : (l : List Entry) (r : Option (ℕ × ℕ × ℕ)) → first_custom l s e ≡ r → TriedHas (Within (length s)) (custom_success r s e)
+  custom_success_within : (l : List Entry) (r : Option Occurrence) → first_custom l s e ≡ r → TriedHas (Within (length s)) (custom_success r s e)
   unfolding custom_success success
-  custom_success_within l (Some (n, len, k)) p = let w = occurs_room l s e (Some (n, len, k)) (sym p) n len k refl in part_within kind.Ok 0 k (k + (len + 4)) w.0 (omega arith) w.1
+  custom_success_within l (Some o) p = let w = occurs_room l s e (Some o) (sym p) o refl in part_within kind.Ok 0 o.place (o.place + (o.len + 4)) w.0 (omega arith) w.1
   custom_success_within l None p = tt
 
-  custom_error_within : (l : List Entry) (r : Option (ℕ × ℕ × ℕ)) → first_custom l s e ≡ r → TriedHas (Within (length s)) (custom_error r)
+  custom_error_within : (l : List Entry) (r : Option Occurrence) → first_custom l s e ≡ r → TriedHas (Within (length s)) (custom_error r)
   unfolding custom_error
-  custom_error_within l (Some (n, len, k)) p = let w = occurs_room l s e (Some (n, len, k)) (sym p) n len k refl in payload_within kind.Custom n (record { start = k + 2; len = len }) (k + (len + 4)) (length s) (omega arith) w.1
+  custom_error_within l (Some o) p = let w = occurs_room l s e (Some o) (sym p) o refl in payload_within kind.Custom o.number (record { start = o.place + 2; len = o.len }) (o.place + (o.len + 4)) (length s) (omega arith) w.1
   custom_error_within l None p = tt
 
   line_success_within : (l : Fixed) (r : Option ℕ) → find_in (fixed_text l) s e ≡ r → TriedHas (Within (length s)) (line_success s e l r)
@@ -211,7 +195,7 @@ module _ (s : List ℕ) (e : ℕ) where
 
   na_within : TriedHas (Within (length s)) (not_allowed s e)
   unfolding not_allowed
-  na_within = ways (TriedHas (Within (length s))) (stands (fixed_text fixed.Na) s e) (λ q. bare_within kind.NotAllowed (e + 6) (length s) (na_room s e true (sym q) refl)) (λ q. tt)
+  na_within = ways (TriedHas (Within (length s))) (stands (fixed_text fixed.Na) s e) (λ q. bare_within kind.NotAllowed (e + 6) (length s) (na_room s e q)) (λ q. tt)
 
   successes_within : (d : Digester) (l : List Entry) → TriedHas (Within (length s)) (successes d l s e)
   unfolding successes
@@ -267,15 +251,15 @@ digest_within d ts = by_length (λ s. Within (length s) (digest_in d ts s)) one
 abbrev pub Handed : Digester → List Token → List ℕ → ℕ → Hints → Type 0
 Handed d ts s e h = retries s e ≡ true → GoneAll d ts (drop (e + 2) s) × Known (drop (e + 2) s) 0 h
 
--- a level below the outermost one needs to be told what is gone and known
-pub said : (d : Digester) (t s : List ℕ) (h : Hints) (b : Bool) → length s ≤ 4096 → (b ≡ false → GoneAll d (tokens t) s × Known s 0 h) → (r : ControlFlow Answer (ℕ × Hints)) → r ≡ level_from b d t s h → Says s (skipped s) (tried d (tokens t) s (skipped s)) r
-said d t s h b l w r q = rw q (level_says d t s h b l w)
+-- what a level gave is what rules 1 to 5 say; one below the outermost one is told what is gone and known
+pub said : (d : Digester) (t s : List ℕ) → length s ≤ 4096 → (r : Level) → r ≡ outermost d t s (skipped s) → Says s (skipped s) (tried d (tokens t) s (skipped s)) r
+said d t s l r q = rw q (level_says d t s l)
 
-pub said_below : (d : Digester) (t s : List ℕ) (h : Hints) → length s ≤ 4096 → GoneAll d (tokens t) s × Known s 0 h → (r : ControlFlow Answer (ℕ × Hints)) → r ≡ below t s (skipped s) h → Says s (skipped s) (tried d (tokens t) s (skipped s)) r
-said_below d t s h l w r q = said d t s h false l (λ z. w) r (level_below d t s h (skipped s) refl false r refl q)
+pub said_below : (d : Digester) (t s : List ℕ) (h : Hints) → GoneAll d (tokens t) s × Known s 0 h → (r : Level) → r ≡ below t s (skipped s) h → Says s (skipped s) (tried d (tokens t) s (skipped s)) r
+said_below d t s h w r q = rw q (level_below_says d t s h w.0 w.1)
 
 -- The ways out of a level: r is what it gave, and it says what rules 1 to 5 say.
-module _ (d : Digester) (ts : List Token) (s : List ℕ) (r : ControlFlow Answer (ℕ × Hints)) (w : Says s (skipped s) (tried d ts s (skipped s)) r) where
+module _ (d : Digester) (ts : List Token) (s : List ℕ) (r : Level) (w : Says s (skipped s) (tried d ts s (skipped s)) r) where
   pub digest_done : (a : Answer) → r ≡ Break a → a ≡ digest_in d ts s
   unfolding after
   digest_done a q = let z : tried d ts s (skipped s) ≡ Some a = rw q at w in sym (rw z at (digest_step d ts s))
@@ -296,30 +280,25 @@ module _ (d : Digester) (ts : List Token) (s : List ℕ) (r : ControlFlow Answer
         rw (rest s (e + 2)) at (handed d ts s (skipped s) (e + 2) h (omega (arith, next.1.0)) (omega (arith, o)) next.0 next.1.1)
 
     -- x is what the retry from e on gave
-    module _ (x : Option Answer) (v : x ≡ seen_from 0 (after s (digest_in d ts) e None)) where
-      at_next : or_none x e ≡ digest_in d ts s
-      at_next = ap (λ (y : Option Answer). or_none y e) v ∙ seen_front s (digest_in d ts) e ∙ next_is
+    pub digest_next : (x : Option Answer) → x ≡ seen_from 0 (after s (digest_in d ts) e None) → unwrap_or x (nothing e) ≡ digest_in d ts s
+    digest_next x v = ap (λ (y : Option Answer). unwrap_or y (nothing e)) v ∙ seen_front s (digest_in d ts) e ∙ next_is
 
-      pub digest_again : (a : Answer) → x ≡ Some a → a ≡ digest_in d ts s
-      digest_again a z = rw z at at_next
-
-      pub digest_none : x ≡ None → (a : Answer) → a ≡ nothing e → a ≡ digest_in d ts s
-      digest_none z a y = y ∙ (rw z at at_next)
-
--- The ways out of the retry from e on: it ends there; or its level below gave a.
-module _ (d : Digester) (ts : List Token) (s : List ℕ) (e m : ℕ) (b : Bool) (u : b ≡ retries s e) where
-  pub retry_stop : b ≡ false → None ≡ seen_from m (after s (digest_in d ts) e None)
+-- The retry from e on, before which m bytes stand: it ends there; or it is that of the suffix behind the CRLF, as the code takes it.
+module _ (d : Digester) (ts : List Token) (s : List ℕ) (e m : ℕ) where
+  pub retry_stop : retries s e ≡ false → seen_from m (after s (digest_in d ts) e None) ≡ None
   unfolding seen_from after
-  retry_stop z = rw (sym u ∙ z)
+  retry_stop z = rw z
 
-  module _ (z : b ≡ true) where
-    pub retry_room : e + 4 < length s
-    retry_room = retries_room s e (sym u ∙ z)
+  abbrev pub behind : List ℕ
+  behind = take (length s - (e + 2)) (drop (e + 2) s)
 
-    pub retry_handed : (h : Hints) → Handed d ts s e h → GoneAll d ts (take (length s - (e + 2)) (drop (e + 2) s)) × Known (take (length s - (e + 2)) (drop (e + 2) s)) 0 h
-    retry_handed h w = rw (rest s (e + 2)) (w (sym u ∙ z))
+  module _ (z : retries s e ≡ true) where
+    pub retry_length : length behind + (e + 2) ≡ length s
+    retry_length = rw (rest s (e + 2)) (omega (arith, length-drop (e + 2) s, retries_room s e z))
 
-    pub retry_is : (n : ℕ) → n ≡ m + (e + 2) → (a : Answer) → a ≡ digest_in d ts (take (length s - (e + 2)) (drop (e + 2) s)) → (x : Option Answer) → x ≡ seen_from n a → x ≡ seen_from m (after s (digest_in d ts) e None)
+    pub retry_handed : (h : Hints) → Handed d ts s e h → GoneAll d ts behind × Known behind 0 h
+    retry_handed h w = rw (rest s (e + 2)) (w z)
+
+    pub retry_is : seen_from m (after s (digest_in d ts) e None) ≡ seen_from (m + (e + 2)) (digest_in d ts behind)
     unfolding after
-    retry_is n i a w x v =
-        v ∙ ap (λ (k : ℕ). seen_from k a) i ∙ ap (seen_from (m + (e + 2))) (w ∙ ap (digest_in d ts) (rest s (e + 2))) ∙ seen_again m e (digest_in d ts (drop (e + 2) s)) ∙ rw (sym u ∙ z)
+    retry_is = sym (ap (λ (u : List ℕ). seen_from (m + (e + 2)) (digest_in d ts u)) (rest s (e + 2)) ∙ seen_again m e (digest_in d ts (drop (e + 2) s)) ∙ rw z)

@@ -253,7 +253,9 @@ fn below(table: &[u8], s: &[u8], e: usize, hints: Hints) -> Level
     ControlFlow::Continue((e, known))
 }
 
-// Rules 1 to 5 on a level below the outermost one, with the hints of those above.
+// Rules 1 to 5 on a level below the outermost one, with the hints of those above. It isn't compiled into its caller, so that most digests, which end on the outermost
+// level, don't make room for what it needs.
+#[inline(never)]
 #[tactic(auto, using(crate::specs::Laws::skipped_le))]
 pub fn level_below(table: &[u8], s: &[u8], hints: Hints) -> Level
     ensures { result ≡ below table.now s.now (skipped s.now) hints }

@@ -1,41 +1,22 @@
--- `digest` meets its contract: the refusals in their order, then the recursive digester; what it heard by the theorem.
-use mathlib.Core.Path.{sym, ap, ◌∙◌}
-use native.Mathlib.Omega.{arith}
-use Rattle.table.specs.Table.{outcome}
+-- `digest` meets its contract: the refusals in their order, then the digester; what it heard by the theorem.
+use Rattle.std.proofs.Common.{ℕ, ◌≡◌, sym, ap, ◌∙◌, is_ok, arith}
+use borrow.Author.Tests.{eqb-true}
+use Rattle.outcome.specs.Outcome.{answered}
+use Rattle.table.specs.Table.{ruling}
 use Rattle.table.specs.Laws.{ruling_empty}
-use Rattle.digest.specs.Calls.{digest_long, digest_bad, digest_is, digest_heard}
+use Rattle.digest.specs.Calls.{found_good, digest_is, digest_heard}
 use Rattle.digest.proofs.digest.Goals as goal
-use Rattle.digest.proofs.digest.Goals.{then-table-gt0+in_default, else-table-gt0}
-
-pub returns-then-input-gt-LONGEST : goal.returns-then-input-gt-LONGEST
-returns-then-input-gt-LONGEST c =
-    record {
-      is = digest_long c.args.digester c.args.table.now c.args.input.now (omega arith);
-      heard = tt;
-    }
-
-pub returns-in-Faulty : goal.returns-in-Faulty
-returns-in-Faulty c =
-    record {
-      is = digest_bad c.args.digester c.args.table.now c.args.input.now (omega arith) _ (ap outcome (sym c.in-Faulty.is) ∙ c.check.ensures);
-      heard = tt;
-    }
+use Rattle.digest.proofs.digest.Goals.{then-not-is_empty+in_ok-map_err, else-not-is_empty}
 
 -- the table is empty, or was found good
 pub returns : goal.returns
 returns c =
     let said = c.digest_in.ensures in
-    elim c.if-table-gt0.branch [
-      | then-table-gt0+in_default w ↦
-          let good = ap outcome (sym w.in_default.is) ∙ w.check.ensures in
-          record {
-            is = digest_is c.args.digester c.args.table.now c.args.input.now (omega arith) _ good _ said;
-            heard = digest_heard c.args.digester c.args.table.now c.args.input.now _ (sym good) _ said;
-          }
-      | else-table-gt0 w ↦
-          let good = ruling_empty c.args.table.now (omega (arith, w.if-table-gt0.false)) in
-          record {
-            is = digest_is c.args.digester c.args.table.now c.args.input.now (omega arith) _ good _ said;
-            heard = digest_heard c.args.digester c.args.table.now c.args.input.now _ (sym good) _ said;
-          }
-    ]
+    let good : (n : ℕ) × (answered n ≡ ruling c.args.table.now) = elim c.if-not-is_empty.branch [
+      | then-not-is_empty+in_ok-map_err w ↦ found_good _ _ w.check.ensures (sym w.map_err.ensures.variant ∙ ap is_ok w.in_ok-map_err.was)
+      | else-not-is_empty w ↦ (0, ruling_empty c.args.table.now (eqb-true _ _ (sym c.is_empty.ensures ∙ w.if-not-is_empty.false)))
+    ] in
+    record {
+      is = digest_is c.args.digester c.args.table.now c.args.input.now (omega arith) good.0 good.1 _ said;
+      heard = digest_heard c.args.digester c.args.table.now c.args.input.now good.0 (sym good.1) _ said;
+    }

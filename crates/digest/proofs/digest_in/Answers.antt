@@ -1,24 +1,16 @@
 -- `digest_in` meets its contract: the outermost level answered, or the retry goes on from it.
-use mathlib.Core.Path.{refl}
-use mathlib.Core.Bool.{true}
-use native.Mathlib.Omega.{arith}
-use Rattle.table.specs.Table.{tokens}
-use Rattle.text.specs.Logic.{false_true}
-use Rattle.digest.specs.Step.{said, digest_done, next_hands, digest_again, digest_none}
+use Rattle.std.proofs.Common.{ap, ◌∙◌, arith, unwrap_or}
+use Rattle.digest.specs.Step.{said, digest_done, next_hands, digest_next}
 use Rattle.digest.proofs.digest_in.Goals as goal
 
 pub retry-requires : goal.retry-requires
 retry-requires c =
-    (omega (arith, c.requires), next_hands c.args.digester (tokens c.args.table.now) c.args.s.now _ (said c.args.digester c.args.table.now c.args.s.now _ true c.requires (λ z. absurd (false_true refl z)) _ c.level_from.ensures) _ _ c.in-Next.is)
+    (omega arith, next_hands _ _ _ _ (said c.args.digester c.args.table.now c.args.s.now c.requires _ c.level_first.ensures) _ _ c.in-Continue.is)
 
-pub returns-in-Done : goal.returns-in-Done
-returns-in-Done c =
-    digest_done c.args.digester (tokens c.args.table.now) c.args.s.now _ (said c.args.digester c.args.table.now c.args.s.now _ true c.requires (λ z. absurd (false_true refl z)) _ c.level_from.ensures) _ c.in-Done.is
+pub returns-in-Break : goal.returns-in-Break
+returns-in-Break c = digest_done _ _ _ _ (said c.args.digester c.args.table.now c.args.s.now c.requires _ c.level_first.ensures) _ c.in-Break.is
 
-pub returns-in-Done-retry : goal.returns-in-Done-retry
-returns-in-Done-retry c =
-    digest_again c.args.digester (tokens c.args.table.now) c.args.s.now _ (said c.args.digester c.args.table.now c.args.s.now _ true c.requires (λ z. absurd (false_true refl z)) _ c.level_from.ensures) _ _ c.in-Next.is _ c.retry.ensures _ c.in-Done-retry.is
-
-pub returns-in-Next-retry : goal.returns-in-Next-retry
-returns-in-Next-retry c =
-    digest_none c.args.digester (tokens c.args.table.now) c.args.s.now _ (said c.args.digester c.args.table.now c.args.s.now _ true c.requires (λ z. absurd (false_true refl z)) _ c.level_from.ensures) _ _ c.in-Next.is _ c.retry.ensures c.in-Next-retry.is _ c.nothing.ensures
+pub returns-in-Continue : goal.returns-in-Continue
+returns-in-Continue c =
+    c.unwrap_or.ensures ∙ ap (unwrap_or c.retry.result) c.nothing.ensures
+    ∙ digest_next _ _ _ _ (said c.args.digester c.args.table.now c.args.s.now c.requires _ c.level_first.ensures) _ _ c.in-Continue.is _ c.retry.ensures

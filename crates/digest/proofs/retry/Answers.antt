@@ -1,40 +1,41 @@
--- `retry` meets its contract, as `retry_in` does with nothing before it: one law for each way out (`Step`).
-use Prim.Native.Nat.{◌+◌, ◌-◌}
-use native.Mathlib.Omega.{arith}
-use lib.ListN.{length, take, drop, length-take, length-drop}
+-- `retry` meets its contract: what the digest gives of the suffix that is left, seen from the front, is what it gives of s. The measure is the suffix's length.
+use Rattle.std.proofs.Common.{refl, sym, ap, ◌∙◌, ◌+◌, arith}
 use Rattle.table.specs.Table.{tokens}
-use Rattle.digest.specs.Step.{said_below, digest_done, done_within, next_is, next_hands, retry_stop, retry_room, retry_handed, retry_is}
+use Rattle.digest.specs.Step.{seen_from, said_below, digest_done, done_within, next_is, next_hands, retry_stop, retry_length, retry_handed, retry_is}
 use Rattle.digest.proofs.retry.Goals as goal
 
-pub returns-then-not-retries_at : goal.returns-then-not-retries_at
-returns-then-not-retries_at c =
-    retry_stop c.args.digester (tokens c.args.table.now) c.args.s.now c.args.e 0 _ c.retries_at.ensures c.if-not-retries_at.true
-
-pub overflow_add-next : goal.overflow_add-next
-overflow_add-next c =
-    record { fits = omega (arith, retry_room c.args.digester (tokens c.args.table.now) c.args.s.now c.args.e 0 _ c.retries_at.ensures c.if-not-retries_at.false, c.requires.0) }
-
-pub slice_bounds-rest-count : goal.slice_bounds-rest-count
-slice_bounds-rest-count c =
-    omega (arith, retry_room c.args.digester (tokens c.args.table.now) c.args.s.now c.args.e 0 _ c.retries_at.ensures c.if-not-retries_at.false)
-
-pub slice_bounds-rest-start : goal.slice_bounds-rest-start
-slice_bounds-rest-start c =
-    omega (arith, retry_room c.args.digester (tokens c.args.table.now) c.args.s.now c.args.e 0 _ c.retries_at.ensures c.if-not-retries_at.false)
+pub loop-rest-init : goal.loop-rest-init
+loop-rest-init c = (omega arith, c.requires.1, refl)
 
 pub seen_from-requires : goal.seen_from-requires
 seen_from-requires c =
-    (omega (arith, retry_room c.args.digester (tokens c.args.table.now) c.args.s.now c.args.e 0 _ c.retries_at.ensures c.if-not-retries_at.false, c.requires.0), done_within c.args.digester (tokens c.args.table.now) (take (length c.args.s.now - (c.args.e + 2)) (drop (c.args.e + 2) c.args.s.now)) _ (said_below c.args.digester c.args.table.now (take (length c.args.s.now - (c.args.e + 2)) (drop (c.args.e + 2) c.args.s.now)) _ (rw (length-take, length-drop) (omega (arith, c.requires.0))) (retry_handed c.args.digester (tokens c.args.table.now) c.args.s.now c.args.e 0 _ c.retries_at.ensures c.if-not-retries_at.false _ c.requires.1) _ c.level_below.ensures) _ c.in-Done.is (rw (length-take, length-drop) (omega (arith, c.requires.0))))
+    let z = sym c.loop-rest-test.ensures in
+    let l = retry_length c.args.digester (tokens c.args.table.now) c.loop-rest.rest.now c.loop-rest.e c.loop-rest.moved z in
+    let w = said_below c.args.digester c.args.table.now _ _ (retry_handed c.args.digester (tokens c.args.table.now) c.loop-rest.rest.now c.loop-rest.e c.loop-rest.moved z _ c.loop-rest.invariant.1) _ c.level_below.ensures in
+    (omega (arith, l), done_within _ _ _ _ w _ c.in-Break.is (omega (arith, l)))
 
-pub retry_in-requires : goal.retry_in-requires
-retry_in-requires c =
-    let room = retry_room c.args.digester (tokens c.args.table.now) c.args.s.now c.args.e 0 _ c.retries_at.ensures c.if-not-retries_at.false in
-    (rw (length-take, length-drop) (omega (arith, room, c.requires.0)), next_hands c.args.digester (tokens c.args.table.now) (take (length c.args.s.now - (c.args.e + 2)) (drop (c.args.e + 2) c.args.s.now)) _ (said_below c.args.digester c.args.table.now (take (length c.args.s.now - (c.args.e + 2)) (drop (c.args.e + 2) c.args.s.now)) _ (rw (length-take, length-drop) (omega (arith, c.requires.0))) (retry_handed c.args.digester (tokens c.args.table.now) c.args.s.now c.args.e 0 _ c.retries_at.ensures c.if-not-retries_at.false _ c.requires.1) _ c.level_below.ensures) _ _ c.in-Next.is)
+pub returns-in-Break : goal.returns-in-Break
+returns-in-Break c =
+    let z = sym c.loop-rest-test.ensures in
+    let w = said_below c.args.digester c.args.table.now _ _ (retry_handed c.args.digester (tokens c.args.table.now) c.loop-rest.rest.now c.loop-rest.e c.loop-rest.moved z _ c.loop-rest.invariant.1) _ c.level_below.ensures in
+    c.seen_from.ensures ∙ ap (seen_from (c.loop-rest.moved + (c.loop-rest.e + 2))) (digest_done _ _ _ _ w _ c.in-Break.is)
+    ∙ sym (c.loop-rest.invariant.2 ∙ retry_is c.args.digester (tokens c.args.table.now) c.loop-rest.rest.now c.loop-rest.e c.loop-rest.moved z)
 
-pub returns-in-Done : goal.returns-in-Done
-returns-in-Done c =
-    retry_is c.args.digester (tokens c.args.table.now) c.args.s.now c.args.e 0 _ c.retries_at.ensures c.if-not-retries_at.false _ (omega arith) _ (digest_done c.args.digester (tokens c.args.table.now) (take (length c.args.s.now - (c.args.e + 2)) (drop (c.args.e + 2) c.args.s.now)) _ (said_below c.args.digester c.args.table.now (take (length c.args.s.now - (c.args.e + 2)) (drop (c.args.e + 2) c.args.s.now)) _ (rw (length-take, length-drop) (omega (arith, c.requires.0))) (retry_handed c.args.digester (tokens c.args.table.now) c.args.s.now c.args.e 0 _ c.retries_at.ensures c.if-not-retries_at.false _ c.requires.1) _ c.level_below.ensures) _ c.in-Done.is) _ c.seen_from.ensures
+pub loop-rest-smaller : goal.loop-rest-smaller
+loop-rest-smaller c =
+    omega (arith, retry_length c.args.digester (tokens c.args.table.now) c.loop-rest.rest.now c.loop-rest.e c.loop-rest.moved (sym c.loop-rest-test.ensures))
 
-pub returns-in-Next : goal.returns-in-Next
-returns-in-Next c =
-    retry_is c.args.digester (tokens c.args.table.now) c.args.s.now c.args.e 0 _ c.retries_at.ensures c.if-not-retries_at.false _ (omega arith) _ (next_is c.args.digester (tokens c.args.table.now) (take (length c.args.s.now - (c.args.e + 2)) (drop (c.args.e + 2) c.args.s.now)) _ (said_below c.args.digester c.args.table.now (take (length c.args.s.now - (c.args.e + 2)) (drop (c.args.e + 2) c.args.s.now)) _ (rw (length-take, length-drop) (omega (arith, c.requires.0))) (retry_handed c.args.digester (tokens c.args.table.now) c.args.s.now c.args.e 0 _ c.retries_at.ensures c.if-not-retries_at.false _ c.requires.1) _ c.level_below.ensures) _ _ c.in-Next.is) _ c.retry_in.ensures
+pub loop-rest-preserved : goal.loop-rest-preserved
+loop-rest-preserved c =
+    let z = sym c.loop-rest-test.ensures in
+    let l = retry_length c.args.digester (tokens c.args.table.now) c.loop-rest.rest.now c.loop-rest.e c.loop-rest.moved z in
+    let w = said_below c.args.digester c.args.table.now _ _ (retry_handed c.args.digester (tokens c.args.table.now) c.loop-rest.rest.now c.loop-rest.e c.loop-rest.moved z _ c.loop-rest.invariant.1) _ c.level_below.ensures in (
+      omega (arith, l),
+      next_hands _ _ _ _ w _ _ c.in-Continue.is,
+      c.loop-rest.invariant.2 ∙ retry_is c.args.digester (tokens c.args.table.now) c.loop-rest.rest.now c.loop-rest.e c.loop-rest.moved z
+          ∙ ap (seen_from (c.loop-rest.moved + (c.loop-rest.e + 2))) (sym (next_is _ _ _ _ w _ _ c.in-Continue.is)),
+    )
+
+pub returns : goal.returns
+returns c =
+    sym (c.loop-rest.invariant.2 ∙ retry_stop c.args.digester (tokens c.args.table.now) c.loop-rest.rest.now c.loop-rest.e c.loop-rest.moved (sym c.loop-rest-test.ensures))
