@@ -14,6 +14,7 @@ use Rattle.pieces.specs.Pieces.{string_end, number_at}
 use Rattle.pieces.specs.declared.Kind.TheVariants as kinds
 use Rattle.pieces.specs.declared.StringError.{StringError}
 use Rattle.pieces.specs.declared.StringError.TheVariants.{Broken}
+use Rattle.lists.specs.declared.ListError.{ListError}
 use Rattle.lists.specs.declared.ListError.TheVariants.{Malformed, TooLarge, TooMany}
 use Rattle.lists.specs.Grammar.{made}
 use Rattle.lists.specs.Scan.{outside}
@@ -72,6 +73,10 @@ told_digit s at e =
 
 pub opens_with : (s : List ℕ) (at b : ℕ) → get_or s at 0 ≡ suc b → drop at s ≡ suc b ∷ drop (at + 1) s
 opens_with s at b e = let n : suc at ≡ at + 1 = omega arith in drop-cons s at 0 (told_byte s at b e) ∙ ap (λ (c : ℕ). c ∷ drop (suc at) s) e ∙ ap (λ (i : ℕ). suc b ∷ drop i s) n
+
+-- a string that is broken is malformed there
+abbrev pub malformed_by : StringError → ListError
+malformed_by (Broken p) = Malformed p
 
 -- a string at the place `at`
 module _ (s : List ℕ) (at d n : ℕ) (q : get_or s at 0 ≡ 34) where

@@ -6,6 +6,7 @@
 ghost use Rattle.std.specs.Prelude.{◌≡◌, true, [], ◌∷◌, ◌≤◌, ◌<◌, length, drop, get_or};
 ghost use Rattle.parser.specs.Parser.{is_digit};
 ghost use Rattle.lists.specs.Grammar.{body, element, list, made, number_of, place_of, Reading};
+ghost use Rattle.lists.specs.Calls.{malformed_by};
 ghost use Rattle.lists.specs.Reader.{Bodied, Bare, ends_at};
 ghost use Rattle.lists.specs.Told.{Told, Whole, written};
 
@@ -47,6 +48,16 @@ impl ListError {
             | ListError::TooLarge(place)
             | ListError::TooMany(place) => place,
         }
+    }
+}
+
+// A string that is broken is malformed there.
+impl From<StringError> for ListError {
+    ghost from_gives = { λ e why. why ≡ malformed_by e };
+
+    fn from(e: StringError) -> ListError {
+        let StringError::Broken(place) = e;
+        ListError::Malformed(place)
     }
 }
 
@@ -99,10 +110,8 @@ fn string_at(s: &[u8], at: usize, depth: usize, n: usize) -> Result<Element, Lis
     if n >= pieces::MOST {
         return Err(ListError::TooMany(at));
     }
-    match pieces::string_end(s, at + 1) {
-        Ok(end) => Ok(without_value(at, end, Kind::String, depth)),
-        Err(StringError::Broken(place)) => Err(ListError::Malformed(place)),
-    }
+    let end = pieces::string_end(s, at + 1)?;
+    Ok(without_value(at, end, Kind::String, depth))
 }
 
 // A number, or a range, whose first digit stands at `at`.

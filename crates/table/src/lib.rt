@@ -44,6 +44,7 @@ pub enum TableError {
 const MOST: usize = 64;
 
 // Are the W bytes from `at` on plain, 0x20 to 0x7E? It goes through all of them, so that a processor may take many at once.
+#[tactic(auto, using(crate::specs::Laws::part_more), unfolding(crate::specs::Table::is_plain, crate::specs::Table::all_plain))]
 fn part_plain<const W: usize>(t: &[u8], at: usize) -> bool
     requires { at + W ≤ length t.now }
     ensures { result ≡ all_plain (take W (drop at t.now)) }
@@ -56,6 +57,7 @@ fn part_plain<const W: usize>(t: &[u8], at: usize) -> bool
 }
 
 // Are t's bytes plain? Its first W and its last W are all there are.
+#[tactic(auto, using(crate::specs::Laws::ends_all))]
 fn ends_plain<const W: usize>(t: &[u8]) -> bool
     requires { (W ≤ length t.now) × (length t.now ≤ 2 * W) }
     ensures { result ≡ all_plain t.now }
@@ -141,7 +143,7 @@ fn record_at(t: &[u8], at: usize) -> Read
 }
 
 // The record that begins at `at`, faulty also where its text breaks a rule.
-#[tactic(auto, unfolding(crate::specs::Table::good_at, crate::specs::Table::good_if))]
+#[tactic(auto, using(crate::specs::Laws::record_inside, crate::specs::Laws::good_bad, crate::specs::Laws::good_good), unfolding(crate::specs::Table::good_at, crate::specs::Table::good_if))]
 fn good_at(t: &[u8], at: usize) -> Read
     ensures { result ≡ good_at t.now at }
 {
@@ -152,6 +154,7 @@ fn good_at(t: &[u8], at: usize) -> Read
 }
 
 // Is the table good? The empty one is; a 65th record is faulty whatever it holds.
+#[tactic(auto, using(crate::specs::Laws::check_end, crate::specs::Laws::check_faulty, crate::specs::Laws::check_more, crate::specs::Laws::check_full, crate::specs::Laws::check_over, crate::specs::Laws::good_record_inside))]
 pub fn check(t: &[u8]) -> Result<usize, TableError>
     ensures { outcome result ≡ ruling t.now }
 {
@@ -170,6 +173,7 @@ pub fn check(t: &[u8]) -> Result<usize, TableError>
 }
 
 // The first record with the mark, read from `at` on, where record number n begins. At most 64 are read in all.
+#[tactic(auto, using(crate::specs::Laws::next_over, crate::specs::Laws::next_none, crate::specs::Laws::next_is, crate::specs::Laws::next_more, crate::specs::Laws::record_inside))]
 pub fn next_of(t: &[u8], mark: Mark, at: usize, n: usize) -> Option<(Record, usize)>
     ensures { result ≡ next_of mark t.now at n }
 {
