@@ -2,6 +2,7 @@
 // It promises only that it doesn't trip. What a payload holds is `lists::read`'s promise; how it is shown is held to tests/atlist. bin/atlist makes the status.
 #![tactic(auto)]
 
+use lists::ListError;
 use pieces::{Element, Kind, NUMBERS};
 use std::io;
 
@@ -83,11 +84,11 @@ impl Page {
     }
 
     // A refusal: its number, its place, what it means, and the place marked.
-    fn refusal(&mut self, payload: &[u8], number: u32, place: usize) {
-        self.behind(b"refused ", number as u64);
-        self.behind(b" at ", place as u64);
-        self.words(meaning(number));
-        self.marked(payload, place);
+    fn refusal(&mut self, payload: &[u8], e: ListError) {
+        self.behind(b"refused ", e.number() as u64);
+        self.behind(b" at ", e.place() as u64);
+        self.words(meaning(e));
+        self.marked(payload, e.place());
     }
 }
 
@@ -110,13 +111,13 @@ fn name(kind: Kind) -> &'static [u8] {
     }
 }
 
-// What a refusal's number means, in words.
-fn meaning(number: u32) -> &'static [u8] {
-    match number {
-        6 => b": malformed: the grammar can't go on here\n",
-        7 => b": too deep: a bracket opens within 4 others\n",
-        8 => b": number too large: over 4,294,967,295\n",
-        _ => b": too many elements: this one is over 256\n",
+// What a refusal means, in words.
+fn meaning(e: ListError) -> &'static [u8] {
+    match e {
+        ListError::Malformed(_) => b": malformed: the grammar can't go on here\n",
+        ListError::TooDeep(_) => b": too deep: a bracket opens within 4 others\n",
+        ListError::TooLarge(_) => b": number too large: over 4,294,967,295\n",
+        ListError::TooMany(_) => b": too many elements: this one is over 256\n",
     }
 }
 
@@ -140,7 +141,7 @@ fn report(page: &mut Page, payload: &[u8]) {
             page.behind(b"elements ", count as u64);
             page.words(b"\n");
         }
-        Err((number, place)) => page.refusal(payload, number, place),
+        Err(e) => page.refusal(payload, e),
     }
 }
 

@@ -147,9 +147,9 @@ pub fn list_case<R: Print>(
     let mut elements = [0; NUMBERS];
     match lists::read(input, &mut elements) {
         Ok(n) => say_elements(out, &elements, n)?,
-        Err((k, place)) => {
-            out.refusal(k as u64)?;
-            out.and_number(place as u64)?;
+        Err(e) => {
+            out.refusal(e.number() as u64)?;
+            out.and_number(e.place() as u64)?;
         }
     }
     out.words(b"\n")
