@@ -1,7 +1,7 @@
--- The calls that a user makes: the ways out of their programs, their refusals, and what they heard.
+-- The calls that a user makes: what the walk came to, their refusals, and what they heard.
 use Rattle.std.specs.Prelude.{Option, Some, None, ◌≡◌, true, List, [], ◌∷◌, ℕ, ◌+◌, ◌≤◌, ◌<◌, length, get_or, ltb}
 use Rattle.std.proofs.Math.Path.{refl}
-use Rattle.std.proofs.Common.{sym, ap, ◌∙◌, le-ltb, lt-ltb}
+use Rattle.std.proofs.Common.{sym, ◌∙◌}
 use native.Mathlib.Omega.{arith}
 use Rattle.outcome.specs.Outcome.{Outcome, answered, refused}
 use Rattle.outcome.specs.Laws.{ways}
@@ -10,9 +10,8 @@ use Rattle.text.specs.Text.{among}
 use Rattle.text.specs.Laws.{trimmed_room}
 use Rattle.text.specs.Bytes.{bytes}
 use Rattle.text.specs.declared.Span.{Span}
-use Rattle.answers.specs.declared.Kind.{Kind}
 use Rattle.answers.specs.declared.Answer.{Answer}
-use Rattle.answers.specs.Answer.{Number, has_number, stored, is_found, nothing, with_payload, Within}
+use Rattle.answers.specs.Answer.{Number, has_number, stored, is_found, nothing, Within}
 use Rattle.answers.specs.Laws.{nothing_within, payload_within}
 use Rattle.numeric.specs.declared.Line.{Line}
 use Rattle.numeric.specs.Numeric.{kind_of, code_at, leftmost, behind, along, ring, said, said_of, digest_unchecked, ruled, under_table, digest}
@@ -20,11 +19,6 @@ use Rattle.numeric.specs.Heard.{NoCode, Heard, HeardIn}
 use Rattle.numeric.specs.Laws.{coded, LeastSays, least_says, behind_is, code_parts, code_fits, code_rest}
 
 module _ (s : List ℕ) where
-  -- the way out of `said`
-  pub said_is : (p : ℕ) (k : Kind) → k ≡ kind_of (get_or s p 0) → (t : Span) → t ≡ along s p (get_or s p 0) → (a : Answer) → a ≡ with_payload k ring t (p + 2) → a ≡ said s p
-  unfolding said
-  said_is p k e t f a g = g ∙ (λ i. with_payload (e i) ring (f i) (p + 2))
-
   -- what the search for the leftmost code says
   says : LeastSays (code_at s) (length s) 0 (leftmost s)
   unfolding leftmost
@@ -137,20 +131,9 @@ module _ (t s : List ℕ) where
   under_hears (answered n) = unchecked_heard s
   under_hears (refused n v) = tt
 
-  digest_hears : HeardIn s (digest t s)
+  pub digest_hears : HeardIn s (digest t s)
   unfolding digest
   digest_hears = ways (HeardIn s) (ltb 4096 (length s)) (λ q. tt) (λ q. under_hears (ruled t))
-
-  pub hears : (r : Outcome Answer) → r ≡ digest t s → (r ≡ digest t s) × HeardIn s r
-  hears r e = (e, rw e digest_hears)
-
-  pub digest_long : 4096 < length s → refused 1 [] ≡ digest t s
-  unfolding digest
-  digest_long h = rw (lt-ltb 4096 (length s) h)
-
-  at_table : length s ≤ 4096 → under_table (ruled t) s ≡ digest t s
-  unfolding digest
-  at_table l = rw (le-ltb 4096 (length s) l)
 
 -- Refusal 2: the table isn't empty.
 pub ruled_bad : (t : List ℕ) → 0 < length t → refused 2 (0 ∷ []) ≡ ruled t
@@ -162,11 +145,5 @@ ruled_empty [] h = refl
 ruled_empty (x ∷ t) h = absurd (omega arith)
 
 pub ruled_two : (t : List ℕ) (n : ℕ) (v : List ℕ) → ruled t ≡ refused n v → n ≡ 2
-ruled_two [] n v e = let z : ◌≡◌ {A = ℕ} 0 1 = cc in absurd (omega arith)
+ruled_two [] n v e = cc
 ruled_two (x ∷ t) n v e = cc
-
-pub digest_bad : (t s : List ℕ) → length s ≤ 4096 → 0 < length t → refused 2 (0 ∷ []) ≡ digest t s
-digest_bad t s l h = ap (λ (x : Outcome ℕ). under_table x s) (ruled_bad t h) ∙ at_table t s l
-
-pub digest_is : (t s : List ℕ) → length s ≤ 4096 → length t ≤ 0 → (a : Answer) → a ≡ digest_unchecked s → answered a ≡ digest t s
-digest_is t s l h a e = ap answered e ∙ ap (λ (x : Outcome ℕ). under_table x s) (ruled_empty t h) ∙ at_table t s l

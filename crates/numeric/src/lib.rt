@@ -128,6 +128,7 @@ fn along(s: &[u8], p: usize, from: usize, b: u8) -> Span
 const RING: u32 = 255;
 
 // What the code at the line says; it is consumed through its CR.
+#[tactic(auto, unfolding(crate::specs::Numeric::said))]
 fn said(s: &[u8], line: Line) -> Answer
     requires { (line.start + 2 ≤ length s.now) × (line.from ≡ behind s.now line.start) }
     ensures { result ≡ said s.now line.start }
@@ -149,6 +150,7 @@ pub fn digest_unchecked(input: &[u8]) -> Answer
 
 // What the input was, or the refusal. There are no tokens in V0, so the table is to be empty; another is faulty from its first record on.
 // None exactly when no line start of the input holds a code; else the leftmost code decides, and the rest begins at a line start (`HeardIn`).
+#[tactic(auto, unfolding(crate::specs::Numeric::digest))]
 pub fn digest(table: &[u8], input: &[u8]) -> Result<Answer, DigestError>
     ensures is { outcome result ≡ digest table.now input.now }
     ensures heard { HeardIn input.now (outcome result) }
