@@ -14,13 +14,13 @@ use Rattle.ink.specs.Laws.{ink_none, ink_at, then_ink, decimal_length, hex_lengt
 use Rattle.answers.specs.declared.Kind.{Kind}
 use Rattle.answers.specs.declared.Kind.TheVariants as kind
 use Rattle.answers.specs.declared.Answer.{Answer}
-use Rattle.answers.specs.Answer.{Number, none, number, number_of, is_found, is_numeric, carried}
+use Rattle.answers.specs.Answer.{Number, none, number, number_of, is_found, is_numeric, carried, name_of}
 use Rattle.answers.specs.Laws.{carried_within}
 use Rattle.steps.specs.declared.Step.{Step}
 use Rattle.steps.specs.Steps.{steps_from, steps, first_of, eaten}
 use Rattle.steps.specs.Laws.{step_lies, Begins, Run, steps_run, steps_more, at_end, at_step, step_within, eaten_within}
 use Rattle.report.specs.declared.Drawn.{Drawn}
-use Rattle.report.specs.Report.{name_of, number_text, digits_text, payload_text, number_or, value_of, line_of, lines, text_of, Drawing, drawn, draw, is, short, report}
+use Rattle.report.specs.Report.{spaced, number_text, payload_text, number_or, value_of, line_of, lines, text_of, Drawing, drawn, draw, is, short, report}
 
 -- how long the texts are
 payload_length : (p : List ℕ) → length (payload_text p) ≤ 1 + 2 * length p
@@ -36,13 +36,13 @@ value_length : (k : Kind) (m : Number) (p : List ℕ) → length (value_of k m p
 value_length k m p = ways (λ (l : List ℕ). length l ≤ 21 + 2 * length p) (is_numeric k) (λ q. omega arith) (λ q. number_length m p)
 
 -- the two ways of a value
-pub value_numeric : (k : Kind) (m : Number) (p : List ℕ) → is_numeric k ≡ true → digits_text p ≡ value_of k m p
+pub value_numeric : (k : Kind) (m : Number) (p : List ℕ) → is_numeric k ≡ true → spaced p ≡ value_of k m p
 value_numeric k m p e = rw e
 
 pub value_other : (k : Kind) (m : Number) (p : List ℕ) → is_numeric k ≡ false → number_or m p ≡ value_of k m p
 value_other k m p e = rw e
 
-name_length : (k : Kind) → length (name_of k) ≤ 11
+name_length : (k : Kind) → length (name_of k) ≤ 10
 name_length kind.None = omega arith
 name_length kind.Ok = omega arith
 name_length kind.Prompt = omega arith
@@ -91,8 +91,8 @@ module _ (a : Answer) (s : List ℕ) where
   text_length : length texts ≤ 21 + 2 * (carried a).len
   text_length = omega (arith, value_length a.kind (number_of a) (part_of s (carried a).start (carried a).len), part_short s (carried a).start (carried a).len)
 
-  found_length : length (decimal a.consumed ++ (name_of a.kind ++ (texts ++ bytes "\n"))) ≤ 53 + 2 * (carried a).len
-  found_length = rw (length-append, length-append, length-append) (omega (arith, decimal_length a.consumed, name_length a.kind, text_length))
+  found_length : length (decimal a.consumed ++ (spaced (name_of a.kind) ++ (texts ++ bytes "\n"))) ≤ 53 + 2 * (carried a).len
+  found_length = rw (length-append, length-append, length-append, length-append) (omega (arith, decimal_length a.consumed, name_length a.kind, text_length))
 
   line_length : length (line_of a s) ≤ 53 + 2 * (carried a).len
   unfolding line_of
@@ -103,31 +103,34 @@ module _ (a : Answer) (s : List ℕ) where
   line_none o n e = rw e (ink_none o n)
 
   module _ (o : List ℕ) (n : ℕ) (h : n + (53 + 2 * (carried a).len) ≤ length o) (o₁ : List ℕ) (n₁ : ℕ) (e₁ : inked o₁ n₁ ≡ ink o n (decimal a.consumed)) (l₁ : length o₁ ≡ length o) where
-    module _ (o₂ : List ℕ) (n₂ : ℕ) (e₂ : inked o₂ n₂ ≡ ink o₁ n₁ (name_of a.kind)) (l₂ : length o₂ ≡ length o₁) where
-      named : inked o₂ n₂ ≡ ink o n (decimal a.consumed ++ name_of a.kind)
-      named = then_ink o n (decimal a.consumed) (name_of a.kind) o₁ n₁ (inked o₂ n₂) e₁ e₂ (omega (arith, decimal_length a.consumed, name_length a.kind))
+    pub name_room : n₁ + (1 + length (name_of a.kind)) ≤ length o₁
+    name_room = omega (arith, decimal_length a.consumed, name_length a.kind, ink_at o n (decimal a.consumed) (omega (arith, decimal_length a.consumed)) o₁ n₁ e₁)
+
+    module _ (o₂ : List ℕ) (n₂ : ℕ) (e₂ : inked o₂ n₂ ≡ ink o₁ n₁ (spaced (name_of a.kind))) (l₂ : length o₂ ≡ length o₁) where
+      named : inked o₂ n₂ ≡ ink o n (decimal a.consumed ++ spaced (name_of a.kind))
+      named = then_ink o n (decimal a.consumed) (spaced (name_of a.kind)) o₁ n₁ (inked o₂ n₂) e₁ e₂ (omega (arith, decimal_length a.consumed, name_length a.kind))
 
       pub value_room : (q : Span) → q ≡ carried a → (p : List ℕ) → p ≡ part_of s q.start q.len → n₂ + (21 + 2 * length p) ≤ length o₂
       value_room v u p q =
           let k = decimal_length a.consumed in
           let l = name_length a.kind in
           let w = ink_at o n (decimal a.consumed) (omega arith) o₁ n₁ e₁ in
-          omega (arith, ink_at o₁ n₁ (name_of a.kind) (omega arith) o₂ n₂ e₂, ap length (part_carried v u p q), part_short s (carried a).start (carried a).len)
+          omega (arith, ink_at o₁ n₁ (spaced (name_of a.kind)) (omega arith) o₂ n₂ e₂, ap length (part_carried v u p q), part_short s (carried a).start (carried a).len)
 
       module _ (v : Span) (u : v ≡ carried a) (p : List ℕ) (q : p ≡ part_of s v.start v.len) (o₃ : List ℕ) (n₃ : ℕ) (e₃ : inked o₃ n₃ ≡ ink o₂ n₂ (value_of a.kind (number_of a) p)) (l₃ : length o₃ ≡ length o₂) where
-        valued : inked o₃ n₃ ≡ ink o n (decimal a.consumed ++ name_of a.kind ++ texts)
+        valued : inked o₃ n₃ ≡ ink o n (decimal a.consumed ++ spaced (name_of a.kind) ++ texts)
         valued =
-            then_ink o n (decimal a.consumed ++ name_of a.kind) texts o₂ n₂ (inked o₃ n₃) named (e₃ ∙ ap (λ (y : List ℕ). ink o₂ n₂ (value_of a.kind (number_of a) y)) (part_carried v u p q))
+            then_ink o n (decimal a.consumed ++ spaced (name_of a.kind)) texts o₂ n₂ (inked o₃ n₃) named (e₃ ∙ ap (λ (y : List ℕ). ink o₂ n₂ (value_of a.kind (number_of a) y)) (part_carried v u p q))
             (rw length-append (omega (arith, decimal_length a.consumed, name_length a.kind, text_length)))
 
-        front_length : length (decimal a.consumed ++ name_of a.kind ++ texts) ≤ 52 + 2 * (carried a).len
+        front_length : length (decimal a.consumed ++ spaced (name_of a.kind) ++ texts) ≤ 52 + 2 * (carried a).len
         front_length = rw (length-append, length-append) (omega (arith, decimal_length a.consumed, name_length a.kind, text_length))
 
         pub line_some : is_found a ≡ true → (r : Ink) → r ≡ ink o₃ n₃ (10 ∷ []) → r ≡ ink o n (line_of a s)
         unfolding line_of
         line_some f r e =
-            rw f (then_ink o n (decimal a.consumed ++ name_of a.kind ++ texts) (10 ∷ []) o₃ n₃ r valued e (omega (arith, front_length))
-            ∙ ap (ink o n) (append_assoc (decimal a.consumed ++ name_of a.kind) texts (10 ∷ []) ∙ append_assoc (decimal a.consumed) (name_of a.kind) (texts ++ (10 ∷ []))))
+            rw f (then_ink o n (decimal a.consumed ++ spaced (name_of a.kind) ++ texts) (10 ∷ []) o₃ n₃ r valued e (omega (arith, front_length))
+            ∙ ap (ink o n) (append_assoc (decimal a.consumed ++ spaced (name_of a.kind)) texts (10 ∷ []) ∙ append_assoc (decimal a.consumed) (spaced (name_of a.kind)) (texts ++ (10 ∷ []))))
 
 -- the lines take at most 55 bytes for each byte
 step_inside : (s : List ℕ) (i : ℕ) (x : Step) → Begins [] s i x → (carried x.answer).len ≤ x.answer.consumed

@@ -1,39 +1,22 @@
 -- What atread prints, in document 01's words.
-use Rattle.std.specs.Prelude.{None, Result, Ok, Err, List, [], ◌∷◌, ◌++◌, ℕ, ◌-◌, length, drop, ltb, if◌then◌else◌}
+use Rattle.std.specs.Prelude.{Result, Ok, Err, List, [], ◌∷◌, ◌++◌, ℕ, ◌-◌, length, drop, ltb, if◌then◌else◌}
 use Rattle.text.specs.Bytes.{bytes}
 use Rattle.text.specs.Text.{part_of}
 use Rattle.ink.specs.Ink.{Ink, inked, ink, decimal, hex}
 use Rattle.answers.specs.declared.Kind.{Kind}
-use Rattle.answers.specs.declared.Kind.TheVariants as kind
 use Rattle.answers.specs.declared.Answer.{Answer}
-use Rattle.answers.specs.Answer.{Number, none, number, number_of, is_found, is_numeric, carried}
+use Rattle.answers.specs.Answer.{Number, none, number, number_of, is_found, is_numeric, carried, name_of}
 use Rattle.steps.specs.declared.Step.{Step}
 use Rattle.steps.specs.Steps.{steps, eaten}
 use Rattle.report.specs.declared.Drawn.{Drawn}
 use Rattle.report.specs.declared.ReportError.{ReportError}
 use Rattle.report.specs.declared.ReportError.TheVariants as says
 
--- a space and the kind
-abbrev pub name_of : Kind → List ℕ
-name_of kind.None = bytes " none"
-name_of kind.Ok = bytes " ok"
-name_of kind.Prompt = bytes " prompt"
-name_of kind.Cme = bytes " cme"
-name_of kind.Cms = bytes " cms"
-name_of kind.Unknown = bytes " unknown"
-name_of kind.NotAllowed = bytes " notallowed"
-name_of kind.Error = bytes " error"
-name_of kind.NoCarrier = bytes " nocarrier"
-name_of kind.Busy = bytes " busy"
-name_of kind.NoAnswer = bytes " noanswer"
-name_of kind.NoDialtone = bytes " nodialtone"
-name_of kind.Custom = bytes " custom"
-name_of kind.Notice = bytes " notice"
+-- a space and a text: the kind,
+abbrev pub spaced : List ℕ → List ℕ
+spaced p = bytes " " ++ p
 
 -- then, of a numeric error, the digits as they came (R-2); else the number, or a payload that isn't empty in hex
-abbrev pub digits_text : List ℕ → List ℕ
-digits_text p = bytes " " ++ p
-
 abbrev pub number_text : ℕ → List ℕ
 number_text n = bytes " " ++ decimal n
 
@@ -47,11 +30,11 @@ number_or none p = payload_text p
 number_or (number n) p = number_text n
 
 abbrev pub value_of : Kind → Number → List ℕ → List ℕ
-value_of k m p = if is_numeric k then digits_text p else number_or m p
+value_of k m p = if is_numeric k then spaced p else number_or m p
 
 -- A line is the bytes consumed, the kind, then the digits, the number or the payload; steps that answer None print nothing.
 unfoldable pub line_of : Answer → List ℕ → List ℕ
-line_of a s = if is_found a then decimal a.consumed ++ (name_of a.kind ++ (value_of a.kind (number_of a) (part_of s (carried a).start (carried a).len) ++ bytes "\n")) else []
+line_of a s = if is_found a then decimal a.consumed ++ (spaced (name_of a.kind) ++ (value_of a.kind (number_of a) (part_of s (carried a).start (carried a).len) ++ bytes "\n")) else []
 
 -- the lines of steps on s
 unfoldable pub lines : List ℕ → List Step → List ℕ

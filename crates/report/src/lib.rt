@@ -5,9 +5,18 @@
 ghost use Rattle.std.specs.Prelude.{◌≡◌, ◌≤◌, ◌+◌, ◌*◌, length};
 ghost use Rattle.answers.specs.Answer.{numbered, carried};
 ghost use Rattle.ink.specs.Ink.{inked, ink};
-ghost use Rattle.report.specs.Report.{name_of, payload_text, number_text, digits_text, value_of, line_of, drawn, draw, reported, report};
+ghost use Rattle.report.specs.Report.{spaced, payload_text, number_text, value_of, line_of, drawn, draw, reported, report};
 
 use answers::{Answer, Kind};
+
+// A text, a space before it.
+fn spaced(out: &mut [u8], at: usize, text: &[u8]) -> usize
+    requires { at + (1 + length text.now) ≤ length out.old }
+    ensures { inked out.new result ≡ ink out.old at (spaced text.now) }
+{
+    let from = ink::words(out, at, b" ");
+    ink::words(out, from, text)
+}
 
 // A number in decimal, a space before it.
 fn number(out: &mut [u8], at: usize, n: u64) -> usize
@@ -18,56 +27,25 @@ fn number(out: &mut [u8], at: usize, n: u64) -> usize
     ink::decimal(out, from, n)
 }
 
-// Digits as they came (R-2), a space before them.
-fn digits(out: &mut [u8], at: usize, p: &[u8]) -> usize
-    requires { at + (1 + length p.now) ≤ length out.old }
-    ensures { inked out.new result ≡ ink out.old at (digits_text p.now) }
-{
-    let from = ink::words(out, at, b" ");
-    ink::words(out, from, p)
-}
-
 // A payload that isn't empty in hexadecimal, a space before it.
 fn payload(out: &mut [u8], at: usize, p: &[u8]) -> usize
     requires { at + (1 + 2 * length p.now) ≤ length out.old }
     ensures { inked out.new result ≡ ink out.old at (payload_text p.now) }
 {
-    if p.len() == 0 {
+    if p.is_empty() {
         return at;
     }
     let from = ink::words(out, at, b" ");
     ink::hex(out, from, p)
 }
 
-// The kind's name, a space before it.
-fn name(out: &mut [u8], at: usize, kind: Kind) -> usize
-    ensures { inked out.new result ≡ ink out.old at (name_of kind) }
-{
-    match kind {
-        Kind::None => ink::words(out, at, b" none"),
-        Kind::Ok => ink::words(out, at, b" ok"),
-        Kind::Prompt => ink::words(out, at, b" prompt"),
-        Kind::Cme => ink::words(out, at, b" cme"),
-        Kind::Cms => ink::words(out, at, b" cms"),
-        Kind::Unknown => ink::words(out, at, b" unknown"),
-        Kind::NotAllowed => ink::words(out, at, b" notallowed"),
-        Kind::Error => ink::words(out, at, b" error"),
-        Kind::NoCarrier => ink::words(out, at, b" nocarrier"),
-        Kind::Busy => ink::words(out, at, b" busy"),
-        Kind::NoAnswer => ink::words(out, at, b" noanswer"),
-        Kind::NoDialtone => ink::words(out, at, b" nodialtone"),
-        Kind::Custom => ink::words(out, at, b" custom"),
-        Kind::Notice => ink::words(out, at, b" notice"),
-    }
-}
-
-// Of a numeric error the digits (R-2); else the number where the kind has one, else the payload.
+// Of a numeric error the digits as they came (R-2); else the number where the kind has one, else the payload.
 fn value(out: &mut [u8], at: usize, kind: Kind, n: u32, p: &[u8]) -> usize
     requires { at + (21 + 2 * length p.now) ≤ length out.old }
     ensures { inked out.new result ≡ ink out.old at (value_of kind (numbered kind n) p.now) }
 {
     if answers::is_numeric(kind) {
-        return digits(out, at, p);
+        return spaced(out, at, p);
     }
     if answers::has_number(kind) {
         return number(out, at, n as u64);
@@ -83,12 +61,11 @@ fn line(out: &mut [u8], at: usize, s: &[u8], a: Answer) -> usize
     if !answers::is_found(a) {
         return at;
     }
-    let kind = a.kind;
     let part = answers::carried(a);
     let p = digest::payload(s, part.start, part.len);
     let counted = ink::decimal(out, at, a.consumed as u64);
-    let named = name(out, counted, kind);
-    let valued = value(out, named, kind, a.number, p);
+    let named = spaced(out, counted, answers::name(a.kind));
+    let valued = value(out, named, a.kind, a.number, p);
     ink::words(out, valued, b"\n")
 }
 
@@ -107,16 +84,13 @@ fn draw(out: &mut [u8], from: usize, s: &[u8]) -> Drawn
     let none = &s[..0];
     let mut at = 0;
     let mut n = from;
-    loop {
-        let Some(x) = steps::next(none, s, at) else {
-            return Drawn {
-                at: n,
-                left: s.len() - at,
-            };
-        };
-        let a = x.answer;
-        n = line(out, n, &s[at..], a);
-        at += a.consumed;
+    while let Some(step) = steps::next(none, s, at) {
+        n = line(out, n, &s[at..], step.answer);
+        at += step.answer.consumed;
+    }
+    Drawn {
+        at: n,
+        left: s.len() - at,
     }
 }
 

@@ -3,8 +3,8 @@ use lib.ListN.{length}
 use Rattle.report.specs.Laws.{Lining}
 use Rattle.report.proofs.draw.Given as goal
 
-abbrev pub invariant-loop-x : goal.invariant-loop-x
-invariant-loop-x l = Lining l.s l.initial.out l.from l.out l.at l.n
+abbrev pub invariant-loop-step : goal.invariant-loop-step
+invariant-loop-step l = Lining l.s l.initial.out l.from l.out l.at l.n
 
-abbrev pub decreases-loop-x : goal.decreases-loop-x
-decreases-loop-x l = length l.s - l.at
+abbrev pub decreases-loop-step : goal.decreases-loop-step
+decreases-loop-step l = length l.s - l.at

@@ -9,7 +9,7 @@ use Rattle.report.proofs.value.Goals as goal
 
 pub returns-then-is_numeric : goal.returns-then-is_numeric
 returns-then-is_numeric c =
-    same_text _ _ _ _ _ c.digits.ensures (value_numeric c.args.kind (numbered c.args.kind c.args.n) c.args.p.now (sym c.is_numeric.ensures ∙ c.if-is_numeric.true))
+    same_text _ _ _ _ _ c.spaced.ensures (value_numeric c.args.kind (numbered c.args.kind c.args.n) c.args.p.now (sym c.is_numeric.ensures ∙ c.if-is_numeric.true))
 
 pub returns-then-has_number : goal.returns-then-has_number
 returns-then-has_number c =
