@@ -4,12 +4,11 @@
 
 ghost use Rattle.std.specs.Prelude.{◌≡◌};
 ghost use Rattle.table.specs.Table as tables;
-ghost use Rattle.digest.specs.Digest as digests;
+ghost use Rattle.answers.specs.Answer.{outcome};
 ghost use Rattle.numeric.specs.Numeric.{ruled};
-ghost use Rattle.numeric.specs.Numeric as numerics;
 ghost use Rattle.selector.specs.Selector.{choice, digest};
 
-use answers::Answer;
+use answers::{Answer, DigestError};
 use lines::Digester;
 use table::TableError;
 
@@ -21,13 +20,15 @@ pub enum Selector {
 }
 
 // No table is good in V0 but the empty one; refusal 2 has record number 0 then.
+#[tactic(auto, using(numeric::specs::Calls::ruled_bad, numeric::specs::Calls::ruled_empty))]
 fn check_empty(table: &[u8]) -> Result<usize, TableError>
     ensures { tables.outcome result ≡ ruled table.now }
 {
-    if 0 < table.len() {
-        return Err(TableError::Faulty(0));
+    if table.is_empty() {
+        Ok(0)
+    } else {
+        Err(TableError::Faulty(0))
     }
-    Ok(0)
 }
 
 // Does the digester take the table? The number of its records, or the number that refusal 2 answers.
@@ -40,24 +41,13 @@ pub fn check(selector: Selector, table: &[u8]) -> Result<usize, TableError>
     }
 }
 
-// The refusals of the digester for V0 as those of any digester.
-fn digest_codes(table: &[u8], input: &[u8]) -> Result<Answer, DigestError>
-    ensures { digests.outcome result ≡ numerics.digest table.now input.now }
-{
-    match numeric::digest(table, input) {
-        Ok(a) => Ok(a),
-        Err(DigestError::TooLong) => Err(DigestError::TooLong),
-        Err(DigestError::BadTable) => Err(DigestError::BadTable(0)),
-    }
-}
-
 // What the input was: the chosen digester's answer under the table, or its refusal.
 pub fn digest(selector: Selector, table: &[u8], input: &[u8]) -> Result<Answer, DigestError>
-    ensures { digests.outcome result ≡ digest selector table.now input.now }
+    ensures { outcome result ≡ digest selector table.now input.now }
 {
     match selector {
         Selector::Verbal(digester) => digest::digest(digester, table, input),
-        Selector::Numeric => digest_codes(table, input),
+        Selector::Numeric => numeric::digest(table, input),
     }
 }
 
