@@ -1,5 +1,5 @@
 -- Laws of the steps, without fuel: what they are, one by one and all together.
-use Rattle.std.specs.Prelude.{Option, Some, None, ◌≡◌, length, drop, eqb}
+use Rattle.std.specs.Prelude.{Some, None, ◌≡◌, length, drop, eqb}
 use Rattle.std.proofs.Math.Path.{refl, ap}
 use Rattle.std.proofs.Common.{sym, ◌∙◌, length-drop}
 use mathlib.Core.List.{List, [], ◌∷◌}
@@ -14,14 +14,6 @@ use Rattle.digest.specs.Digest.{digest_unchecked}
 use Rattle.digest.specs.Calls.{unchecked_inside, unchecked_within}
 use Rattle.steps.specs.declared.Step.{Step}
 use Rattle.steps.specs.Steps.{steps_by, steps_from, first_of, eaten}
-
-abbrev tag : Option Step → ℕ
-tag (Some x) = 1
-tag None = 0
-
-abbrev step_or : Step → Option Step → Step
-step_or d (Some x) = x
-step_or d None = d
 
 module _ (t s : List ℕ) where
   abbrev says : ℕ → Answer
@@ -98,15 +90,15 @@ module _ (t s : List ℕ) where
       where
         go : (l : List Step) → None ≡ first_of l → l ≡ []
         go [] e = refl
-        go (x ∷ l) e = absurd (omega (arith, ap tag e))
+        go (x ∷ l) e = cc
 
     pub at_step : (x : Step) → Some x ≡ first_of (steps_from t s i) → Begins i x
     unfolding Run
     at_step x e = go (steps_from t s i) (steps_run i) e
       where
         go : (l : List Step) → Run i l → Some x ≡ first_of l → Begins i x
-        go [] r e = absurd (omega (arith, ap tag e))
-        go (y ∷ l) r e = let f : x ≡ y = ap (step_or x) e in rw f r.0
+        go [] r e = cc
+        go (y ∷ l) r e = let f : x ≡ y = cc in rw f r.0
 
     pub step_within : i ≤ length s → (x : Step) → Begins i x → i + x.answer.consumed ≤ length s
     step_within h x b = omega (arith, ap (λ (a : Answer). a.consumed) b.says, says_within i)

@@ -19,16 +19,9 @@ pub struct Step {
 pub fn next(table: &[u8], input: &[u8], from: usize) -> Option<Step>
     ensures { result ≡ first_of (steps_from table.now input.now from) }
 {
-    if input.len() < from {
+    let answer = digest::digest_unchecked(Digester::Verbose, table, input.get(from..)?);
+    if answer.consumed == 0 {
         return None;
     }
-    let a = digest::digest_unchecked(Digester::Verbose, table, &input[from..]);
-    let consumed = a.consumed;
-    if consumed == 0 {
-        return None;
-    }
-    Some(Step {
-        from: from,
-        answer: a,
-    })
+    Some(Step { from, answer })
 }
