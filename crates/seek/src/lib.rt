@@ -23,49 +23,6 @@ fn hit(s: &[u8], at: usize, b: u8, to: usize, c: u8, n: usize) -> bool
     any
 }
 
-// A later place with the same answer: past the blocks of n places, up to the place e, none of which has t's bytes k and l.
-#[tactic(auto, using(crate::specs::Laws::block_none))]
-fn pass(s: &[u8], from: usize, e: usize, t: &[u8], k: usize, l: usize, n: usize) -> usize
-    requires inside { (k < length t.now) × (l < length t.now) }
-    requires between { (from ≤ e) × (e + length t.now ≤ length s.now + 1) }
-    requires some { 0 < n }
-    ensures { Later (find_in t.now s.now) from e result }
-{
-    let mut i = from;
-    // no `for`: where it ends is the place behind the last whole block
-    while n <= e - i {
-        if hit(s, i + k, t[k], i + l, t[l], n) {
-            return i;
-        }
-        i += n;
-    }
-    i
-}
-
-// Does t stand in s at p? Its byte k is asked first: most places don't have it.
-#[tactic(auto, using(crate::specs::Laws::byte_none))]
-fn holds(s: &[u8], p: usize, t: &[u8], k: usize) -> bool
-    requires { (k < length t.now) × (p + length t.now ≤ length s.now) }
-    ensures { result ≡ stands t.now s.now p }
-{
-    s[p + k] == t[k] && text::matches_at(s, p, t)
-}
-
-// The first place from `from` on and before e where t stands, one by one.
-#[tactic(auto, using(text::specs::Steps::find_here, text::specs::Steps::find_next))]
-fn find_upto(s: &[u8], from: usize, e: usize, t: &[u8], k: usize) -> Option<usize>
-    requires inside { k < length t.now }
-    requires between { (from ≤ e) × (e + length t.now ≤ length s.now + 1) }
-    ensures { find_in t.now s.now from ≡ or_next result (find_in t.now s.now e) }
-{
-    for p in from..e {
-        if holds(s, p, t, k) {
-            return Some(p);
-        }
-    }
-    None
-}
-
 // The places of a block, and of four, which are passed over at once where none has the two bytes.
 const BLOCK: usize = 16;
 
@@ -79,25 +36,78 @@ fn block_end(p: usize, e: usize) -> usize
     p + BLOCK.min(e - p)
 }
 
-// By blocks, up to the end e of the places where t fits: over those without the two bytes, then one by one through a block that has them.
-#[tactic(auto, using(text::specs::Laws::find_late))]
-fn find_long(s: &[u8], from: usize, e: usize, t: &[u8], k: usize, l: usize) -> Option<usize>
-    requires inside { (k < length t.now) × (l < length t.now) }
-    requires between { (from ≤ e) × (e + length t.now ≡ length s.now + 1) }
-    ensures { result ≡ find_in t.now s.now from }
-{
-    let mut i = from;
-    // no `for`: a turn goes as far as the passes do
-    while i < e {
-        let past = pass(s, i, e, t, k, l, FOUR);
-        let p = pass(s, past, e, t, k, l, BLOCK);
-        let end = block_end(p, e);
-        if let Some(q) = find_upto(s, p, end, t, k) {
-            return Some(q);
+// A text that is looked for, and the places in it of the two bytes.
+#[derive(Clone, Copy)]
+struct Sought<'a> {
+    text: &'a [u8],
+    k: usize,
+    l: usize,
+    ghost inside: { (k < length text.now) × (l < length text.now) },
+}
+
+impl Sought<'_> {
+    // A later place with the same answer: past the blocks of n places, up to the place e, none of which has the two bytes.
+    #[tactic(auto, using(crate::specs::Laws::block_none))]
+    fn pass(self, s: &[u8], from: usize, e: usize, n: usize) -> usize
+        requires between { (from ≤ e) × (e + length self.text.now ≤ length s.now + 1) }
+        requires some { 0 < n }
+        ensures { Later (find_in self.entry.text.now s.now) from e result }
+    {
+        let b = self.text[self.k];
+        let c = self.text[self.l];
+        let mut i = from;
+        // no `for`: where it ends is the place behind the last whole block
+        while n <= e - i {
+            if hit(s, i + self.k, b, i + self.l, c, n) {
+                return i;
+            }
+            i += n;
         }
-        i = end;
+        i
     }
-    None
+
+    // Does the text stand in s at p? Its byte k is asked first: most places don't have it.
+    #[tactic(auto, using(crate::specs::Laws::byte_none))]
+    fn stands(self, s: &[u8], p: usize) -> bool
+        requires { p + length self.text.now ≤ length s.now }
+        ensures { result ≡ stands self.entry.text.now s.now p }
+    {
+        s[p + self.k] == self.text[self.k] && text::matches_at(s, p, self.text)
+    }
+
+    // The first place from `from` on and before e where it stands, one by one.
+    #[tactic(auto, using(text::specs::Steps::find_here, text::specs::Steps::find_next))]
+    fn find_upto(self, s: &[u8], from: usize, e: usize) -> Option<usize>
+        requires { (from ≤ e) × (e + length self.text.now ≤ length s.now + 1) }
+        ensures { find_in self.entry.text.now s.now from ≡ or_next result (find_in self.entry.text.now s.now e) }
+    {
+        for p in from..e {
+            if self.stands(s, p) {
+                return Some(p);
+            }
+        }
+        None
+    }
+
+    // By blocks, up to the end e of the places where it fits: over those without the two bytes, then one by one through a block that has them.
+    #[tactic(auto, using(text::specs::Laws::find_late))]
+    fn find(self, s: &[u8], from: usize, e: usize) -> Option<usize>
+        requires { (from ≤ e) × (e + length self.text.now ≡ length s.now + 1) }
+        ensures { result ≡ find_in self.entry.text.now s.now from }
+    {
+        let mut i = from;
+        // no `for`: a turn goes as far as the passes do
+        while i < e {
+            let past = self.pass(s, i, e, FOUR);
+            let p = self.pass(s, past, e, BLOCK);
+            let end = block_end(p, e);
+            if let Some(q) = self.find_upto(s, p, end) {
+                return Some(q);
+            }
+            i = end;
+        }
+        None
+    }
 }
 
 // Inputs shorter than this are better searched place by place: a search by blocks takes its time to start.
@@ -118,7 +128,7 @@ pub fn find(s: &[u8], from: usize, t: &[u8], k: usize, l: usize) -> Option<usize
     if e < from {
         return None;
     }
-    find_long(s, from, e, t, k, l)
+    Sought { text: t, k, l }.find(s, from, e)
 }
 
 // The first place at or after `from` that has the byte, one by one.
@@ -210,6 +220,13 @@ fn first(s: &[u8], at: usize) -> Option<usize>
 // Two blocks of four.
 const EIGHT: usize = 128;
 
+// A CR, as a text.
+const CR: Sought<'static> = Sought {
+    text: b"\r",
+    k: 0,
+    l: 0,
+};
+
 // The first CR at or after `from`, by blocks that get smaller. An answer ends where the input does: the last 64 bytes, which are looked at for the place itself,
 // are left out of the larger blocks, since one that has the CR was looked at in vain.
 fn find_far(s: &[u8], from: usize) -> Option<usize>
@@ -218,8 +235,8 @@ fn find_far(s: &[u8], from: usize) -> Option<usize>
 {
     let e = s.len() - FOUR;
     let plain = pass_plain(s, from, e);
-    let eight = pass(s, plain, e, b"\r", 0, 0, EIGHT);
-    let four = pass(s, eight, s.len(), b"\r", 0, 0, FOUR);
+    let eight = CR.pass(s, plain, e, EIGHT);
+    let four = CR.pass(s, eight, s.len(), FOUR);
     let at = four.min(e);
     if let Some(p) = first(s, at) {
         return Some(p);
@@ -248,7 +265,7 @@ pub fn find_cr(s: &[u8], from: usize) -> Option<usize>
     if FOUR <= s.len() - from {
         return find_far(s, from);
     }
-    let near = pass(s, from, s.len(), b"\r", 0, 0, BLOCK);
+    let near = CR.pass(s, from, s.len(), BLOCK);
     find_byte(s, near, b'\r')
 }
 

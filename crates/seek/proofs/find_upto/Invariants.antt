@@ -1,6 +1,0 @@
-use Rattle.std.proofs.Common.{◌≡◌}
-use Rattle.text.specs.Text.{find_in}
-use Rattle.seek.proofs.find_upto.Given as goal
-
-abbrev pub invariant-loop-p : goal.invariant-loop-p
-invariant-loop-p l = find_in l.t l.s l.from ≡ find_in l.t l.s l.p
