@@ -1,8 +1,11 @@
 -- What numbers read as where a test decides; that a state that is written reads back as it was; and that what isn't changed stays as it stood.
-use Rattle.std.specs.Prelude.{◌≡◌, refl, Bool, true, false, ◌&&◌, List, [], ◌∷◌, length, get_or, eqb, ltb, if◌then◌else◌}
+use Rattle.std.specs.Prelude.{◌≡◌, refl, Bool, true, false, ◌&&◌, List, [], ◌∷◌, length, get_or, drop, eqb, ltb, if◌then◌else◌}
 use Rattle.std.proofs.Math.Path.{sym}
 use Rattle.std.proofs.Common.{ap, ◌∙◌, ⊎_elim, arith}
 use Prim.Native.Nat.{ℕ, zero, suc, ◌+◌, ◌≤◌, ◌<◌, min}
+use Rattle.std.proofs.Math.ListN.{drop_of_length-le}
+use Rattle.std.proofs.lemmas.List.{append-nil}
+use Rattle.std.proofs.lemmas.List.Edits.{sets-eq}
 use borrow.Author.Tests.{lt-ltb, le-ltb, ltb-true, ltb-false, eq-eqb, eqb-true}
 use Rattle.outcome.specs.Laws.{ways}
 use Rattle.text.specs.Logic.{and_both, order}
@@ -13,11 +16,17 @@ use Rattle.slot.specs.declared.Held.{Held}
 use Rattle.slot.specs.declared.Held.TheVariants.{Heard, Capacity}
 use Rattle.turn.specs.declared.State.{State}
 use Rattle.answers.specs.Answer.{kind_number, kinds}
-use Rattle.numbers.specs.Numbers.{kind_of, word, held_number, held_of, slot_of, state_of, kept, with_slot, with_state}
+use Rattle.numbers.specs.Numbers.{kind_of, word, held_number, held_of, slot_of, state_of, kept, with_slot, with_state, laid}
 
 -- what a slot holds
 pub held_capacity : (n : ℕ) → 13 < n → Capacity ≡ held_of n
 held_capacity n h = ap (λ (b : Bool). if b then Capacity else Heard (kind_of n)) (sym (lt-ltb 13 n h))
+
+-- as many values as the array has numbers are all of it
+pub laid_whole : (v o : List ℕ) → length o ≡ length v → v ≡ laid v o
+laid_whole v o h =
+    let d : drop (0 + length v) o ≡ [] = drop_of_length-le o (omega arith) in
+    sym (sets-eq v o 0 (omega arith) ∙ rw d (append-nil v))
 
 -- the ways out of `kept`, and what is read where it stands
 module _ (most old new : ℕ) where
