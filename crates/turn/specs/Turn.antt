@@ -13,6 +13,7 @@ use Rattle.queue.specs.Queue.{ours, put_into}
 use Rattle.queue.specs.Queue as queues
 use Rattle.queue.specs.declared.Queue.{Queue}
 use Rattle.turn.specs.declared.State.{State}
+use Rattle.turn.specs.declared.Memories.{Memories}
 
 -- a state with another end, another slot, another queue
 abbrev pub with_end : State → ℕ → State
@@ -66,6 +67,10 @@ pub record World : Type 0 where
 abbrev pub world : State → List ℕ → List ℕ → List ℕ → World
 world s b m n = record { state = s; buf = b; slot_memory = m; queue_memory = n }
 
+-- a state with the memories that are lent
+abbrev pub lent : State → Memories → World
+lent s m = world s m.buf.now m.slot.now m.queue.now
+
 abbrev pub with_state : World → State → World
 with_state w s = world s w.buf w.slot_memory w.queue_memory
 
@@ -108,6 +113,6 @@ unfoldable pub once : Choice → World → Step
 unfolding onward
 once c w = onward w (says c w) (delivering c w)
 
-abbrev pub stepped : State → Option (State × ℕ) → List ℕ → List ℕ → List ℕ → Step
-stepped s (Some (t, n)) b m q = went (world t b m q) n
-stepped s None b m q = stuck (world s b m q)
+abbrev pub stepped : State → Option (State × ℕ) → Memories → Step
+stepped s (Some (t, n)) m = went (lent t m) n
+stepped s None m = stuck (lent s m)

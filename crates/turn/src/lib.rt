@@ -1,17 +1,17 @@
 // One turn of the ingress by document 01: digest what is in the buffer, deliver, move the rest to the front.
-// The state is a struct by value beside lent slices; the buffer, the slot's memory and the queue's memory are the caller's.
+// The state is a struct by value beside the memories, which the caller lends.
 // It relies on the promises and laws of digester, slot and queue, and opens none of their definitions. No public function has a `requires`.
 #![tactic(auto)]
 
-ghost use Rattle.std.specs.Prelude.{◌≡◌, true, ◌<◌};
+ghost use Rattle.std.specs.Prelude.{◌≡◌, true, ◌<◌, take};
 ghost use Rattle.answers.specs.Answer.{is_notice};
 ghost use Rattle.selector.specs.Selector.{choice};
-ghost use Rattle.turn.specs.Turn.{with_end, with_slot, with_queue, deliver, delivery, world, once, stepped};
+ghost use Rattle.turn.specs.Turn.{deliver, delivery, lent, once, stepped};
 
 use answers::Answer;
-use queue::{PutError, Queue};
+use queue::Queue;
 use selector::Selector;
-use slot::{Slot, SlotError};
+use slot::Slot;
 
 // Where the bytes in the buffer end, and the slot and the queue beside it.
 #[derive(Clone, Copy)]
@@ -21,93 +21,68 @@ pub struct State {
     pub queue: Queue,
 }
 
-impl State {
-    // The state with another end.
-    pub fn with_end(self, end: usize) -> State
-        ensures { result ≡ with_end self end }
-    {
-        let slot = self.slot;
-        let queue = self.queue;
-        State {
-            end: end,
-            slot: slot,
-            queue: queue,
-        }
-    }
+// What the caller lends: the buffer, the slot's memory and the queue's memory.
+#[derive(Drop)]
+pub struct Memories<'a> {
+    pub buf: &'a mut [u8],
+    pub slot: &'a mut [u8],
+    pub queue: &'a mut [u8],
+}
 
-    // The state with another slot.
-    pub fn with_slot(self, x: Slot) -> State
-        ensures { result ≡ with_slot self x }
+impl Memories<'_> {
+    // The bytes held: those of the buffer before the end. An end past the buffer counts as the buffer's.
+    pub fn held(&self, end: usize) -> &[u8]
+        ensures { result.now ≡ take end self.now.buf.now }
     {
-        let queue = self.queue;
-        State {
-            end: self.end,
-            slot: x,
-            queue: queue,
-        }
-    }
-
-    // The state with another queue.
-    pub fn with_queue(self, q: Queue) -> State
-        ensures { result ≡ with_queue self q }
-    {
-        let slot = self.slot;
-        State {
-            end: self.end,
-            slot: slot,
-            queue: q,
-        }
+        &self.buf[..end.min(self.buf.len())]
     }
 }
 
 // A notice goes to the queue as a record, any other answer to the slot as a signal; None delivers nothing. A notice's number fits the record's byte.
-fn deliver(
-    state: State,
-    a: Answer,
-    p: &[u8],
-    slot_mem: &mut [u8],
-    queue_mem: &mut [u8],
-) -> Option<State>
+#[tactic(auto, unfolding(crate::specs::Turn::deliver))]
+fn deliver(state: State, a: Answer, p: &[u8], slot: &mut [u8], queue: &mut [u8]) -> Option<State>
     requires { is_notice a.kind ≡ true → a.number < 256 }
-    ensures { delivery state result slot_mem.new queue_mem.new ≡ deliver state a p.now slot_mem.old queue_mem.old }
+    ensures { delivery state result slot.new queue.new ≡ deliver state a p.now slot.old queue.old }
 {
-    let kind = a.kind;
-    if answers::is_notice(kind) {
-        let queue = state.queue;
-        return match queue.put(queue_mem, a.number as u8, p) {
-            Ok(q) => Some(state.with_queue(q)),
-            Err(PutError::BadBounds) => None,
-            Err(PutError::Full) => None,
-        };
+    if answers::is_notice(a.kind) {
+        let put = state.queue.put(queue, a.number as u8, p).ok()?;
+        return Some(State {
+            queue: put,
+            ..state
+        });
     }
-    let slot = state.slot;
-    match slot.signal(a, p, slot_mem) {
-        Ok(x) => Some(state.with_slot(x)),
-        Err(SlotError::BadLength) => None,
-    }
+    let signalled = state.slot.signal(a, p, slot).ok()?;
+    Some(State {
+        slot: signalled,
+        ..state
+    })
 }
 
-// Digests what is in the buffer, delivers, and moves the rest to the front. An end past the buffer counts as the buffer's.
+// Digests what is in the buffer, delivers, and moves the rest to the front; None where a notice meets a full queue. An end past the buffer counts as the buffer's.
 pub fn step(
     selector: Selector,
     table: &[u8],
     state: State,
-    buf: &mut [u8],
-    slot_mem: &mut [u8],
-    queue_mem: &mut [u8],
+    memories: &mut Memories<'_>,
 ) -> Option<(State, usize)>
-    ensures { stepped state result buf.new slot_mem.new queue_mem.new ≡ once (choice selector table.now) (world state buf.old slot_mem.old queue_mem.old) }
+    ensures { stepped state result memories.new ≡ once (choice selector table.now) (lent state memories.old) }
 {
-    let end = text::fitting(state.end, buf.len());
-    let a = selector::digest_unchecked(selector, table, &buf[..end]);
-    let n = a.consumed;
+    let buf = &mut *memories.buf;
+    let slot = &mut *memories.slot;
+    let queue = &mut *memories.queue;
+    let end = state.end.min(buf.len());
+    let held = &buf[..end];
+    let a = selector::digest_unchecked(selector, table, held);
     let part = answers::carried(a);
-    let p = digest::payload(&buf[..end], part.start, part.len);
-    match deliver(state, a, p, slot_mem, queue_mem) {
-        None => None,
-        Some(next) => {
-            moves::move_down(buf, n, end);
-            Some((next.with_end(end - n), n))
-        }
-    }
+    let p = digest::payload(held, part.start, part.len);
+    let next = deliver(state, a, p, slot, queue)?;
+    let n = a.consumed;
+    moves::move_down(buf, n, end);
+    Some((
+        State {
+            end: end - n,
+            ..next
+        },
+        n,
+    ))
 }
