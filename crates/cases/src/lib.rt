@@ -133,11 +133,7 @@ fn say_elements<R: Print>(
 }
 
 // The case list INPUT: reads a list, and says its elements or the refusal with its place.
-pub fn list_case<R: Print>(
-    out: &mut Out<'_, R>,
-    line: &[u8],
-    buf: &mut Memory,
-) -> io::Result<()> {
+pub fn list_case<R: Print>(out: &mut Out<'_, R>, line: &[u8], buf: &mut Memory) -> io::Result<()> {
     if !notation::form::is_list(line) {
         return out.bad_line();
     }
