@@ -1,6 +1,6 @@
 -- Where the findings are genuine, those of s, and s is still by them, a digest of s finds nothing and consumes nothing.
 -- Rests on `nothing_unchecked`, and on scan's theorem: each end that a pass tells is that of the text's first occurrence.
-use Rattle.std.specs.Prelude.{Option, Some, None, ◌≡◌, refl, ◌⊎◌, Bool, false, ◌&&◌, ◌||◌, ℕ, ◌+◌, ◌≤◌, ◌<◌, eqb}
+use Rattle.std.specs.Prelude.{Option, Some, None, is_some, ◌≡◌, refl, ◌⊎◌, Bool, false, ◌&&◌, ◌||◌, ℕ, ◌+◌, ◌≤◌, ◌<◌, eqb}
 use Rattle.std.proofs.Common.{sym, ◌∙◌, arith}
 use Rattle.std.proofs.Math.Path.{ap}
 use Rattle.std.proofs.Math.Logic.{inl, inr, ⊎_elim}
@@ -31,7 +31,7 @@ use Rattle.digest.specs.Finished.{nine}
 use Rattle.selector.specs.Selector.{choice}
 use Rattle.selector.specs.declared.Selector.{Selector}
 use Rattle.selector.specs.declared.Selector.TheVariants.{Verbal, Numeric}
-use Rattle.quiet.specs.Quiet.{counts, Absent, told_end, no_fixed, unended, no_number, is_nothing, no_text, no_line, is_next, no_custom, no_byte, still}
+use Rattle.quiet.specs.Quiet.{counts, Absent, told_end, no_fixed, unended, no_number, no_text, no_line, no_custom, no_byte, still}
 use Rattle.quiet.specs.Laws.{found_counts, counts_absent}
 use Rattle.quiet.specs.Nothing.{Each, Unended, NoLine, Quiet, nothing_unchecked}
 
@@ -47,13 +47,9 @@ every_so p P Q f (x ∷ l) b e v =
     let c = and_both b (p x) w.0 in
     (c.0, (f x v.0 c.1, w.1))
 
-next_is : (r : Option Answer) → is_next r ≡ true → r ≡ None
-next_is (Some a) e = absurd (false_true e refl)
-next_is None e = refl
-
-nothing_is : (r : Option ℕ) → is_nothing r ≡ true → r ≡ None
-nothing_is (Some k) e = absurd (false_true e refl)
-nothing_is None e = refl
+none_is : {A : Type 0} (r : Option A) → not (is_some r) ≡ true → r ≡ None
+none_is (Some k) e = absurd (false_true e refl)
+none_is None e = refl
 
 -- a table of no bytes has no record
 no_tokens : (t : List ℕ) → length t ≡ 0 → tokens t ≡ []
@@ -91,7 +87,7 @@ module _ (s : List ℕ) where
 
   text_absent : (d : Digester) → no_text d s ≡ true → hears_text d ≡ true → Absent (fixed_text fixed.ConnectText) s
   unfolding no_text
-  text_absent d e h j = found_none (fixed_text fixed.ConnectText) s 0 (nothing_is (find_in (fixed_text fixed.ConnectText) s 0) (rw h at e)) j (omega arith)
+  text_absent d e h j = found_none (fixed_text fixed.ConnectText) s 0 (none_is (find_in (fixed_text fixed.ConnectText) s 0) (rw h at e)) j (omega arith)
 
 module _ (d : Digester) (t s : List ℕ) (e : still (Verbal d) t (findings_of s) s ≡ true) where
   parts : (no_line d t (findings_of s) s ≡ true) × ((no_byte s (findings_of s).last ≡ true) × ((no_custom t s ≡ true) × (skipped s ≡ 0)))
@@ -122,7 +118,7 @@ module _ (d : Digester) (t s : List ℕ) (e : still (Verbal d) t (findings_of s)
       record {
         greater = not-true _ b.0;
         at_sign = not-true _ b.1;
-        customs = next_is (custom_prompts (entries mark.Prompt t 0 0) s 0) parts.1.1.0;
+        customs = none_is (custom_prompts (entries mark.Prompt t 0 0) s 0) parts.1.1.0;
         lines = ⊎_elim (λ (g : leb (findings_of s).lf 3 ≡ true). inl (omega (arith, leb-true (findings_of s).lf 3 g))) (λ g. inr (no_line_lem g)) (or_either (leb (findings_of s).lf 3) _ parts.0);
       }
 

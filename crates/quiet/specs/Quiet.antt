@@ -1,6 +1,6 @@
 -- R-14: that the buffer is still, by what was found in it and by few of its bytes: a digest would find nothing and consume nothing (`Genuine`).
 -- The findings may be anyone's: a text that they say was found counts only where it stands.
-use Rattle.std.specs.Prelude.{Option, Some, None, ◌≡◌, Bool, true, false, not, ◌&&◌, ◌||◌, ℕ, ◌-◌, length, get_or, eqb, leb}
+use Rattle.std.specs.Prelude.{is_some, ◌≡◌, Bool, true, false, not, ◌&&◌, ◌||◌, ℕ, ◌-◌, length, get_or, eqb, leb}
 use mathlib.Core.List.{List, foldl}
 use Rattle.text.specs.Bytes.{bytes}
 use Rattle.text.specs.Text.{stands, find_in}
@@ -56,25 +56,17 @@ unended t s lf end = leb lf end || not (counts t s end)
 unfoldable pub no_number : Findings → List ℕ → Bool
 no_number f s = every (λ h. unended (fixed_text h) s f.lf (told_end f h)) heads
 
-abbrev pub is_nothing : Option ℕ → Bool
-is_nothing (Some k) = false
-is_nothing None = true
-
 -- no CONNECT line with text begins that the digester would hear (R-3)
 unfoldable pub no_text : Digester → List ℕ → Bool
-no_text d s = not (hears_text d) || is_nothing (find_in (fixed_text fixed.ConnectText) s 0)
+no_text d s = not (hears_text d) || not (is_some (find_in (fixed_text fixed.ConnectText) s 0))
 
 -- No line is finished: each has four bytes at least, and ends in LF. Or the table has no record, and none of the other lines is there.
 unfoldable pub no_line : Digester → List ℕ → Findings → List ℕ → Bool
 no_line d t f s = leb f.lf 3 || (eqb (length t) 0 && (no_fixed f s && no_number f s && no_text d s))
 
-abbrev pub is_next : Option Answer → Bool
-is_next (Some a) = false
-is_next None = true
-
 -- s ends in no custom prompt
 unfoldable pub no_custom : List ℕ → List ℕ → Bool
-no_custom t s = is_next (custom_prompts (entries mark.Prompt t 0 0) s 0)
+no_custom t s = not (is_some (custom_prompts (entries mark.Prompt t 0 0) s 0))
 
 -- the byte that ends at n is no prompt
 unfoldable pub no_byte : List ℕ → ℕ → Bool

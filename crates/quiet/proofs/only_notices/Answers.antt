@@ -1,53 +1,24 @@
--- `only_notices` meets its contract: were no record from `at` on a custom prompt, none were at all. The measure is the bytes left.
-use Rattle.quiet.specs.Customs.{none_end, none_step, none_all}
-use lib.ListN.{get_or}
-use Prim.Native.Nat.{◌+◌}
-use native.Mathlib.Omega.{arith}
-use mathlib.Core.Path.{◌≡◌, sym, ◌∙◌}
+-- `only_notices` meets its contract: were no record of what is left a custom prompt, none were at all. The measure is the bytes left.
+use Rattle.std.proofs.Common.{refl, ap, ◌∙◌, ◌≡◌, get_or, take, drop, ◌-◌, length, length-drop, arith}
+use Rattle.text.specs.Laws.{rest}
+use Rattle.quiet.specs.Customs.{none_next, only_left}
 use Rattle.quiet.proofs.only_notices.Goals as goal
 
-pub loop-at-init : goal.loop-at-init
-loop-at-init c = (omega arith, λ p. p)
+pub loop-rest-init : goal.loop-rest-init
+loop-rest-init c = (0, refl, λ p. p)
 
-pub overflow_sub-table : goal.overflow_sub-table
-overflow_sub-table c = omega (arith, c.loop-at.invariant.0)
+pub loop-rest-smaller : goal.loop-rest-smaller
+loop-rest-smaller c =
+    let l : c.in-Some.next.now ≡ drop c.from.result (drop 3 c.loop-rest.rest.now) = c.in-Some.ensures.lookup.0.2 ∙ rest (take (length c.loop-rest.rest.now - 3) (drop 3 c.loop-rest.rest.now)) c.from.result ∙ ap (drop c.from.result) (rest c.loop-rest.rest.now 3) in
+    omega (arith, ap length l, length-drop c.from.result (drop 3 c.loop-rest.rest.now), length-drop 3 c.loop-rest.rest.now, c.in-85.len_at_least)
 
-pub overflow_add-len : goal.overflow_add-len
-overflow_add-len c =
-    omega (arith, c.loop-at.invariant.0)
-
-pub bounds-table-at : goal.bounds-table-at
-bounds-table-at c =
-    omega (arith, c.loop-at.invariant.0)
-
-pub overflow_cast-len : goal.overflow_cast-len
-overflow_cast-len c =
-    omega (arith, c.shared_slice_known-in-loop-at-1.given (c.loop-at.at + 2))
-
-pub overflow_sub-table-in-loop-at : goal.overflow_sub-table-in-loop-at
-overflow_sub-table-in-loop-at c =
-    omega (arith, c.loop-at.invariant.0)
-
-pub overflow_sub-table-in-loop-at-2 : goal.overflow_sub-table-in-loop-at-2
-overflow_sub-table-in-loop-at-2 c =
-    omega (arith, c.loop-at.invariant.0)
-
-pub overflow_add-at : goal.overflow_add-at
-overflow_add-at c =
-    omega (arith, c.loop-at.invariant.0)
-
-pub overflow_add-at-in-loop-at : goal.overflow_add-at-in-loop-at
-overflow_add-at-in-loop-at c =
-    omega (arith, c.loop-at.invariant.0)
-
-pub loop-at-smaller : goal.loop-at-smaller
-loop-at-smaller c =
-    omega (arith, c.loop-at.invariant.0)
-
-pub loop-at-preserved : goal.loop-at-preserved
-loop-at-preserved c =
-    (omega (arith, c.loop-at.invariant.0), λ p. c.loop-at.invariant.1 (none_step c.args.table.now c.loop-at.at (sym c.matches_at.ensures ∙ c.if-not-matches_at.false) (let e : c.loop-at.at + (3 + get_or c.args.table.now (c.loop-at.at + 2) 0) ≡ c.loop-at.at + 2 + 1 + get_or c.args.table.now (c.loop-at.at + 2) 0 = omega arith in rw e at p)))
+pub loop-rest-preserved : goal.loop-rest-preserved
+loop-rest-preserved c =
+    let a : get_or c.loop-rest.rest.now 0 0 ≡ 85 = cc in
+    let b : get_or c.loop-rest.rest.now 1 0 ≡ 82 = cc in
+    let l : c.in-Some.next.now ≡ drop c.from.result (drop 3 c.loop-rest.rest.now) = c.in-Some.ensures.lookup.0.2 ∙ rest (take (length c.loop-rest.rest.now - 3) (drop 3 c.loop-rest.rest.now)) c.from.result ∙ ap (drop c.from.result) (rest c.loop-rest.rest.now 3) in
+    let w = none_next c.args.table.now c.loop-rest.invariant.0 c.loop-rest.rest.now c.loop-rest.invariant.1 c.in-85.len_at_least a b c.from.result c.from.ensures in
+    (_, l ∙ w.0, λ p. c.loop-rest.invariant.2 (w.1 p))
 
 pub returns : goal.returns
-returns c =
-    none_all c.args.table.now (c.loop-at.invariant.1 (none_end c.args.table.now c.loop-at.at (omega (arith, c.loop-at.invariant.0))))
+returns c = only_left c.args.table.now c.loop-rest.invariant.0 c.loop-rest.rest.now c.loop-rest.invariant.1 c.loop-rest.invariant.2 _ c.is_empty.ensures
