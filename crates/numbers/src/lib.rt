@@ -1,4 +1,5 @@
 // What each number of a lent array means: the state as ten numbers, the digester's answer as nine, and a digester by its number.
+// The C interface lends arrays of numbers, so kinds, flags and what a slot holds are numbers here, and nowhere below.
 // Any ten numbers are a state, and a state that is written reads back as it was. A number that reads already as it is to read stays
 // as it stood, in plain form or not: so a call changes no number but those that it gives another meaning.
 #![tactic(auto)]

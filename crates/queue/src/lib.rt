@@ -200,9 +200,7 @@ pub fn write_record(mem: &mut [u8], base: usize, number: u8, p: &[u8])
     if mem.len() < base {
         return;
     }
-    let n = p.len();
-    let high = (n / 256 % 256) as u8;
-    let low = (n % 256) as u8;
+    let [high, low] = ((p.len() % 65536) as u16).to_be_bytes();
     let head = [b'U', b'X', number, high, low];
     moves::put(mem, base, &head);
     moves::put(mem, base + Ours::HEAD, p);
