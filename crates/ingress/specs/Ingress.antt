@@ -2,20 +2,21 @@
 use Rattle.std.specs.Prelude.{Result, Ok, Err, Bool, ◌&&◌, not, List, [], ◌∷◌, ℕ, zero, suc, ◌+◌, ◌-◌, min, length, take, drop, leb, ltb, if◌then◌else◌}
 use Rattle.moves.specs.Moves.{put}
 use Rattle.outcome.specs.Outcome.{Outcome, answered, refused}
+use Rattle.table.specs.declared.TableError.{TableError}
+use Rattle.table.specs.declared.TableError.TheVariants as tables
 use Rattle.queue.specs.Queue.{ours, capacity_of, in_bounds}
 use Rattle.selector.specs.Selector.{Choice}
-use Rattle.turn.specs.Turn.{with_end, is_refused, World, world, with_state, Step, went, stuck, once}
+use Rattle.turn.specs.Turn.{with_end, is_refused, World, world, lent, with_state, Step, went, stuck, once}
 use Rattle.turn.specs.declared.State.{State}
+use Rattle.turn.specs.declared.Memories.{Memories}
 use Rattle.ingress.specs.declared.CheckError.{CheckError}
 use Rattle.ingress.specs.declared.CheckError.TheVariants as judges
 use Rattle.ingress.specs.declared.CopyError.{CopyError}
-use Rattle.ingress.specs.declared.CopyError.TheVariants as writes
 use Rattle.ingress.specs.declared.WriteError.{WriteError}
 use Rattle.ingress.specs.declared.WriteError.TheVariants as takes
 use Rattle.ingress.specs.declared.AdvanceError.{AdvanceError}
 use Rattle.ingress.specs.declared.AdvanceError.TheVariants as advances
 use Rattle.ingress.specs.declared.RunError.{RunError}
-use Rattle.ingress.specs.declared.RunError.TheVariants as runs
 
 -- what a call says, and all that it leaves
 pub record After (A : Type 0) : Type 0 where
@@ -46,10 +47,10 @@ run c w = run_by (suc w.state.end) c w
 
 abbrev pub run_says : Result State RunError → Outcome (Unit {0}) × State
 run_says (Ok s) = (answered tt, s)
-run_says (Err (runs.Full s)) = (refused 5 [], s)
+run_says (Err e) = (refused 5 [], e.left)
 
-abbrev pub ran : Result State RunError → List ℕ → List ℕ → List ℕ → After (Unit {0})
-ran r b m n = record { said = (run_says r).0; left = world (run_says r).1 b m n }
+abbrev pub ran : Result State RunError → Memories → After (Unit {0})
+ran r m = record { said = (run_says r).0; left = lent (run_says r).1 m }
 
 -- Refusal 3: the end is past the buffer; a stored length is past the slot's memory; start or count outside its bounds.
 unfoldable pub is_sound : State → ℕ → ℕ → ℕ → Bool
@@ -63,6 +64,10 @@ under_table (refused n v) r = refused n v
 unfoldable pub checks : Outcome ℕ → State → ℕ → ℕ → ℕ → Outcome (Unit {0})
 unfolding under_table is_sound
 checks r s b m n = if ltb 4096 b then refused 1 [] else under_table r (if not (is_sound s b m n) then refused 3 [] else answered tt)
+
+-- a faulty table's refusal as a check's
+abbrev pub table_error : TableError → CheckError
+table_error (tables.Faulty k) = judges.BadTable k
 
 abbrev pub refusal : Result (Unit {0}) CheckError → Outcome (Unit {0})
 refusal (Ok tt) = answered tt
@@ -87,6 +92,12 @@ unfoldable pub advanced : Choice → ℕ → World → After (Unit {0})
 unfolding unless_refused checks
 advanced c n w = unless_refused (judged c w) w (if ltb (length w.buf - w.state.end) n then refused_at 4 [] w else run c (committed w n))
 
+-- a check's refusals as an advance's
+abbrev pub advance_error : CheckError → AdvanceError
+advance_error judges.TooLong = advances.TooLong
+advance_error (judges.BadTable k) = advances.BadTable k
+advance_error judges.BadState = advances.BadState
+
 -- document 01's number and values for each case, and the state that is left
 abbrev pub advance_says : State → Result State AdvanceError → Outcome (Unit {0}) × State
 advance_says s (Ok x) = (answered tt, x)
@@ -96,8 +107,8 @@ advance_says s (Err advances.BadState) = (refused 3 [], s)
 advance_says s (Err advances.NoRoom) = (refused 4 [], s)
 advance_says s (Err (advances.Full x)) = (refused 5 [], x)
 
-abbrev pub result_of : State → Result State AdvanceError → List ℕ → List ℕ → List ℕ → After (Unit {0})
-result_of s r b m n = record { said = (advance_says s r).0; left = world (advance_says s r).1 b m n }
+abbrev pub result_of : State → Result State AdvanceError → Memories → After (Unit {0})
+result_of s r m = record { said = (advance_says s r).0; left = lent (advance_says s r).1 m }
 
 -- how a write ends: the bytes taken and all that it leaves; or the same at a notice that meets a full queue
 pub data Writing : Type 0 where
@@ -133,9 +144,9 @@ unfoldable pub write_on : Choice → List ℕ → ℕ → World → Writing
 unfolding write_by
 write_on c p k w = write_by (suc (length p - k)) c p k w
 
-abbrev pub writing : Result (State × ℕ) CopyError → List ℕ → List ℕ → List ℕ → Writing
-writing (Ok (s, n)) b m q = wrote n (world s b m q)
-writing (Err (writes.Full s n)) b m q = stopped n (world s b m q)
+abbrev pub writing : Result (State × ℕ) CopyError → Memories → Writing
+writing (Ok (s, n)) m = wrote n (lent s m)
+writing (Err e) m = stopped e.taken (lent e.left m)
 
 -- It answers the bytes taken; with refusal 5 it answers that too, the last copy included.
 abbrev pub answering : Writing → After ℕ
@@ -146,6 +157,12 @@ unfoldable pub written : Choice → List ℕ → World → After ℕ
 unfolding unless_refused checks write_on
 written c p w = unless_refused (judged c w) w (answering (write_on c p 0 w))
 
+-- a check's refusals as a write's
+abbrev pub write_error : CheckError → WriteError
+write_error judges.TooLong = takes.TooLong
+write_error (judges.BadTable k) = takes.BadTable k
+write_error judges.BadState = takes.BadState
+
 abbrev pub write_says : State → Result (State × ℕ) WriteError → Outcome ℕ × State
 write_says s (Ok (x, n)) = (answered n, x)
 write_says s (Err takes.TooLong) = (refused 1 [], s)
@@ -153,8 +170,8 @@ write_says s (Err (takes.BadTable k)) = (refused 2 (k ∷ []), s)
 write_says s (Err takes.BadState) = (refused 3 [], s)
 write_says s (Err (takes.Full x n)) = (refused 5 (n ∷ []), x)
 
-abbrev pub taking : State → Result (State × ℕ) WriteError → List ℕ → List ℕ → List ℕ → After ℕ
-taking s r b m n = record { said = (write_says s r).0; left = world (write_says s r).1 b m n }
+abbrev pub taking : State → Result (State × ℕ) WriteError → Memories → After ℕ
+taking s r m = record { said = (write_says s r).0; left = lent (write_says s r).1 m }
 
 -- Clear takes the end alone and makes it 0.
 abbrev pub cleared : ℕ → ℕ

@@ -44,7 +44,7 @@ module _ (c : Choice) (w : World) (x : Stretch) (v : World) (u : Consumes c w x 
       let q = (trusted c w g).payload (notice_found (says c w) (ap (λ (a : Answer). is_notice a.kind) (sym u.said) ∙ e)) in
       let k = once_went c w v x.answer.consumed u.goes in
       let f : take (says c w).consumed (held w) ≡ x.bytes = ap (λ (n : ℕ). take n (held w)) (sym k.1.1) ∙ sym u.front in
-      sym (part_take (held w) (says c w).consumed (says c w).place (says c w).len q (says_within c w))
+      sym (part_take (held w) (says c w).consumed (says c w).payload.start (says c w).payload.len q (says_within c w))
       ∙ (λ i. payload_of (f i) (sym u.said i))
 
   turned_notices : waiting_in v ≡ waiting_in w ++ notice_of x

@@ -1,7 +1,7 @@
 -- Laws of the ingress for its programs. What it needs of the layers below are the laws that they export.
 use Rattle.std.proofs.Math.Path.{◌≡◌, refl, sym, ap}
 use Rattle.std.proofs.Common.{Option, Some, None, Result, Ok, Err, ◌∙◌, length-drop}
-use Rattle.std.specs.Prelude.{Bool, ◌&&◌, not, List, [], ◌∷◌, take, drop, leb, ltb, if◌then◌else◌}
+use Rattle.std.specs.Prelude.{IsErrAnd, Bool, ◌&&◌, not, List, [], ◌∷◌, take, drop, leb, ltb, if◌then◌else◌}
 use Rattle.std.proofs.Math.Bool.{true, false}
 use Prim.Native.Nat.{ℕ, zero, suc, ◌+◌, ◌-◌, ◌≤◌, ◌<◌, min}
 use native.Mathlib.Omega.{arith}
@@ -10,20 +10,26 @@ use Rattle.std.proofs.Math.Seq.{length-take-le}
 use borrow.Author.Tests.{le-leb, lt-leb, le-ltb, lt-ltb, leb-true, ltb-false}
 use Rattle.text.specs.Logic.{and_both}
 use Rattle.moves.specs.Moves.{put}
+use Rattle.moves.specs.Laws.{put_length}
 use Rattle.outcome.specs.Outcome.{Outcome, answered, refused}
 use Rattle.outcome.specs.Laws.{ways, same_way}
 use Rattle.queue.specs.Queue.{ours, capacity_of, in_bounds}
 use Rattle.selector.specs.Selector.{Choice}
 use Rattle.turn.specs.declared.State.{State}
-use Rattle.turn.specs.Turn.{with_end, is_refused, World, world, with_state, Step, went, stuck, once, stepped}
-use Rattle.turn.specs.Laws.{left_by_lem, once_end, once_less}
+use Rattle.turn.specs.declared.Memories.{Memories}
+use Rattle.turn.specs.Turn.{with_end, is_refused, World, world, lent, with_state, Step, went, stuck, once, stepped}
+use Rattle.turn.specs.Laws.{left_by_lem, once_end, once_less, once_long}
 use Rattle.turn.specs.Kept.{Good}
 use Rattle.ingress.specs.declared.CheckError.{CheckError}
+use Rattle.ingress.specs.declared.CheckError.TheVariants as judges
+use Rattle.ingress.specs.declared.AdvanceError.{AdvanceError}
+use Rattle.ingress.specs.declared.AdvanceError.TheVariants as advances
+use Rattle.ingress.specs.declared.WriteError.{WriteError}
+use Rattle.ingress.specs.declared.WriteError.TheVariants as takes
 use Rattle.ingress.specs.declared.CopyError.{CopyError}
-use Rattle.ingress.specs.declared.CopyError.TheVariants as writes
 use Rattle.ingress.specs.declared.RunError.{RunError}
 use Rattle.ingress.specs.Story.{Passed}
-use Rattle.ingress.specs.Ingress.{After, done, refused_at, then_run, run_by, run, ran, is_sound, under_table, checks, refusal, judged, unless_refused, committed, advanced, Writing, wrote, stopped, copied, after_copy, write_once, then_write, write_by, write_on, writing, answering, written}
+use Rattle.ingress.specs.Ingress.{After, done, refused_at, then_run, run_by, run, ran, is_sound, under_table, checks, refusal, judged, unless_refused, committed, advance_error, advanced, advance_says, result_of, Writing, wrote, stopped, copied, after_copy, write_once, then_write, write_by, write_on, writing, answering, write_error, written, write_says, taking}
 
 -- fuel does not matter
 then_same : (s : Step) (f g : World → After (Unit {0})) → ((v : World) (n : ℕ) → s ≡ went v n → 1 ≤ n → f v ≡ g v) → then_run s f ≡ then_run s g
@@ -66,31 +72,23 @@ module _ (c : Choice) (w : World) where
     unfolding then_run
     run_goes v n e z = (rw (le-leb 1 n (omega arith))) ∙ ap (λ (x : Step). then_run x (run c)) e ∙ at_turn
 
--- the loop: what is to be run from w₀ is what is to be run from w
-pub record Going (c : Choice) (w₀ w : World) : Type 0 where
-  pub same : run c w₀ ≡ run c w
-  pub buf_long : length w.buf ≡ length w₀.buf
-  pub slot_long : length w.slot_memory ≡ length w₀.slot_memory
-  pub queue_long : length w.queue_memory ≡ length w₀.queue_memory
+-- the loop: what is to be run from w₀ is what is to be run from w; and the ways on and out, from what `step` answered
+module _ (c : Choice) (w₀ w : World) (g : run c w₀ ≡ run c w) (h : 0 < w.state.end) (s : State) (r : Option (State × ℕ)) (m : Memories) (e : stepped s r m ≡ once c w) where
+  turned : (x : Option (State × ℕ)) → r ≡ x → stepped s x m ≡ once c w
+  turned x q = ap (λ (y : Option (State × ℕ)). stepped s y m) (sym q) ∙ e
 
--- the ways on and out, from what `step` answered
-module _ (c : Choice) (w₀ w : World) (g : Going c w₀ w) (h : 0 < w.state.end) (s : State) (r : Option (State × ℕ)) (b m n : List ℕ) (e : stepped s r b m n ≡ once c w) where
-  turned : (x : Option (State × ℕ)) → r ≡ x → stepped s x b m n ≡ once c w
-  turned x q = ap (λ (y : Option (State × ℕ)). stepped s y b m n) (sym q) ∙ e
-
-  pub turn_full : r ≡ None → refused_at 5 [] (world s b m n) ≡ run c w₀
-  turn_full q = run_full c w h (world s b m n) (turned None q) ∙ sym g.same
+  pub turn_full : r ≡ None → refused_at 5 [] (lent s m) ≡ run c w₀
+  turn_full q = run_full c w h (lent s m) (turned None q) ∙ sym g
 
   module _ (x : State) (k : ℕ) (q : r ≡ Some (x, k)) where
-    pub turn_still : k ≡ 0 → done tt (world x b m n) ≡ run c w₀
-    turn_still z = run_still c w h (world x b m n) k (turned (Some (x, k)) q) z ∙ sym g.same
+    pub turn_still : k ≡ 0 → done tt (lent x m) ≡ run c w₀
+    turn_still z = run_still c w h (lent x m) k (turned (Some (x, k)) q) z ∙ sym g
 
     pub turn_less : (k ≡ 0 → ⊥) → x.end < w.state.end
-    turn_less z = omega (arith, once_end c w (world x b m n) k (turned (Some (x, k)) q))
+    turn_less z = omega (arith, once_end c w (lent x m) k (turned (Some (x, k)) q))
 
-    pub turn_on : (k ≡ 0 → ⊥) → length b ≡ length w.buf → length m ≡ length w.slot_memory → length n ≡ length w.queue_memory → Going c w₀ (world x b m n)
-    turn_on z i j l =
-        record { same = g.same ∙ sym (run_goes c w h (world x b m n) k (turned (Some (x, k)) q) z); buf_long = i ∙ g.buf_long; slot_long = j ∙ g.slot_long; queue_long = l ∙ g.queue_long }
+    pub turn_on : (k ≡ 0 → ⊥) → run c w₀ ≡ run c (lent x m)
+    turn_on z = g ∙ sym (run_goes c w h (lent x m) k (turned (Some (x, k)) q) z)
 
 -- `is_sound`
 module _ (s : State) (b m n : ℕ) where
@@ -160,6 +158,16 @@ module _ (c : Choice) (n : ℕ) (w : World) where
   unfolding advanced unless_refused
   advance_refused k v e = rw (sym e)
 
+  -- what `judge` refused is refused as that
+  fails_by : (e : CheckError) → refusal (Err e) ≡ judged c w → record { said = (advance_says w.state (Err (advance_error e))).0; left = with_state w (advance_says w.state (Err (advance_error e))).1 } ≡ advanced c n w
+  fails_by judges.TooLong p = advance_refused 1 [] p
+  fails_by (judges.BadTable k) p = advance_refused 2 (k ∷ []) p
+  fails_by judges.BadState p = advance_refused 3 [] p
+
+  pub advance_fails : (e : CheckError) → refusal (Err e) ≡ judged c w → (x : Result State AdvanceError) → IsErrAnd x (λ f. f ≡ advance_error e) → record { said = (advance_says w.state x).0; left = with_state w (advance_says w.state x).1 } ≡ advanced c n w
+  advance_fails e p (Ok s) q = absurd q
+  advance_fails e p (Err f) q = rw q (fails_by e p)
+
   module _ (g : Passed c w) where
     pub advance_room : length w.buf - w.state.end < n → refused_at 4 [] w ≡ advanced c n w
     unfolding advanced unless_refused
@@ -170,24 +178,31 @@ module _ (c : Choice) (n : ℕ) (w : World) where
       unfolding advanced unless_refused
       at_run = rw (sym g, le-ltb (length w.buf - w.state.end) n h)
 
-      pub advance_ran : (r : Result State RunError) (b m q : List ℕ) (y : State) → y ≡ (committed w n).state → ran r b m q ≡ run c (with_state w y) → (x : Result State RunError) → r ≡ x → ran x b m q ≡ advanced c n w
-      advance_ran r b m q y v p x e = ap (λ (z : Result State RunError). ran z b m q) (sym e) ∙ p ∙ ap (λ (z : State). run c (with_state w z)) v ∙ at_run
+      module _ (r : Result State RunError) (m : Memories) (p : ran r m ≡ run c (committed w n)) where
+        pub advance_ran : (s : State) → r ≡ Ok s → result_of w.state (Ok s) m ≡ advanced c n w
+        advance_ran s e = (rw e at p) ∙ at_run
 
--- a run makes no more of what is held
-then_less : (s : Step) (f : World → After (Unit {0})) → ((v : World) → (f v).left.state.end ≤ v.state.end) → (then_run s f).left.state.end ≤ (left_by_lem s).state.end
+        pub advance_full : (x : RunError) → r ≡ Err x → (y : Result State AdvanceError) → IsErrAnd y (λ f. f ≡ advances.Full x.left) → result_of w.state y m ≡ advanced c n w
+        advance_full x e (Ok s) q = absurd q
+        advance_full x e (Err f) q = rw q ((rw e at p) ∙ at_run)
+
+-- a run makes no more of what is held, and the buffer no longer or shorter
+abbrev Shrinks : World → World → Type 0
+Shrinks w v = (v.state.end ≤ w.state.end) × (length v.buf ≡ length w.buf)
+
+then_less : (s : Step) (f : World → After (Unit {0})) → ((v : World) → Shrinks v (f v).left) → Shrinks (left_by_lem s) (then_run s f).left
 unfolding then_run
-then_less (went v n) f h = ways (λ (r : After (Unit {0})). r.left.state.end ≤ v.state.end) (leb 1 n) (λ q. h v) (λ q. omega arith)
-then_less (stuck v) f h = omega arith
+then_less (went v n) f h = ways (λ (r : After (Unit {0})). Shrinks v r.left) (leb 1 n) (λ q. h v) (λ q. (omega arith, refl))
+then_less (stuck v) f h = (omega arith, refl)
 
-run_by_less : (n : ℕ) (c : Choice) (w : World) → (run_by n c w).left.state.end ≤ w.state.end
+run_by_less : (n : ℕ) (c : Choice) (w : World) → Shrinks w (run_by n c w).left
 unfolding run_by
-run_by_less zero c w = omega arith
+run_by_less zero c w = (omega arith, refl)
 run_by_less (suc n) c w =
-    ways (λ (r : After (Unit {0})). r.left.state.end ≤ w.state.end) (leb 1 w.state.end)
-    (λ q. omega (arith, then_less (once c w) (run_by n c) (run_by_less n c), once_less c w))
-    (λ q. omega arith)
+    let l = then_less (once c w) (run_by n c) (run_by_less n c) in
+    ways (λ (r : After (Unit {0})). Shrinks w r.left) (leb 1 w.state.end) (λ q. (omega (arith, l.0, once_less c w), l.1 ∙ once_long c w)) (λ q. (omega arith, refl))
 
-run_less : (c : Choice) (w : World) → (run c w).left.state.end ≤ w.state.end
+run_less : (c : Choice) (w : World) → Shrinks w (run c w).left
 unfolding run
 run_less c w = run_by_less (suc w.state.end) c w
 
@@ -202,13 +217,13 @@ module _ (c : Choice) (p : List ℕ) (w : World) where
     unfolding write_once
     at_copy = rw e (rw (le-leb 1 (min (length p) (length w.buf - w.state.end)) (omega arith)))
 
-    copied_is : (b : List ℕ) (y : State) → b ≡ put w.buf w.state.end (take n p) → y ≡ with_end w.state (w.state.end + n) → world y b w.slot_memory w.queue_memory ≡ copied w (take n p)
-    copied_is b y v u =
+    copied_is : (b : List ℕ) → b ≡ put w.buf w.state.end (take n p) → world (with_end w.state (w.state.end + n)) b w.slot_memory w.queue_memory ≡ copied w (take n p)
+    copied_is b v =
         let l : n ≡ length (take n p) = sym (length-take-le n p (omega arith)) in
-        (λ i. world (u i) (v i) w.slot_memory w.queue_memory) ∙ (λ i. committed (world w.state (put w.buf w.state.end (take n p)) w.slot_memory w.queue_memory) (l i))
+        (λ i. world (with_end w.state (w.state.end + l i)) (v i) w.slot_memory w.queue_memory)
 
-    pub copy_ran : (b : List ℕ) (y : State) → b ≡ put w.buf w.state.end (take n p) → y ≡ with_end w.state (w.state.end + n) → (r : Result State RunError) (d m q : List ℕ) → ran r d m q ≡ run c (world y b w.slot_memory w.queue_memory) → (x : Result State RunError) → r ≡ x → after_copy (ran x d m q) n ≡ write_once c p w
-    copy_ran b y v u r d m q k x e = ap (λ (z : Result State RunError). after_copy (ran z d m q) n) (sym e) ∙ ap (λ (z : After (Unit {0})). after_copy z n) (k ∙ ap (run c) (copied_is b y v u)) ∙ at_copy
+    pub copy_ran : (b : List ℕ) → b ≡ put w.buf w.state.end (take n p) → (r : Result State RunError) (m : Memories) → ran r m ≡ run c (world (with_end w.state (w.state.end + n)) b w.slot_memory w.queue_memory) → (x : Result State RunError) → r ≡ x → after_copy (ran x m) n ≡ write_once c p w
+    copy_ran b v r m k x e = ap (λ (z : Result State RunError). after_copy (ran z m) n) (sym e) ∙ ap (λ (z : After (Unit {0})). after_copy z n) (k ∙ ap (run c) (copied_is b v)) ∙ at_copy
 
 -- a copy takes no more than there is, and leaves an end in the buffer
 abbrev pub bytes_of : Writing → ℕ
@@ -230,14 +245,16 @@ module _ (c : Choice) (p : List ℕ) (w : World) where
       ways (λ r. bytes_of r ≤ length p) (leb 1 n) (λ q. omega (arith, (after_copy_lem (run c (copied w (take n p))) n).0)) (λ q. omega arith)
 
   module _ (h : w.state.end ≤ length w.buf) where
-    once_inside : (left_of (write_once c p w)).state.end ≤ length w.buf
+    once_inside : let v = left_of (write_once c p w) in (v.state.end ≤ length w.buf) × (length v.buf ≡ length w.buf)
     unfolding write_once
     once_inside =
         let n = min (length p) (length w.buf - w.state.end) in
         let k : n ≤ length p = omega arith in
-        ways (λ r. (left_of r).state.end ≤ length w.buf) (leb 1 n)
-        (λ q. omega (arith, ap (λ (y : World). y.state.end) (after_copy_lem (run c (copied w (take n p))) n).1, run_less c (copied w (take n p)), length-take-le n p k))
-        (λ q. h)
+        let l = run_less c (copied w (take n p)) in
+        let f = (after_copy_lem (run c (copied w (take n p))) n).1 in
+        ways (λ r. ((left_of r).state.end ≤ length w.buf) × (length (left_of r).buf ≡ length w.buf)) (leb 1 n)
+        (λ q. (omega (arith, ap (λ (y : World). y.state.end) f, l.0, length-take-le n p k), ap (λ (y : World). length y.buf) f ∙ l.1 ∙ put_length w.buf w.state.end (take n p)))
+        (λ q. (h, refl))
 
 -- a write's fuel does not matter
 write_same : (s : Writing) (k : ℕ) (f g : ℕ → World → Writing) → ((v : World) (n : ℕ) → n ≡ bytes_of s → 1 ≤ n → f (k + n) v ≡ g (k + n) v) → then_write s k f ≡ then_write s k g
@@ -266,45 +283,41 @@ pub record Writes (c : Choice) (p : List ℕ) (w₀ : World) (k : ℕ) (w : Worl
   pub same : write_on c p 0 w₀ ≡ write_on c p k w
   pub inside : w.state.end ≤ length w.buf
   pub within : k ≤ length p
-  pub buf_long : length w.buf ≡ length w₀.buf
-  pub slot_long : length w.slot_memory ≡ length w₀.slot_memory
-  pub queue_long : length w.queue_memory ≡ length w₀.queue_memory
 
 -- the ways on and out, from what `write_once` answered for the bytes d not yet taken
-module _ (c : Choice) (p : List ℕ) (w₀ : World) (k : ℕ) (w : World) (g : Writes c p w₀ k w) (d : List ℕ) (f : d ≡ drop k p) (r : Result (State × ℕ) CopyError) (b m q : List ℕ) (e : writing r b m q ≡ write_once c d w) where
-  copied_on : (x : Result (State × ℕ) CopyError) → r ≡ x → writing x b m q ≡ write_once c (drop k p) w
-  copied_on x v = ap (λ (y : Result (State × ℕ) CopyError). writing y b m q) (sym v) ∙ e ∙ ap (λ (y : List ℕ). write_once c y w) f
+module _ (c : Choice) (p : List ℕ) (w₀ : World) (k : ℕ) (w : World) (g : Writes c p w₀ k w) (d : List ℕ) (f : d ≡ drop k p) (r : Result (State × ℕ) CopyError) (m : Memories) (e : writing r m ≡ write_once c d w) where
+  copied_on : (x : Result (State × ℕ) CopyError) → r ≡ x → writing x m ≡ write_once c (drop k p) w
+  copied_on x v = ap (λ (y : Result (State × ℕ) CopyError). writing y m) (sym v) ∙ e ∙ ap (λ (y : List ℕ). write_once c y w) f
 
-  at_write : (x : Result (State × ℕ) CopyError) → r ≡ x → then_write (writing x b m q) k (write_on c p) ≡ write_on c p 0 w₀
+  at_write : (x : Result (State × ℕ) CopyError) → r ≡ x → then_write (writing x m) k (write_on c p) ≡ write_on c p 0 w₀
   at_write x v = ap (λ (y : Writing). then_write y k (write_on c p)) (copied_on x v) ∙ sym (write_step c p k w) ∙ sym g.same
 
-  module _ (x : State) (n : ℕ) where
-    pub on_full : r ≡ Err (writes.Full x n) → stopped (k + n) (world x b m q) ≡ write_on c p 0 w₀
+  module _ (x : CopyError) (v : r ≡ Err x) where
+    pub on_full : stopped (k + x.taken) (lent x.left m) ≡ write_on c p 0 w₀
     unfolding then_write
-    on_full v = at_write (Err (writes.Full x n)) v
+    on_full = at_write (Err x) v
 
-    pub full_room : r ≡ Err (writes.Full x n) → k + n ≤ length p
-    full_room v = omega (arith, ap bytes_of (copied_on (Err (writes.Full x n)) v), once_taken c (drop k p) w, length-drop k p, g.within)
+    pub full_room : k + x.taken ≤ length p
+    full_room = omega (arith, ap bytes_of (copied_on (Err x) v), once_taken c (drop k p) w, length-drop k p, g.within)
 
-    module _ (v : r ≡ Ok (x, n)) where
-      pub on_still : n ≡ 0 → wrote k (world x b m q) ≡ write_on c p 0 w₀
-      unfolding then_write
-      on_still z = rw (lt-leb 1 n (omega arith)) at (at_write (Ok (x, n)) v)
+  module _ (x : State) (n : ℕ) (v : r ≡ Ok (x, n)) where
+    pub on_still : n ≡ 0 → wrote k (lent x m) ≡ write_on c p 0 w₀
+    unfolding then_write
+    on_still z = rw (lt-leb 1 n (omega arith)) at (at_write (Ok (x, n)) v)
 
-      pub on_room : k + n ≤ length p
-      on_room = omega (arith, ap bytes_of (copied_on (Ok (x, n)) v), once_taken c (drop k p) w, length-drop k p, g.within)
+    pub on_room : k + n ≤ length p
+    on_room = omega (arith, ap bytes_of (copied_on (Ok (x, n)) v), once_taken c (drop k p) w, length-drop k p, g.within)
 
-      pub on_again : (n ≡ 0 → ⊥) → length b ≡ length w.buf → length m ≡ length w.slot_memory → length q ≡ length w.queue_memory → Writes c p w₀ (k + n) (world x b m q)
-      unfolding then_write
-      on_again z h i j =
-          record {
-            same = sym (rw (le-leb 1 n (omega arith)) at (at_write (Ok (x, n)) v));
-            inside = omega (arith, ap (λ (y : Writing). (left_of y).state.end) (copied_on (Ok (x, n)) v), once_inside c (drop k p) w g.inside);
-            within = on_room;
-            buf_long = h ∙ g.buf_long;
-            slot_long = i ∙ g.slot_long;
-            queue_long = j ∙ g.queue_long;
-          }
+    pub on_again : (n ≡ 0 → ⊥) → Writes c p w₀ (k + n) (lent x m)
+    unfolding then_write
+    on_again z =
+        let l = once_inside c (drop k p) w g.inside in
+        let f = copied_on (Ok (x, n)) v in
+        record {
+          same = sym (rw (le-leb 1 n (omega arith)) at (at_write (Ok (x, n)) v));
+          inside = omega (arith, ap (λ (y : Writing). (left_of y).state.end) f, ap (λ (y : Writing). length (left_of y).buf) f, l.0, l.1);
+          within = on_room;
+        }
 
 -- the ways out of `write`
 module _ (c : Choice) (p : List ℕ) (w : World) where
@@ -312,6 +325,23 @@ module _ (c : Choice) (p : List ℕ) (w : World) where
   unfolding written unless_refused
   write_refused n v e = rw (sym e)
 
-  pub write_wrote : Passed c w → (r : Result (State × ℕ) CopyError) (b m q : List ℕ) → writing r b m q ≡ write_on c p 0 w → (x : Result (State × ℕ) CopyError) → r ≡ x → answering (writing x b m q) ≡ written c p w
-  unfolding written unless_refused
-  write_wrote g r b m q e x v = ap (λ (y : Result (State × ℕ) CopyError). answering (writing y b m q)) (sym v) ∙ ap answering e ∙ rw (sym g)
+  not_written : (e : CheckError) → refusal (Err e) ≡ judged c w → record { said = (write_says w.state (Err (write_error e))).0; left = with_state w (write_says w.state (Err (write_error e))).1 } ≡ written c p w
+  not_written judges.TooLong p = write_refused 1 [] p
+  not_written (judges.BadTable k) p = write_refused 2 (k ∷ []) p
+  not_written judges.BadState p = write_refused 3 [] p
+
+  pub write_fails : (e : CheckError) → refusal (Err e) ≡ judged c w → (x : Result (State × ℕ) WriteError) → IsErrAnd x (λ f. f ≡ write_error e) → record { said = (write_says w.state x).0; left = with_state w (write_says w.state x).1 } ≡ written c p w
+  write_fails e p (Ok x) q = absurd q
+  write_fails e p (Err f) q = rw q (not_written e p)
+
+  module _ (g : Passed c w) (r : Result (State × ℕ) CopyError) (m : Memories) (e : writing r m ≡ write_on c p 0 w) where
+    at_writing : answering (writing r m) ≡ written c p w
+    unfolding written unless_refused
+    at_writing = ap answering e ∙ rw (sym g)
+
+    pub write_wrote : (x : State × ℕ) → r ≡ Ok x → taking w.state (Ok x) m ≡ written c p w
+    write_wrote x v = rw v at at_writing
+
+    pub write_full : (x : CopyError) → r ≡ Err x → (y : Result (State × ℕ) WriteError) → IsErrAnd y (λ f. f ≡ takes.Full x.left x.taken) → taking w.state y m ≡ written c p w
+    write_full x v (Ok y) q = absurd q
+    write_full x v (Err f) q = rw q (rw v at at_writing)

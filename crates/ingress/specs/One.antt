@@ -2,6 +2,7 @@
 use Rattle.std.specs.Prelude.{Result, Ok, Err, ◌≡◌, refl, ℕ, get_or, eqb, if◌then◌else◌}
 use Rattle.std.proofs.Common.{ap}
 use Rattle.outcome.specs.Outcome.{Outcome, answered, refused}
+use Rattle.turn.specs.declared.Memories.{Memories}
 use Rattle.turn.specs.declared.State.{State}
 use Rattle.ingress.specs.declared.AdvanceError.{AdvanceError}
 use Rattle.ingress.specs.declared.AdvanceError.TheVariants as advances
@@ -40,6 +41,10 @@ written_back s (Err takes.TooLong) = refl
 written_back s (Err (takes.BadTable k)) = refl
 written_back s (Err takes.BadState) = refl
 written_back s (Err (takes.Full x n)) = refl
+
+-- the same bytes in each of the three
+abbrev pub SameMemories : Memories → Memories → Type 0
+SameMemories m n = (m.buf.now ≡ n.buf.now) × ((m.slot.now ≡ n.slot.now) × (m.queue.now ≡ n.queue.now))
 
 pub same_memories : {A : Type 0} (x y : After A) → x ≡ y → (x.left.buf ≡ y.left.buf) × ((x.left.slot_memory ≡ y.left.slot_memory) × (x.left.queue_memory ≡ y.left.queue_memory))
 same_memories x y e = (ap (λ z. z.left.buf) e, (ap (λ z. z.left.slot_memory) e, ap (λ z. z.left.queue_memory) e))

@@ -1,5 +1,5 @@
 -- The winter's fault is shut out: each call is a story, and so is a sequence of calls. From what advance and write keep.
-use Rattle.std.specs.Prelude.{Ok, ◌≡◌, refl, Bool, true, false, List, [], ◌∷◌, ◌++◌, ℕ, ◌+◌, ◌≤◌, length, get_or, take, eqb, if◌then◌else◌}
+use Rattle.std.specs.Prelude.{◌≡◌, refl, Bool, true, false, List, [], ◌∷◌, ◌++◌, ℕ, ◌+◌, ◌≤◌, length, get_or, take, eqb, if◌then◌else◌}
 use Rattle.std.proofs.Common.{sym, ap, ◌∙◌, inl, append-nil, arith}
 use Rattle.moves.specs.Laws.{put_elsewhere}
 use Rattle.outcome.specs.Outcome.{Outcome, answered, refused}
@@ -8,14 +8,13 @@ use Rattle.answers.specs.Answer.{is_notice}
 use Rattle.answers.specs.declared.Answer.{Answer}
 use Rattle.slot.specs.Slot.{was_reset}
 use Rattle.slot.specs.declared.Slot.{Slot}
-use Rattle.queue.specs.Queue.{ours, longer, taken, Got, got, empty, Arrival, adds}
-use Rattle.queue.specs.Queue as queues
+use Rattle.queue.specs.Queue.{ours, taken, Got, got, empty, Arrival, adds}
 use Rattle.queue.specs.Laws.{ours_sound}
 use Rattle.queue.specs.Waiting.{put_room, take_kept, take_empty, adds_one}
 use Rattle.queue.specs.declared.Queue.{Queue}
 use Rattle.queue.specs.declared.Notice.{Notice}
 use Rattle.selector.specs.Selector.{Choice}
-use Rattle.turn.specs.Turn.{with_end, with_slot, with_queue, Delivery, deliver, World, with_state, held, says, payload_of, delivering}
+use Rattle.turn.specs.Turn.{to_queue, with_end, with_slot, with_queue, Delivery, deliver, World, with_state, held, says, payload_of, delivering}
 use Rattle.turn.specs.Says.{held_long, says_same, says_within, notice_found}
 use Rattle.turn.specs.Laws.{to_queue_lem, next, once_goes}
 use Rattle.turn.specs.Kept.{Good, trusted, next_good, notice_carries}
@@ -156,7 +155,8 @@ module _ (c : Choice) (w : World) (z : Waits c w) (q : Queue) (n : Notice) (e : 
       let y = room_waits z in
       sym
       (ap (λ (d : Delivery). d.waits)
-      (to_queue_lem with_room.state a p w.slot_memory w.queue_memory y.0 (Ok (longer q)) (queues.written ours q a.number p w.queue_memory) (put_room ours ours_sound q a.number p w.queue_memory k.0 k.1 y.1.0 y.1.1) (Ok (longer q)) refl
+      (ap (to_queue with_room.state w.slot_memory) (put_room ours ours_sound q a.number p w.queue_memory k.0 k.1 y.1.0 y.1.1)
+      ∙ to_queue_lem with_room.state a p w.slot_memory w.queue_memory y.0
       ∙ ap (λ (x : List ℕ). deliver with_room.state a x w.slot_memory w.queue_memory) (sym (notice_carries (held w) a y.0))))
 
   room_found : 1 ≤ (says c with_room).consumed

@@ -1,22 +1,24 @@
 // The blocking half of atat's ingress.rs by document 01: turns, one after the other, until nothing more is consumed.
-// The state is a struct by value beside lent slices; the buffer, the slot's memory and the queue's memory are the caller's.
+// The state is a struct by value beside the memories, which the caller lends.
 // It relies on the promises and laws below it, and opens none of their definitions. No public function has a `requires`.
 #![tactic(auto)]
 
 ghost use Rattle.std.specs.Prelude.{◌≡◌, ◌≤◌, length, take};
 ghost use Rattle.selector.specs.Selector.{choice};
-ghost use Rattle.turn.specs.Turn.{world};
-ghost use Rattle.ingress.specs.Ingress.{run, ran, is_sound, checks, refusal, advanced, result_of, write_once, writing, write_on, written, taking, cleared};
+ghost use Rattle.turn.specs.Turn.{lent};
+ghost use Rattle.ingress.specs.declared.AdvanceError.TheVariants as advances;
+ghost use Rattle.ingress.specs.declared.WriteError.TheVariants as takes;
+ghost use Rattle.ingress.specs.Ingress.{run, ran, is_sound, table_error, refusal, judged, advance_error, advanced, result_of, write_once, writing, write_on, write_error, written, taking, cleared};
 ghost use Rattle.ingress.specs.Story.{Keeps, committed_bytes, NothingLeft, NothingAfter, took_of};
 
 use selector::Selector;
 use table::TableError;
-use turn::State;
+use turn::{Memories, State};
 
 // Why turns stop early (refusal 5): a notice met a full queue. With the state that is left.
 #[derive(Clone, Copy)]
-pub enum RunError {
-    Full(State),
+pub struct RunError {
+    pub left: State,
 }
 
 // Turns until the digest consumes 0 or nothing is left.
@@ -24,42 +26,29 @@ pub fn run(
     selector: Selector,
     table: &[u8],
     state: State,
-    buf: &mut [u8],
-    slot_mem: &mut [u8],
-    queue_mem: &mut [u8],
+    memories: &mut Memories<'_>,
 ) -> Result<State, RunError>
-    ensures { ran result buf.new slot_mem.new queue_mem.new ≡ run (choice selector table.now) (world state buf.old slot_mem.old queue_mem.old) }
+    ensures { ran result memories.new ≡ run (choice selector table.now) (lent state memories.old) }
 {
     let mut s = state;
     while 0 < s.end {
-        match turn::step(selector, table, s, buf, slot_mem, queue_mem) {
-            None => {
-                return Err(RunError::Full(s));
-            }
-            Some((next, n)) => {
-                s = next;
-                if n == 0 {
-                    return Ok(s);
-                }
-            }
+        let Some((next, n)) = turn::step(selector, table, s, memories) else {
+            return Err(RunError { left: s });
+        };
+        s = next;
+        if n == 0 {
+            break;
         }
     }
     Ok(s)
 }
 
 // Do the numbers fit the memories? The end lies in the buffer, the stored length in the slot's memory, start and count within their bounds.
-fn is_sound(state: State, buf: usize, slot_mem: usize, queue_mem: usize) -> bool
-    ensures { result ≡ is_sound state buf slot_mem queue_mem }
+#[tactic(auto, unfolding(crate::specs::Ingress::is_sound))]
+fn is_sound(state: State, buf: usize, slot: usize, queue: usize) -> bool
+    ensures { result ≡ is_sound state buf slot queue }
 {
-    if buf < state.end {
-        return false;
-    }
-    let slot = state.slot;
-    if slot_mem < slot.len {
-        return false;
-    }
-    let queue = state.queue;
-    queue.is_bounded(queue::capacity(queue_mem))
+    state.end <= buf && state.slot.len <= slot && state.queue.is_bounded(queue::capacity(queue))
 }
 
 // Why arguments are refused: 1, 2 with the first faulty record's number, 3.
@@ -70,24 +59,36 @@ pub enum CheckError {
     BadState,
 }
 
-// Refusals 1, 2 and 3 in this order, by what the digester says of the table, for memories of these lengths.
+impl From<TableError> for CheckError {
+    ghost from_gives = { λ e w. w ≡ table_error e };
+
+    fn from(e: TableError) -> CheckError {
+        match e {
+            TableError::Faulty(k) => CheckError::BadTable(k),
+        }
+    }
+}
+
+// Refusals 1, 2 and 3 in this order, by what the digester says of the table.
+#[tactic(auto, unfolding(crate::specs::Ingress::checks, crate::specs::Ingress::under_table))]
 pub fn judge(
     selector: Selector,
     state: State,
     table: &[u8],
-    buf: usize,
-    slot_mem: usize,
-    queue_mem: usize,
+    memories: &Memories<'_>,
 ) -> Result<(), CheckError>
-    ensures { refusal result ≡ checks (choice selector table.now).rules state buf slot_mem queue_mem }
+    ensures { refusal result ≡ judged (choice selector table.now) (lent state memories.now) }
 {
-    if digest::LONGEST < buf {
+    if digest::LONGEST < memories.buf.len() {
         return Err(CheckError::TooLong);
     }
-    if let Err(TableError::Faulty(k)) = selector::check(selector, table) {
-        return Err(CheckError::BadTable(k));
-    }
-    if !is_sound(state, buf, slot_mem, queue_mem) {
+    selector::check(selector, table)?;
+    if !is_sound(
+        state,
+        memories.buf.len(),
+        memories.slot.len(),
+        memories.queue.len(),
+    ) {
         return Err(CheckError::BadState);
     }
     Ok(())
@@ -103,6 +104,26 @@ pub enum AdvanceError {
     Full(State),
 }
 
+impl From<CheckError> for AdvanceError {
+    ghost from_gives = { λ e w. w ≡ advance_error e };
+
+    fn from(e: CheckError) -> AdvanceError {
+        match e {
+            CheckError::TooLong => AdvanceError::TooLong,
+            CheckError::BadTable(k) => AdvanceError::BadTable(k),
+            CheckError::BadState => AdvanceError::BadState,
+        }
+    }
+}
+
+impl From<RunError> for AdvanceError {
+    ghost from_gives = { λ e w. w ≡ advances.Full e.left };
+
+    fn from(e: RunError) -> AdvanceError {
+        AdvanceError::Full(e.left)
+    }
+}
+
 // Adds the commit to what is in the buffer, then digests, delivers and moves until nothing more is consumed.
 // No byte is lost (`keeps`), and what it leaves, not refused, holds no finished item (`nothing_left`).
 pub fn advance(
@@ -110,50 +131,29 @@ pub fn advance(
     commit: usize,
     selector: Selector,
     table: &[u8],
-    buf: &mut [u8],
-    slot_mem: &mut [u8],
-    queue_mem: &mut [u8],
+    memories: &mut Memories<'_>,
 ) -> Result<State, AdvanceError>
-    ensures is { result_of state result buf.new slot_mem.new queue_mem.new ≡ advanced (choice selector table.now) commit (world state buf.old slot_mem.old queue_mem.old) }
-    ensures keeps { Keeps (choice selector table.now) (world state buf.old slot_mem.old queue_mem.old) (committed_bytes (world state buf.old slot_mem.old queue_mem.old) commit) (result_of state result buf.new slot_mem.new queue_mem.new) }
-    ensures nothing_left { NothingLeft (choice selector table.now) (result_of state result buf.new slot_mem.new queue_mem.new) }
+    ensures is { result_of state result memories.new ≡ advanced (choice selector table.now) commit (lent state memories.old) }
+    ensures keeps { Keeps (choice selector table.now) (lent state memories.old) (committed_bytes (lent state memories.old) commit) (result_of state result memories.new) }
+    ensures nothing_left { NothingLeft (choice selector table.now) (result_of state result memories.new) }
 {
-    let room = buf.len();
-    match judge(
-        selector,
-        state,
-        table,
-        room,
-        slot_mem.len(),
-        queue_mem.len(),
-    ) {
-        Err(CheckError::TooLong) => Err(AdvanceError::TooLong),
-        Err(CheckError::BadTable(k)) => Err(AdvanceError::BadTable(k)),
-        Err(CheckError::BadState) => Err(AdvanceError::BadState),
-        Ok(()) => {
-            let end = state.end;
-            if room - end < commit {
-                return Err(AdvanceError::NoRoom);
-            }
-            match run(
-                selector,
-                table,
-                state.with_end(end + commit),
-                buf,
-                slot_mem,
-                queue_mem,
-            ) {
-                Ok(s) => Ok(s),
-                Err(RunError::Full(s)) => Err(AdvanceError::Full(s)),
-            }
-        }
+    judge(selector, state, table, memories)?;
+    let end = state.end;
+    if memories.buf.len() - end < commit {
+        return Err(AdvanceError::NoRoom);
     }
+    let held = State {
+        end: end + commit,
+        ..state
+    };
+    Ok(run(selector, table, held, memories)?)
 }
 
 // Why a copy stops early (refusal 5): a notice met a full queue. With the state that is left and the bytes taken.
 #[derive(Clone, Copy)]
-pub enum CopyError {
-    Full(State, usize),
+pub struct CopyError {
+    pub left: State,
+    pub taken: usize,
 }
 
 // Copies what fits of the bytes behind those held, and runs turns. Where nothing fits, nothing is digested.
@@ -162,29 +162,24 @@ fn write_once(
     table: &[u8],
     state: State,
     bytes: &[u8],
-    buf: &mut [u8],
-    slot_mem: &mut [u8],
-    queue_mem: &mut [u8],
+    memories: &mut Memories<'_>,
 ) -> Result<(State, usize), CopyError>
-    requires { state.end ≤ length buf.old }
-    ensures { writing result buf.new slot_mem.new queue_mem.new ≡ write_once (choice selector table.now) bytes.now (world state buf.old slot_mem.old queue_mem.old) }
+    requires { state.end ≤ length memories.old.buf.now }
+    ensures { writing result memories.new ≡ write_once (choice selector table.now) bytes.now (lent state memories.old) }
 {
     let end = state.end;
-    let n = text::fitting(bytes.len(), buf.len() - end);
+    let n = bytes.len().min(memories.buf.len() - end);
     if n == 0 {
         return Ok((state, 0));
     }
-    moves::put(buf, end, &bytes[..n]);
-    match run(
-        selector,
-        table,
-        state.with_end(end + n),
-        buf,
-        slot_mem,
-        queue_mem,
-    ) {
+    moves::put(memories.buf, end, &bytes[..n]);
+    let held = State {
+        end: end + n,
+        ..state
+    };
+    match run(selector, table, held, memories) {
         Ok(s) => Ok((s, n)),
-        Err(RunError::Full(s)) => Err(CopyError::Full(s, n)),
+        Err(RunError { left }) => Err(CopyError { left, taken: n }),
     }
 }
 
@@ -194,34 +189,27 @@ fn write_on(
     table: &[u8],
     state: State,
     piece: &[u8],
-    buf: &mut [u8],
-    slot_mem: &mut [u8],
-    queue_mem: &mut [u8],
+    memories: &mut Memories<'_>,
 ) -> Result<(State, usize), CopyError>
-    requires { state.end ≤ length buf.old }
-    ensures { writing result buf.new slot_mem.new queue_mem.new ≡ write_on (choice selector table.now) piece.now 0 (world state buf.old slot_mem.old queue_mem.old) }
+    requires { state.end ≤ length memories.old.buf.now }
+    ensures { writing result memories.new ≡ write_on (choice selector table.now) piece.now 0 (lent state memories.old) }
 {
     let mut s = state;
     let mut taken = 0;
     loop {
-        match write_once(
-            selector,
-            table,
-            s,
-            &piece[taken..],
-            buf,
-            slot_mem,
-            queue_mem,
-        ) {
-            Err(CopyError::Full(next, n)) => {
-                return Err(CopyError::Full(next, taken + n));
-            }
+        match write_once(selector, table, s, &piece[taken..], memories) {
             Ok((next, more)) => {
                 s = next;
                 if more == 0 {
                     return Ok((s, taken));
                 }
                 taken += more;
+            }
+            Err(e) => {
+                return Err(CopyError {
+                    taken: taken + e.taken,
+                    ..e
+                });
             }
         }
     }
@@ -236,6 +224,26 @@ pub enum WriteError {
     Full(State, usize),
 }
 
+impl From<CheckError> for WriteError {
+    ghost from_gives = { λ e w. w ≡ write_error e };
+
+    fn from(e: CheckError) -> WriteError {
+        match e {
+            CheckError::TooLong => WriteError::TooLong,
+            CheckError::BadTable(k) => WriteError::BadTable(k),
+            CheckError::BadState => WriteError::BadState,
+        }
+    }
+}
+
+impl From<CopyError> for WriteError {
+    ghost from_gives = { λ e w. w ≡ takes.Full e.left e.taken };
+
+    fn from(e: CopyError) -> WriteError {
+        WriteError::Full(e.left, e.taken)
+    }
+}
+
 // Copies as much of the piece as fits, advances, and goes on until the piece is used up or there is no room.
 // After refusal 5 the bytes taken are in the buffer or consumed: only the rest of the piece is to be offered again.
 // No byte is lost (`keeps`), and what it leaves, not refused and a byte taken, holds no finished item (`nothing_left`).
@@ -244,30 +252,14 @@ pub fn write(
     piece: &[u8],
     selector: Selector,
     table: &[u8],
-    buf: &mut [u8],
-    slot_mem: &mut [u8],
-    queue_mem: &mut [u8],
+    memories: &mut Memories<'_>,
 ) -> Result<(State, usize), WriteError>
-    ensures is { taking state result buf.new slot_mem.new queue_mem.new ≡ written (choice selector table.now) piece.now (world state buf.old slot_mem.old queue_mem.old) }
-    ensures keeps { Keeps (choice selector table.now) (world state buf.old slot_mem.old queue_mem.old) (take (took_of (taking state result buf.new slot_mem.new queue_mem.new).said) piece.now) (taking state result buf.new slot_mem.new queue_mem.new) }
-    ensures nothing_left { NothingAfter (choice selector table.now) (taking state result buf.new slot_mem.new queue_mem.new) }
+    ensures is { taking state result memories.new ≡ written (choice selector table.now) piece.now (lent state memories.old) }
+    ensures keeps { Keeps (choice selector table.now) (lent state memories.old) (take (took_of (taking state result memories.new).said) piece.now) (taking state result memories.new) }
+    ensures nothing_left { NothingAfter (choice selector table.now) (taking state result memories.new) }
 {
-    match judge(
-        selector,
-        state,
-        table,
-        buf.len(),
-        slot_mem.len(),
-        queue_mem.len(),
-    ) {
-        Err(CheckError::TooLong) => Err(WriteError::TooLong),
-        Err(CheckError::BadTable(k)) => Err(WriteError::BadTable(k)),
-        Err(CheckError::BadState) => Err(WriteError::BadState),
-        Ok(()) => match write_on(selector, table, state, piece, buf, slot_mem, queue_mem) {
-            Ok((s, n)) => Ok((s, n)),
-            Err(CopyError::Full(s, n)) => Err(WriteError::Full(s, n)),
-        },
-    }
+    judge(selector, state, table, memories)?;
+    Ok(write_on(selector, table, state, piece, memories)?)
 }
 
 // Drops what is in the buffer: the next end.
