@@ -2,7 +2,7 @@
 -- Rests on text's laws of `stands` and `find_in`, and its steps of `past`.
 use Rattle.std.specs.Prelude.{Option, Some, None, ◌≡◌, refl, Bool, true, ◌||◌, List, [], ◌∷◌, length, leb}
 use Rattle.std.proofs.Math.Path.{sym, ap}
-use Rattle.std.proofs.Common.{◌∙◌, inl, inr, ⊎_elim, add-zero, drop-cons}
+use Rattle.std.proofs.Common.{◌∙◌, ⊎_elim, add-zero, drop-cons}
 use Rattle.std.proofs.Math.Bool.{false}
 use Prim.Native.Nat.{ℕ, zero, suc, ◌+◌, ◌*◌, ◌≤◌, ◌<◌, min}
 use native.Mathlib.Omega.{arith}
@@ -14,7 +14,7 @@ use Rattle.text.specs.Steps.{past_more, past_stop, find_here, find_next}
 use Rattle.text.specs.Bytes.{bytes}
 use Rattle.text.specs.Laws.{Says, find_says, find_is, stands_byte, stands_get_d}
 use Rattle.text.specs.declared.Blanks.TheVariants.{Space}
-use Rattle.seek.specs.Seek.{both_at, space_at, any_of, all_of, NoneBelow, ColumnAbove, IfCr, FirstIn}
+use Rattle.seek.specs.Seek.{both_at, space_at, any_of, all_of, NoneBelow, ColumnAbove, FirstIn}
 
 pub or-false : (a b : Bool) → a || b ≡ false → (a ≡ false) × (b ≡ false)
 or-false true b e = absurd (false_true refl e)
@@ -45,14 +45,6 @@ module _ (t s : List ℕ) (k l : ℕ) (h : k < length t) (g : l < length t) wher
 -- without its byte k a text doesn't stand
 pub byte_none : (t s : List ℕ) (i k : ℕ) → k < length t → (get_or s (i + k) 0 ≡ get_or t k 0 → ⊥) → false ≡ stands t s i
 byte_none t s i k h e = sym (not_true_false (stands t s i) (λ p. e (stands_get_d t s i k p h)))
-
--- one more byte, where l is neither above it nor above what bounds those before it
-pub one_more_lem : (s : List ℕ) (a n m l : ℕ) → NoneBelow s a n m → l ≤ m → l ≤ get_or s (a + n) 0 → NoneBelow s a (n + 1) l
-one_more_lem s a n m l q h g = λ j w. ⊎_elim (λ (p : j < n). omega (arith, q j p)) (λ (p : n ≤ j). let e : j ≡ n = omega arith in rw e g) (order j n)
-
--- one more row, where l is neither above its byte nor above what bounds those before it
-pub column_on : (s : List ℕ) (a n m l : ℕ) → ColumnAbove s a n m → l ≤ m → l ≤ get_or s (a + n * 16) 0 → ColumnAbove s a (n + 1) l
-column_on s a n m l q h g = λ j w. ⊎_elim (λ (p : j < n). omega (arith, q j p)) (λ (p : n ≤ j). let e : j ≡ n = omega arith in rw e g) (order j n)
 
 -- one more column, where no column was low and this one isn't
 pub column_more : (s : List ℕ) (a n : ℕ) (any : Bool) (m : ℕ) → (any ≡ false → (c : ℕ) → c < n → ColumnAbove s (a + c) 32 14) → ColumnAbove s (a + n) 32 m → any || leb m 13 ≡ false → (c : ℕ) → c < n + 1 → ColumnAbove s (a + c) 32 14
@@ -116,43 +108,7 @@ byte_here b s i h e = find_here (b ∷ []) s i (rw (drop-cons s i 0 h, eq-eqb (g
 pub byte_not : (b : ℕ) (s : List ℕ) (i : ℕ) → i < length s → (get_or s i 0 ≡ b → ⊥) → find_in (b ∷ []) s i ≡ find_in (b ∷ []) s (i + 1)
 byte_not b s i h e = find_next (b ∷ []) s i h (not_true_false (stands (b ∷ []) s i) (λ p. e (stands_byte b [] s i p).1.0))
 
--- The first CR among the bytes from a on: one byte more,
-pub first_start : (s : List ℕ) (a : ℕ) → FirstIn s a 0 255
-first_start s a = record { none = λ k h g e. absurd (omega arith); there = inl refl }
-
-module _ (s : List ℕ) (a j m : ℕ) (w : FirstIn s a j m) (l : j < 255) where
-  -- a CR stands at j: it is the first unless one stands before it
-  cr_there : get_or s (a + j) 0 ≡ 13 → (r : ℕ) → r ≡ min j m → FirstIn s a (j + 1) r
-  cr_there e r q = ⊎_elim here kept (order j m)
-    where
-      here : j < m → FirstIn s a (j + 1) r
-      here p =
-          record {
-            none = λ k h g. w.none k (omega arith) (omega arith);
-            there = inr (omega arith, let z : a + r ≡ a + j = omega arith in rw z e);
-          }
-
-      kept : m ≤ j → FirstIn s a (j + 1) r
-      kept p =
-          let z : r ≡ m = omega arith in
-          record {
-            none = λ k h g. w.none k (omega arith) (omega arith);
-            there = ⊎_elim (λ (y : m ≡ 255). absurd (omega arith)) (λ (y : (m < j) × (get_or s (a + m) 0 ≡ 13)). inr (omega arith, rw z y.1)) w.there;
-          }
-
-  -- none does
-  not_there : (get_or s (a + j) 0 ≡ 13 → ⊥) → (r : ℕ) → r ≡ m → FirstIn s a (j + 1) r
-  not_there e r q =
-      record {
-        none = λ k h g. ⊎_elim (λ (p : k < j). w.none k p (omega (arith, q))) (λ (p : j ≤ k). let z : k ≡ j = omega arith in rw z e) (order k j);
-        there = ⊎_elim (λ (z : m ≡ 255). inl (q ∙ z)) (λ (z : (m < j) × (get_or s (a + m) 0 ≡ 13)). inr (omega (arith, z.0, q), rw q z.1)) w.there;
-      }
-
-  pub first_more : m ≤ 255 → (h : ℕ) → IfCr (get_or s (a + j) 0) j h → (r : ℕ) → r ≡ min h m → FirstIn s a (j + 1) r
-  first_more b h (inl q) r v = cr_there q.0 r (rw q.1 at v)
-  first_more b h (inr q) r v = not_there q.0 r (omega (arith, q.1))
-
--- and what it tells the search
+-- what the first CR among n bytes tells the search
 module _ (s : List ℕ) (a n m : ℕ) (w : FirstIn s a n m) (h : a + n ≤ length s) (g : n ≤ 255) where
   pub first_none : m ≡ 255 → find_in (bytes "\r") s a ≡ find_in (bytes "\r") s (a + n)
   first_none e = none_passed 13 s a n h (λ j l. w.none j l (omega (arith, e)))
