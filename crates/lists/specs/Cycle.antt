@@ -14,7 +14,7 @@ use Rattle.lists.specs.Grammar.{Symbol, body, element, list, word, made, number_
 use Rattle.lists.specs.Reader.{Read, Halted, Bodied, ends_at}
 use Rattle.lists.specs.Bodies.{lead_over}
 use Rattle.lists.specs.Join.{spaced_read, spaced_refused, bracket_deep, bracket_late, bracket_refused, bracket_unclosed, bracket_read, first_refused, list_ends, list_reads, list_refused}
-use Rattle.lists.specs.Told.{written, Nexts, Told, written_more, written_before}
+use Rattle.lists.specs.Told.{Nexts, Told}
 use Rattle.lists.specs.Calls.{first_byte, opens_with}
 
 -- what is left where a reader stands
@@ -90,10 +90,10 @@ module _ (s : List ℕ) (at place : ℕ) (q : place ≡ past (is_blank Space) s 
         spaced_refused d n at (lead (is_blank Space) (drop at s)) (drop at s) (drop place s) before_place k p
         (subst (λ (i : ℕ). Halted body d n i (drop place s) k p) place_is r)
 
-    module _ (w : Bool) (m : List ℕ) where
-      pub plain_element : (r : Result (ℕ × ℕ) ListError) (after : List ℕ) → Told body d n place (drop place s) w m r after → Told element d n at (drop at s) w m r after
+    module _ {M : Type 0} (put : M → ℕ → List Element → M) (m : M) where
+      pub plain_element : (r : Result (ℕ × ℕ) ListError) (after : M) → Told put body d n place (drop place s) m r after → Told put element d n at (drop at s) m r after
       plain_element (Ok (e, k)) after t = record { found = t.found; read = as_element t.found e k t.read; left = t.left }
-      plain_element (Err why) after t = (as_refused (number_of why) (place_of why) t.0, t.1)
+      plain_element (Err why) after t = as_refused (number_of why) (place_of why) t
 
       module _ (o : get_or s place 0 ≡ 40) where
         opened : drop place s ≡ 40 ∷ drop (suc place) s
@@ -102,68 +102,66 @@ module _ (s : List ℕ) (at place : ℕ) (q : place ≡ past (is_blank Space) s 
         halted_in : (k p : ℕ) → Halted body d n place (40 ∷ drop (suc place) s) k p → Halted element d n at (drop at s) k p
         halted_in k p r = as_refused k p (subst (λ (x : List ℕ). Halted body d n place x k p) (sym opened) r)
 
-        pub too_deep_lem : 4 ≤ d → Told element d n at (drop at s) w m (Err (TooDeep place)) m
-        too_deep_lem h = (halted_in 7 place (bracket_deep d n place (drop (suc place) s) h), λ e. refl)
+        pub too_deep_lem : 4 ≤ d → Told put element d n at (drop at s) m (Err (TooDeep place)) m
+        too_deep_lem h = halted_in 7 place (bracket_deep d n place (drop (suc place) s) h)
 
         module _ (h : d < 4) where
-          pub too_late : 256 ≤ n → Told element d n at (drop at s) w m (Err (TooMany place)) m
-          too_late g = (halted_in 9 place (bracket_late d n place (drop (suc place) s) h g), λ e. refl)
+          pub too_late : 256 ≤ n → Told put element d n at (drop at s) m (Err (TooMany place)) m
+          too_late g = halted_in 9 place (bracket_late d n place (drop (suc place) s) h g)
 
-          module _ (g : n < 256) (r : Result (ℕ × ℕ) ListError) (after : List ℕ) (t : Told list (d + 1) (n + 1) (place + 1) (drop (place + 1) s) w m r after) where
-            inner : Told list (suc d) (suc n) (suc place) (drop (suc place) s) w m r after
+          module _ (g : n < 256) (r : Result (ℕ × ℕ) ListError) (after : M) (t : Told put list (d + 1) (n + 1) (place + 1) (drop (place + 1) s) m r after) where
+            inner : Told put list (suc d) (suc n) (suc place) (drop (suc place) s) m r after
             inner =
                 let a : d + 1 ≡ suc d = omega arith in
                 let b : n + 1 ≡ suc n = omega arith in
                 let c : place + 1 ≡ suc place = omega arith in
-                subst (λ (i : ℕ). Told list (suc d) (suc n) i (drop i s) w m r after) c
-                (subst (λ (i : ℕ). Told list (suc d) i (place + 1) (drop (place + 1) s) w m r after) b
-                (subst (λ (i : ℕ). Told list i (n + 1) (place + 1) (drop (place + 1) s) w m r after) a t))
+                subst (λ (i : ℕ). Told put list (suc d) (suc n) i (drop i s) m r after) c
+                (subst (λ (i : ℕ). Told put list (suc d) i (place + 1) (drop (place + 1) s) m r after) b
+                (subst (λ (i : ℕ). Told put list i (n + 1) (place + 1) (drop (place + 1) s) m r after) a t))
 
             -- the list within the brackets was refused
-            pub inner_refused : (why : ListError) → r ≡ Err why → Told element d n at (drop at s) w m (Err why) after
+            pub inner_refused : (why : ListError) → r ≡ Err why → Told put element d n at (drop at s) m (Err why) after
             inner_refused why e =
-                let u : Told list (suc d) (suc n) (suc place) (drop (suc place) s) w m (Err why) after = subst (λ (q : Result (ℕ × ℕ) ListError). Told list (suc d) (suc n) (suc place) (drop (suc place) s) w m q after) e inner in
-                (halted_in (number_of why) (place_of why) (bracket_refused d n place (drop (suc place) s) h g (number_of why) (place_of why) u.0), u.1)
+                let u : Told put list (suc d) (suc n) (suc place) (drop (suc place) s) m (Err why) after = subst (λ (q : Result (ℕ × ℕ) ListError). Told put list (suc d) (suc n) (suc place) (drop (suc place) s) m q after) e inner in
+                halted_in (number_of why) (place_of why) (bracket_refused d n place (drop (suc place) s) h g (number_of why) (place_of why) u)
 
             -- it was read as far as e
             module _ (e k : ℕ) (f : r ≡ Ok (e, k)) where
-              members : Nexts list (suc d) (suc n) (suc place) (drop (suc place) s) w m after e k
-              members = subst (λ (q : Result (ℕ × ℕ) ListError). Told list (suc d) (suc n) (suc place) (drop (suc place) s) w m q after) f inner
+              members : Nexts put list (suc d) (suc n) (suc place) (drop (suc place) s) m after e k
+              members = subst (λ (q : Result (ℕ × ℕ) ListError). Told put list (suc d) (suc n) (suc place) (drop (suc place) s) m q after) f inner
 
               left_there : members.read.rest ≡ drop e s
               left_there = rest_there s members.read
 
-              pub inner_unclosed : (get_or s e 0 ≡ 41 → ⊥) → Told element d n at (drop at s) w m (Err (Malformed e)) after
-              inner_unclosed l = (
-                halted_in 6 e (bracket_unclosed d n place (drop (suc place) s) h g members.found e k members.read (not_ended d members.read.rest (members.read.ended refl) (ap (λ (y : List ℕ). eqb (get_or y 0 0) 41) left_there ∙ ap (λ (b : ℕ). eqb b 41) (first_byte s e) ∙ ne_eqb (get_or s e 0) 41 l))),
-                λ q. members.left ∙ ap (λ (b : Bool). written b m (suc n) members.found) q,
-              )
+              pub inner_unclosed : (get_or s e 0 ≡ 41 → ⊥) → Told put element d n at (drop at s) m (Err (Malformed e)) after
+              inner_unclosed l =
+                  halted_in 6 e (bracket_unclosed d n place (drop (suc place) s) h g members.found e k members.read (not_ended d members.read.rest (members.read.ended refl) (ap (λ (y : List ℕ). eqb (get_or y 0 0) 41) left_there ∙ ap (λ (b : ℕ). eqb b 41) (first_byte s e) ∙ ne_eqb (get_or s e 0) 41 l)))
 
-              pub inner_closed : get_or s e 0 ≡ 41 → (o : Element) → o ≡ made place (e + 1) kinds.List d 0 0 → (last : List ℕ) → last ≡ written w after n (o ∷ []) → Told element d n at (drop at s) w m (Ok ((e + 1), k)) last
-              inner_closed l o i last q =
+              pub inner_closed : ((e : Element) (es : List Element) → put (put m (suc n) es) n (e ∷ []) ≡ put m n (e ∷ es)) → get_or s e 0 ≡ 41 → (o : Element) → o ≡ made place (e + 1) kinds.List d 0 0 → (last : M) → last ≡ put after n (o ∷ []) → Told put element d n at (drop at s) m (Ok ((e + 1), k)) last
+              inner_closed before l o i last q =
                   let c : e + 1 ≡ suc e = omega arith in
-                  subst (λ (i : ℕ). Told element d n at (drop at s) w m (Ok (i, k)) last) (sym c)
+                  subst (λ (i : ℕ). Told put element d n at (drop at s) m (Ok (i, k)) last) (sym c)
                   (record {
                     found = made place (suc e) kinds.List d 0 0 ∷ members.found;
                     read =
                         as_element (made place (suc e) kinds.List d 0 0 ∷ members.found) (suc e) k
                         (subst (λ (x : List ℕ). Read body d n place x (made place (suc e) kinds.List d 0 0 ∷ members.found) (suc e) k) (sym opened)
                         (bracket_read d n place (drop (suc place) s) h g members.found e k members.read (drop (e + 1) s) (left_there ∙ opens_with s e 40 l)));
-                    left = written_before w m after last n (made place (suc e) kinds.List d 0 0) members.found members.left (q ∙ ap (λ (y : Element). written w after n (y ∷ [])) (i ∙ ap (λ (j : ℕ). made place j kinds.List d 0 0) c));
+                    left = q ∙ ap (λ (y : Element). put after n (y ∷ [])) (i ∙ ap (λ (j : ℕ). made place j kinds.List d 0 0) c) ∙ ap (λ (l : M). put l n (made place (suc e) kinds.List d 0 0 ∷ [])) members.left ∙ before (made place (suc e) kinds.List d 0 0) members.found;
                   })
 
 -- a list from `at` on
-module _ (s : List ℕ) (at d n : ℕ) (w : Bool) (m : List ℕ) (r : Result (ℕ × ℕ) ListError) (after : List ℕ) (t : Told element d n at (drop at s) w m r after) where
-  pub head_refused : (why : ListError) → r ≡ Err why → Told list d n at (drop at s) w m (Err why) after
+module _ {M : Type 0} (put : M → ℕ → List Element → M) (s : List ℕ) (at d n : ℕ) (m : M) (r : Result (ℕ × ℕ) ListError) (after : M) (t : Told put element d n at (drop at s) m r after) where
+  pub head_refused : (why : ListError) → r ≡ Err why → Told put list d n at (drop at s) m (Err why) after
   head_refused why e =
-      let u : Told element d n at (drop at s) w m (Err why) after = subst (λ (q : Result (ℕ × ℕ) ListError). Told element d n at (drop at s) w m q after) e t in
-      (first_refused d n at (drop at s) (number_of why) (place_of why) u.0, u.1)
+      let u : Told put element d n at (drop at s) m (Err why) after = subst (λ (q : Result (ℕ × ℕ) ListError). Told put element d n at (drop at s) m q after) e t in
+      first_refused d n at (drop at s) (number_of why) (place_of why) u
 
   module _ (e k : ℕ) (f : r ≡ Ok (e, k)) where
-    pub first : Nexts element d n at (drop at s) w m after e k
-    first = subst (λ (q : Result (ℕ × ℕ) ListError). Told element d n at (drop at s) w m q after) f t
+    pub first : Nexts put element d n at (drop at s) m after e k
+    first = subst (λ (q : Result (ℕ × ℕ) ListError). Told put element d n at (drop at s) m q after) f t
 
-    pub list_over : (get_or s e 0 ≡ 44 → ⊥) → Told list d n at (drop at s) w m (Ok (e, k)) after
+    pub list_over : (get_or s e 0 ≡ 44 → ⊥) → Told put list d n at (drop at s) m (Ok (e, k)) after
     list_over l =
         record {
           found = first.found;
@@ -173,24 +171,22 @@ module _ (s : List ℕ) (at d n : ℕ) (w : Bool) (m : List ℕ) (r : Result (�
           left = first.left;
         }
 
-    pub list_on : get_or s e 0 ≡ 44 → (q : Result (ℕ × ℕ) ListError) (last : List ℕ) → Told list d k (e + 1) (drop (e + 1) s) w after q last → Told list d n at (drop at s) w m q last
-    list_on l (Ok (z, j)) last u =
+    pub list_on : ((es fs : List Element) → put (put m n es) (n + length es) fs ≡ put m n (es ++ fs)) → get_or s e 0 ≡ 44 → (q : Result (ℕ × ℕ) ListError) (last : M) → Told put list d k (e + 1) (drop (e + 1) s) after q last → Told put list d n at (drop at s) m q last
+    list_on more l (Ok (z, j)) last u =
         let c : e + 1 ≡ suc e = omega arith in
-        let v : Nexts list d k (suc e) (drop (e + 1) s) w after last z j = subst (λ (i : ℕ). Nexts list d k i (drop (e + 1) s) w after last z j) c u in
+        let v : Nexts put list d k (suc e) (drop (e + 1) s) after last z j = subst (λ (i : ℕ). Nexts put list d k i (drop (e + 1) s) after last z j) c u in
         record {
           found = first.found ++ v.found;
           read = list_reads d n at (drop at s) first.found e k first.read (drop (e + 1) s) (rest_there s first.read ∙ opens_with s e 43 l) v.found z j v.read;
-          left = written_more w m after last n k first.found v.found first.read.count first.left v.left;
+          left = v.left ∙ ap (λ (l : M). put l k v.found) first.left ∙ ap (λ (i : ℕ). put (put m n first.found) i v.found) first.read.count ∙ more first.found v.found;
         }
-    list_on l (Err why) last u =
-        let c : e + 1 ≡ suc e = omega arith in (
-          list_refused d n at (drop at s) first.found e k first.read (drop (e + 1) s) (rest_there s first.read ∙ opens_with s e 43 l) (number_of why) (place_of why) (subst (λ (i : ℕ). Halted list d k i (drop (e + 1) s) (number_of why) (place_of why)) c u.0),
-          λ q. u.1 q ∙ first.left ∙ ap (λ (b : Bool). written b m n first.found) q,
-        )
+    list_on more l (Err why) last u =
+        let c : e + 1 ≡ suc e = omega arith in
+        list_refused d n at (drop at s) first.found e k first.read (drop (e + 1) s) (rest_there s first.read ∙ opens_with s e 43 l) (number_of why) (place_of why) (subst (λ (i : ℕ). Halted list d k i (drop (e + 1) s) (number_of why) (place_of why)) c u)
 
 -- a body that holds no list, left in the memory
-module _ (s : List ℕ) (at d n : ℕ) (w : Bool) (m : List ℕ) (r : Result Element ListError) (t : Bodied d n at (drop at s) r) where
-  pub plain_read : (e : Element) → r ≡ Ok e → (after : List ℕ) → after ≡ written w m n (e ∷ []) → Told body d n at (drop at s) w m (Ok (e.end, n + 1)) after
+module _ {M : Type 0} (put : M → ℕ → List Element → M) (s : List ℕ) (at d n : ℕ) (m : M) (r : Result Element ListError) (t : Bodied d n at (drop at s) r) where
+  pub plain_read : (e : Element) → r ≡ Ok e → (after : M) → after ≡ put m n (e ∷ []) → Told put body d n at (drop at s) m (Ok (e.end, n + 1)) after
   plain_read e f after l =
       let c : suc n ≡ n + 1 = omega arith in
       record {
@@ -199,5 +195,5 @@ module _ (s : List ℕ) (at d n : ℕ) (w : Bool) (m : List ℕ) (r : Result Ele
         left = l;
       }
 
-  pub plain_refused : (why : ListError) → r ≡ Err why → Told body d n at (drop at s) w m (Err why) m
-  plain_refused why f = (subst (Bodied d n at (drop at s)) f t, λ e. refl)
+  pub plain_refused : (why : ListError) → r ≡ Err why → Told put body d n at (drop at s) m (Err why) m
+  plain_refused why f = subst (Bodied d n at (drop at s)) f t

@@ -1,6 +1,6 @@
 -- The promise leaves one result: a payload is accepted with these elements exactly where it has a derivation within the limits that gives them, and refused
 -- exactly at its first fault.
-use Rattle.std.specs.Prelude.{Result, Ok, Err, ◌≡◌, refl, true, false, ℕ, suc, length, take}
+use Rattle.std.specs.Prelude.{Result, Ok, Err, ◌≡◌, refl, ℕ, suc, length, take}
 use Rattle.std.proofs.Math.Path.{sym, ap}
 use Rattle.std.proofs.Common.{◌∙◌, subst, ⊎_elim, arith}
 use mathlib.Core.List.{List, [], append-nil}
@@ -15,7 +15,7 @@ use Rattle.lists.specs.Shows.{nothing}
 use Rattle.lists.specs.Onward.{reads}
 use Rattle.lists.specs.Unique.{one_derivation}
 use Rattle.lists.specs.Refusal.{passes}
-use Rattle.lists.specs.Told.{Whole}
+use Rattle.lists.specs.Told.{Whole, written}
 
 -- an error is known by its number and its place
 one_error : (x y : ListError) → number_of x ≡ number_of y → place_of x ≡ place_of y → x ≡ y
@@ -92,15 +92,15 @@ module _ (s : List ℕ) where
           go (Ok n) v = absurd (not_both v.0 k p v.1.0 f)
           go (Err why) v = (one_fault (number_of why) (place_of why) k p v.0 f, v.1)
 
--- A payload that was judged good is read again to be written; nothing was written before.
-module _ (s m : List ℕ) (r : Result ℕ ListError) (between : List ℕ) (v : Whole s false m r between) where
-  pub judged_refused : (why : ListError) → r ≡ Err why → Reading s m (Err why) between
-  judged_refused why e = let u : Whole s false m (Err why) between = subst (λ (q : Result ℕ ListError). Whole s false m q between) e v in (u.0, u.1 refl)
+-- A payload that was judged good isn't refused when it is read again to be written. What it was judged with leaves nothing in the memory.
+module _ (s : List ℕ) {M : Type 0} (put : M → ℕ → List Element → M) (m after : M) (r : Result ℕ ListError) (v : Whole put s m r after) where
+  module _ (k : ℕ) (f : r ≡ Ok k) (before left : List ℕ) where
+    judged : Whole put s m (Ok k) after
+    judged = subst (λ (q : Result ℕ ListError). Whole put s m q after) f v
 
-  module _ (k : ℕ) (f : r ≡ Ok k) (after : List ℕ) where
-    judged : Whole s false m (Ok k) between
-    judged = subst (λ (q : Result ℕ ListError). Whole s false m q between) f v
+    pub read_again : (x : Result ℕ ListError) → Whole written s before x left → Reading s before x left
+    read_again (Ok j) u = u
+    read_again (Err why) u = absurd (not_both s judged.0 (number_of why) (place_of why) judged.1.0 u)
 
-    pub read_again : (x : Result ℕ ListError) → Whole s true between x after → Reading s m x after
-    read_again (Ok j) u = (u.0, (u.1.0, (u.1.1.0, u.1.1.1 ∙ ap (λ (l : List ℕ). sets l 0 (numbers u.0)) judged.1.1.1)))
-    read_again (Err why) u = absurd (not_both s judged.0 (number_of why) (place_of why) judged.1.0 u.0)
+  pub judged_refused : (why : ListError) (memory : List ℕ) → r ≡ Err why → Reading s memory (Err why) memory
+  judged_refused why memory e = (subst (λ (q : Result ℕ ListError). Whole put s m q after) e v, refl)

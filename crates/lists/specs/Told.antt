@@ -1,5 +1,5 @@
 -- What each reader promises: what it read or refused, and what it left in the memory; and what that makes of a whole payload.
-use Rattle.std.specs.Prelude.{Result, Ok, Err, ◌≡◌, ◌⊎◌, Bool, ◌&&◌, ℕ, suc, ◌+◌, ◌*◌, ◌≤◌, ◌<◌, length, get_or, set, take, eqb, if◌then◌else◌}
+use Rattle.std.specs.Prelude.{Result, Ok, Err, ◌≡◌, ◌⊎◌, Bool, ◌&&◌, ℕ, suc, ◌+◌, ◌*◌, ◌≤◌, ◌<◌, length, get_or, set, take, eqb}
 use Rattle.std.proofs.Math.Path.{refl}
 use Rattle.std.proofs.Common.{sym, ap, ◌∙◌, subst, inl, inr, ⊎_elim, arith, length-append, take-take}
 use Rattle.std.proofs.Math.Bool.{true, false}
@@ -19,18 +19,20 @@ use Rattle.lists.specs.Shows.{Shows, deep, large, late, shown, nothing}
 use Rattle.lists.specs.Refusal.{none_goes_on, passes}
 use Rattle.lists.specs.Reader.{Read, Halted, Limited, After, unknown, comma, close, following, ends_at, done_fault}
 
--- the memory with the elements from the number n on, where they are to be written
-abbrev pub written : Bool → List ℕ → ℕ → List Element → List ℕ
-written w m n es = if w then sets m (6 * n) (numbers es) else m
+-- What is told where a reader leaves the elements from the number n on: of a memory of any kind, `put` says what it is with them.
+module _ {M : Type 0} (put : M → ℕ → List Element → M) where
+  pub record Nexts (c : Symbol) (d n p : ℕ) (x : List ℕ) (m after : M) (e k : ℕ) : Type 0 where
+    pub found : List Element
+    pub read : Read c d n p x found e k
+    pub left : after ≡ put m n found
 
-pub record Nexts (c : Symbol) (d n p : ℕ) (x : List ℕ) (w : Bool) (m after : List ℕ) (e k : ℕ) : Type 0 where
-  pub found : List Element
-  pub read : Read c d n p x found e k
-  pub left : after ≡ written w m n found
+  abbrev pub Told : Symbol → ℕ → ℕ → ℕ → List ℕ → M → Result (ℕ × ℕ) ListError → M → Type 0
+  Told c d n p x m (Ok (e, k)) after = Nexts c d n p x m after e k
+  Told c d n p x m (Err why) after = Halted c d n p x (number_of why) (place_of why)
 
-abbrev pub Told : Symbol → ℕ → ℕ → ℕ → List ℕ → Bool → List ℕ → Result (ℕ × ℕ) ListError → List ℕ → Type 0
-Told c d n p x w m (Ok (e, k)) after = Nexts c d n p x w m after e k
-Told c d n p x w m (Err why) after = Halted c d n p x (number_of why) (place_of why) × (w ≡ false → after ≡ m)
+-- a memory with the elements from the number n on, six numbers each
+abbrev pub written : List ℕ → ℕ → List Element → List ℕ
+written m n es = sets m (6 * n) (numbers es)
 
 -- elements one behind another in the memory
 sets_append : (xs ys m : List ℕ) (i : ℕ) → sets (sets m i xs) (i + length xs) ys ≡ sets m i (xs ++ ys)
@@ -57,26 +59,16 @@ unfolding numbers
 length_numbers [] = omega arith
 length_numbers (e ∷ es) = omega (arith, length_numbers es)
 
-pub written_one : (m : List ℕ) (n : ℕ) (e : Element) → sets m (6 * n) (numbers_of e) ≡ written true m n (e ∷ [])
-unfolding numbers
-written_one m n e = refl
-
-pub written_more : (w : Bool) (m a b : List ℕ) (n k : ℕ) (es fs : List Element) → k ≡ n + length es → a ≡ written w m n es → b ≡ written w a k fs → b ≡ written w m n (es ++ fs)
-written_more false m a b n k es fs h e f = f ∙ e
-written_more true m a b n k es fs h e f =
-    f
-    ∙ ap (λ (l : List ℕ). sets l (6 * k) (numbers fs)) e
-    ∙ ap (λ (j : ℕ). sets (sets m (6 * n) (numbers es)) j (numbers fs)) (omega (arith, length_numbers es))
+pub written_more : (m : List ℕ) (n : ℕ) (es fs : List Element) → written (written m n es) (n + length es) fs ≡ written m n (es ++ fs)
+written_more m n es fs =
+    ap (λ (j : ℕ). sets (sets m (6 * n) (numbers es)) j (numbers fs)) (omega (arith, length_numbers es))
     ∙ sets_append (numbers es) (numbers fs) m (6 * n)
     ∙ ap (sets m (6 * n)) (sym (numbers_append es fs))
 
-pub written_before : (w : Bool) (m a b : List ℕ) (n : ℕ) (e : Element) (es : List Element) → a ≡ written w m (suc n) es → b ≡ written w a n (e ∷ []) → b ≡ written w m n (e ∷ es)
+pub written_before : (m : List ℕ) (n : ℕ) (e : Element) (es : List Element) → written (written m (suc n) es) n (e ∷ []) ≡ written m n (e ∷ es)
 unfolding numbers
-written_before false m a b n e es f g = g ∙ f
-written_before true m a b n e es f g =
-    g
-    ∙ ap (λ (l : List ℕ). sets l (6 * n) (numbers_of e)) f
-    ∙ ap (λ (j : ℕ). sets (sets m j (numbers es)) (6 * n) (numbers_of e)) (omega arith)
+written_before m n e es =
+    ap (λ (j : ℕ). sets (sets m j (numbers es)) (6 * n) (numbers_of e)) (omega arith)
     ∙ sets_before (numbers_of e) (numbers es) m (6 * n)
 
 -- what is the same as far as it was seen
@@ -197,23 +189,22 @@ module _ (s : List ℕ) (es : List Element) (e k : ℕ) (r : Read list 0 0 0 s e
 whole_count : (s : List ℕ) (es : List Element) (e k : ℕ) → Read list 0 0 0 s es e k → k ≡ length es
 whole_count s es e k r = omega (arith, r.count)
 
--- what a reading of the whole promises, written or not
-abbrev pub Whole : List ℕ → Bool → List ℕ → Result ℕ ListError → List ℕ → Type 0
-Whole s w m (Ok k) after = (es : List Element) × (Accepted s es × ((k ≡ length es) × (after ≡ written w m 0 es)))
-Whole s w m (Err why) after = First s (number_of why) (place_of why) × (w ≡ false → after ≡ m)
+-- what a reading of the whole promises
+module _ {M : Type 0} (put : M → ℕ → List Element → M) where
+  abbrev pub Whole : List ℕ → M → Result ℕ ListError → M → Type 0
+  Whole s m (Ok k) after = (es : List Element) × (Accepted s es × ((k ≡ length es) × (after ≡ put m 0 es)))
+  Whole s m (Err why) after = First s (number_of why) (place_of why)
 
-module _ (s : List ℕ) (w : Bool) (m : List ℕ) (r : Result (ℕ × ℕ) ListError) (after : List ℕ) (t : Told list 0 0 0 s w m r after) where
-  pub whole_refused : (why : ListError) → r ≡ Err why → Whole s w m (Err why) after
-  whole_refused why e =
-      let u : Told list 0 0 0 s w m (Err why) after = subst (λ (q : Result (ℕ × ℕ) ListError). Told list 0 0 0 s w m q after) e t in
-      (first_fault s (number_of why) (place_of why) u.0, u.1)
+  module _ (s : List ℕ) (m : M) (r : Result (ℕ × ℕ) ListError) (after : M) (t : Told put list 0 0 0 s m r after) where
+    pub whole_refused : (why : ListError) → r ≡ Err why → Whole s m (Err why) after
+    whole_refused why e = first_fault s (number_of why) (place_of why) (subst (λ (q : Result (ℕ × ℕ) ListError). Told put list 0 0 0 s m q after) e t)
 
-  module _ (e k : ℕ) (f : r ≡ Ok (e, k)) where
-    came : Nexts list 0 0 0 s w m after e k
-    came = subst (λ (q : Result (ℕ × ℕ) ListError). Told list 0 0 0 s w m q after) f t
+    module _ (e k : ℕ) (f : r ≡ Ok (e, k)) where
+      came : Nexts put list 0 0 0 s m after e k
+      came = subst (λ (q : Result (ℕ × ℕ) ListError). Told put list 0 0 0 s m q after) f t
 
-    pub whole_stops : e < length s → Whole s w m (Err (Malformed e)) after
-    whole_stops h = (first_fault s 6 e (whole_longer s came.found e k came.read h), λ q. came.left ∙ ap (λ (b : Bool). written b m 0 came.found) q)
+      pub whole_stops : e < length s → Whole s m (Err (Malformed e)) after
+      whole_stops h = first_fault s 6 e (whole_longer s came.found e k came.read h)
 
-    pub whole_read : length s ≤ e → Whole s w m (Ok k) after
-    whole_read h = (came.found, (whole_accepted s came.found e k came.read h, (whole_count s came.found e k came.read, came.left)))
+      pub whole_read : length s ≤ e → Whole s m (Ok k) after
+      whole_read h = (came.found, (whole_accepted s came.found e k came.read h, (whole_count s came.found e k came.read, came.left)))

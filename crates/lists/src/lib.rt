@@ -3,12 +3,13 @@
 // that stands at its place before anything behind it is looked at, so the first fault that is met is the leftmost.
 #![tactic(auto)]
 
-ghost use Rattle.std.specs.Prelude.{◌≡◌, true, [], ◌∷◌, ◌≤◌, ◌<◌, length, drop, get_or};
+ghost use Rattle.std.specs.Prelude.{◌≡◌, refl, true, List, [], ◌∷◌, ◌++◌, ℕ, suc, ◌+◌, ◌≤◌, ◌<◌, length, drop, get_or};
+ghost use Rattle.pieces.specs.declared.Element.{Element};
 ghost use Rattle.parser.specs.Parser.{is_digit};
 ghost use Rattle.lists.specs.Grammar.{body, element, list, made, number_of, place_of, Reading};
 ghost use Rattle.lists.specs.Calls.{malformed_by};
 ghost use Rattle.lists.specs.Reader.{Bodied, Bare, ends_at};
-ghost use Rattle.lists.specs.Told.{Told, Whole, written};
+ghost use Rattle.lists.specs.Told.{Told, Whole, written, written_more, written_before};
 
 use pieces::{Element, Kind, StringError};
 use text::Blanks;
@@ -85,6 +86,8 @@ fn without_value(place: usize, end: usize, kind: Kind, depth: usize) -> Element
         high: 0,
     }
 }
+
+// Here and below the place, the depth and the number of elements are three arguments: most calls change one of them alone, and a struct would be no plainer.
 
 // An empty element at `at`, where nothing else begins.
 #[tactic(auto, using(crate::specs::Bodies::empty_malformed, crate::specs::Bodies::empty_late, crate::specs::Bodies::empty_is, crate::specs::Reader::bodied_as))]
@@ -168,31 +171,63 @@ fn plain_at(s: &[u8], at: usize, depth: usize, n: usize) -> Result<Element, List
     }
 }
 
-// Leaves e in the memory, where it is to be written.
-#[tactic(auto, using(crate::specs::Told::written_one))]
-fn leave(e: Element, n: usize, writes: bool, elements: &mut [u64; pieces::NUMBERS])
-    ensures { elements.new ≡ written writes elements.old n (e ∷ []) }
-{
-    if writes {
-        pieces::put(elements, n, e);
+// Where the elements that are read are left: in a memory, or nowhere. `put` is what it is with elements from a number on.
+trait Keeps {
+    ghost put: { Self → ℕ → List Element → Self };
+
+    // Leaves e in it as the element of that number.
+    fn keep(&mut self, number: usize, e: Element)
+        ensures { self.new ≡ put self.old number (e ∷ []) };
+
+    // what is left behind other elements stands with them
+    ghost more: { (m : Self) (n : ℕ) (es fs : List Element) → put (put m n es) (n + length es) fs ≡ put m n (es ++ fs) };
+
+    // and so does what is left before them
+    ghost before: { (m : Self) (n : ℕ) (e : Element) (es : List Element) → put (put m (suc n) es) n (e ∷ []) ≡ put m n (e ∷ es) };
+}
+
+// The caller's memory, six numbers an element.
+impl Keeps for [u64; pieces::NUMBERS] {
+    ghost put = { written };
+
+    #[tactic(auto, unfolding(crate::specs::Grammar::numbers))]
+    fn keep(&mut self, number: usize, e: Element) {
+        pieces::put(self, number, e);
     }
+
+    ghost more = { written_more };
+
+    ghost before = { written_before };
+}
+
+// No memory: a payload is only judged.
+#[derive(Clone, Copy)]
+struct Judged;
+
+impl Keeps for Judged {
+    ghost put = { λ m n es. m };
+
+    fn keep(&mut self, _number: usize, _e: Element) {}
+
+    ghost more = { λ m n es fs. refl };
+
+    ghost before = { λ m n e es. refl };
 }
 
 // What stands at `at`, where neither a space nor an opening bracket does, read and left in the memory.
 #[tactic(auto, using(crate::specs::Cycle::plain_read, crate::specs::Cycle::plain_refused))]
-fn read_plain(
+fn read_plain<K: Keeps>(
     s: &[u8],
     at: usize,
     depth: usize,
     n: usize,
-    writes: bool,
-    elements: &mut [u64; pieces::NUMBERS],
+    elements: &mut K,
 ) -> Result<(usize, usize), ListError>
     requires { (at ≤ length s.now) × ((n ≤ 256) × ((get_or s.now at 0 ≡ 32 → ⊥) × (get_or s.now at 0 ≡ 40 → ⊥))) }
-    ensures { Told body depth n at (drop at s.now) writes elements.old result elements.new }
+    ensures { Told K.put body depth n at (drop at s.now) elements.old result elements.new }
 {
     let e = plain_at(s, at, depth, n)?;
-    leave(e, n, writes, elements);
+    elements.keep(n, e);
     Ok((e.end, n + 1))
 }
 
@@ -200,20 +235,19 @@ fn read_plain(
 // How far it came, and with how many elements begun.
 #[tactic(auto, using(crate::specs::Calls::told_byte, crate::specs::Cycle::place_within, crate::specs::Cycle::no_space, crate::specs::Cycle::plain_element, crate::specs::Cycle::too_deep_lem, crate::specs::Cycle::too_late, crate::specs::Cycle::inner_refused, crate::specs::Cycle::inner_unclosed, crate::specs::Cycle::inner_closed))]
 #[cycle(read_element_read_list)]
-fn read_element(
+fn read_element<K: Keeps>(
     s: &[u8],
     at: usize,
     depth: usize,
     n: usize,
-    writes: bool,
-    elements: &mut [u64; pieces::NUMBERS],
+    elements: &mut K,
 ) -> Result<(usize, usize), ListError>
     requires { (at ≤ length s.now) × ((depth ≤ 4) × (n ≤ 256)) }
-    ensures { Told element depth n at (drop at s.now) writes elements.old result elements.new }
+    ensures { Told K.put element depth n at (drop at s.now) elements.old result elements.new }
 {
     let place = text::skip(Blanks::Space, s, at);
     if text::byte_at(s, place) != b'(' {
-        return read_plain(s, place, depth, n, writes, elements);
+        return read_plain(s, place, depth, n, elements);
     }
     if DEEPEST <= depth {
         return Err(ListError::TooDeep(place));
@@ -221,51 +255,41 @@ fn read_element(
     if pieces::MOST <= n {
         return Err(ListError::TooMany(place));
     }
-    let (e, m) = read_list(s, place + 1, depth + 1, n + 1, writes, elements)?;
+    let (e, m) = read_list(s, place + 1, depth + 1, n + 1, elements)?;
     if text::byte_at(s, e) != b')' {
         return Err(ListError::Malformed(e));
     }
     let end = e + 1;
-    leave(
-        without_value(place, end, Kind::List, depth),
-        n,
-        writes,
-        elements,
-    );
+    elements.keep(n, without_value(place, end, Kind::List, depth));
     Ok((end, m))
 }
 
 // A list from `at` on: an element, and as long as a comma follows, the list behind it.
 #[tactic(auto, using(crate::specs::Calls::told_byte, crate::specs::Cycle::came_to, crate::specs::Cycle::head_refused, crate::specs::Cycle::first, crate::specs::Cycle::list_over, crate::specs::Cycle::list_on))]
 #[cycle(read_element_read_list)]
-fn read_list(
+fn read_list<K: Keeps>(
     s: &[u8],
     at: usize,
     depth: usize,
     n: usize,
-    writes: bool,
-    elements: &mut [u64; pieces::NUMBERS],
+    elements: &mut K,
 ) -> Result<(usize, usize), ListError>
     requires { (at ≤ length s.now) × ((depth ≤ 4) × (n ≤ 256)) }
-    ensures { Told list depth n at (drop at s.now) writes elements.old result elements.new }
+    ensures { Told K.put list depth n at (drop at s.now) elements.old result elements.new }
 {
-    let (e, m) = read_element(s, at, depth, n, writes, elements)?;
+    let (e, m) = read_element(s, at, depth, n, elements)?;
     if text::byte_at(s, e) != b',' {
         return Ok((e, m));
     }
-    read_list(s, e + 1, depth, m, writes, elements)
+    read_list(s, e + 1, depth, m, elements)
 }
 
-// The whole payload as one list; its elements are written, or only judged. How many they are.
+// The whole payload as one list; its elements are kept. How many they are.
 #[tactic(auto, using(crate::specs::Told::whole_refused, crate::specs::Told::whole_stops, crate::specs::Told::whole_read))]
-fn read_whole(
-    s: &[u8],
-    writes: bool,
-    elements: &mut [u64; pieces::NUMBERS],
-) -> Result<usize, ListError>
-    ensures { Whole s.now writes elements.old result elements.new }
+fn read_whole<K: Keeps>(s: &[u8], elements: &mut K) -> Result<usize, ListError>
+    ensures { Whole K.put s.now elements.old result elements.new }
 {
-    let (e, m) = read_list(s, 0, 0, 0, writes, elements)?;
+    let (e, m) = read_list(s, 0, 0, 0, elements)?;
     if e < s.len() {
         return Err(ListError::Malformed(e));
     }
@@ -277,6 +301,6 @@ fn read_whole(
 pub fn read(payload: &[u8], elements: &mut [u64; pieces::NUMBERS]) -> Result<usize, ListError>
     ensures { Reading payload.now elements.old result elements.new }
 {
-    read_whole(payload, false, elements)?;
-    read_whole(payload, true, elements)
+    read_whole(payload, &mut Judged)?;
+    read_whole(payload, elements)
 }

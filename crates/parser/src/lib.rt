@@ -145,7 +145,7 @@ pub fn find_custom(buf: &[u8], from: usize, x: &[u8]) -> Option<usize>
     None
 }
 
-// A notice of rule 2: matched with its end, unfinished, or no match.
+// A notice of rule 2: matched with its end, unfinished, or no match. Three cases, so neither an Option nor a Result.
 #[derive(Clone, Copy)]
 pub enum Notice {
     Ended(usize),

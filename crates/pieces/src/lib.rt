@@ -33,7 +33,7 @@ fn is_char(b: u8) -> bool
     matches!(b, 0x20..=0x7E) && !matches!(b, b'"' | b'\\')
 }
 
-// What a byte within a string does: it leaves so many hexadecimal digits owed, it closes the string, or it can't stand there.
+// What a byte within a string does: it leaves so many hexadecimal digits owed, it closes the string, or it can't stand there: three cases of their own.
 #[derive(Clone, Copy)]
 pub enum Heard {
     Owes(usize),

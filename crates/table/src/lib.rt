@@ -25,8 +25,7 @@ pub struct Record {
     pub len: usize,
 }
 
-// What reading at a place finds: a record, one that can't be read, or the table's end.
-// kept: an Option of a Result is no plainer, for the three are told apart in every reader.
+// What reading at a place finds: a record, one that can't be read, or the table's end. An Option of a Result would be no plainer: every reader tells the three apart.
 #[derive(Clone, Copy)]
 enum Read {
     Is(Record),
@@ -206,6 +205,7 @@ impl<'a> Iterator for Walk<'a> {
 
     ghost remaining = { item_count rest };
 
+    #[tactic(auto, using(crate::specs::Laws::found_none, crate::specs::Laws::found_some), unfolding(crate::specs::Table::rest))]
     fn next(&mut self) -> Option<(Record, usize)> {
         let (r, k) = next_of(self.table, self.mark, self.place, self.number)?;
         self.place = r.place + r.len;

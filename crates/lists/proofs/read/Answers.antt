@@ -3,4 +3,4 @@ use Rattle.lists.specs.Exactly.{read_again}
 use Rattle.lists.proofs.read.Goals as goal
 
 pub returns : goal.returns
-returns c = read_again _ _ _ _ c.read_whole.ensures _ c.in_ok-read_whole.was _ _ c.read_whole-2.ensures
+returns c = read_again _ _ _ _ _ c.read_whole.ensures _ c.in_ok-read_whole.was _ _ _ c.read_whole-2.ensures
