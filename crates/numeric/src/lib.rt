@@ -158,7 +158,7 @@ pub fn digest(table: &[u8], input: &[u8]) -> Result<Answer, DigestError>
     if answers::LONGEST < input.len() {
         return Err(DigestError::TooLong);
     }
-    if 0 < table.len() {
+    if !table.is_empty() {
         return Err(DigestError::BadTable(0));
     }
     Ok(digest_unchecked(input))

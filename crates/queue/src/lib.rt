@@ -266,7 +266,7 @@ impl Queue {
         if !self.is_bounded(cap) {
             return Err(PutError::BadBounds);
         }
-        if p.len() == 0 || Ours::LONGEST < p.len() {
+        if p.is_empty() || Ours::LONGEST < p.len() {
             return Ok(self.lose());
         }
         if cap <= self.count {
