@@ -13,7 +13,7 @@ use slot::{Held, Looked, ResetError, Slot, SlotError};
 use std::io;
 use turn::{Memories, State};
 
-// What an op answered. Full is refusal 5 of a write, with the bytes taken.
+// What an op answered; a refusal by its number, which is what the notation says of it. Full is refusal 5 of a write, with the bytes taken.
 #[derive(Clone, Copy)]
 enum Answered {
     Took(usize),
@@ -60,8 +60,7 @@ impl<'a> Run<'a> {
 
     // Finds afresh in what the buffer holds, as far as it reaches.
     fn find(&mut self) {
-        let end = self.now.end.min(self.memories.buf.len());
-        let found = findings::start(text::part(self.memories.buf, 0, end));
+        let found = findings::start(self.memories.held(self.now.end));
         findings::lay(&mut self.numbers, found);
     }
 
@@ -248,7 +247,7 @@ impl<'a> Run<'a> {
     ) -> io::Result<()> {
         if let Some(op) = notation::op::read_op(s, piece) {
             let answered = self.perform(op);
-            self.fed = self.fed || notation::op::has_findings(op);
+            self.fed |= notation::op::has_findings(op);
             self.say(out, answered)?;
         }
         out.words(b";")
