@@ -32,7 +32,7 @@ use Rattle.digest.specs.Items.{some_map, some_any, some_split, stands_here, text
 use Rattle.digest.specs.Sound.{notice_front}
 
 found_nothing : {k : ℕ} → Some k ≡ None → ⊥
-found_nothing h = let z : ◌≡◌ {A = ℕ} 0 1 = cc in omega arith
+found_nothing h = cc
 
 module _ (d : Digester) (ts : List Token) (good : Texts ts) (s : List ℕ) (e : ℕ) where
   -- where no rule answers, no item stands where buf begins

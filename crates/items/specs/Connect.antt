@@ -131,9 +131,9 @@ module _ (d : Digester) (s : List ℕ) where
       go : (a : Bool) → bare_at k ≡ a → (b : Bool) → hears_text d ≡ b → (c : Bool) → text_at k ≡ c → (r : Option ℕ) → find_in crlf s (k + 10) ≡ r → (if a then Some (k + 11) else if b && c then through_crlf r else None) ≡ Some end → ((bare_at k ≡ true) × (end ≡ k + 11)) ⊎ TextAt k end
       go true h b p c q r x z = let y : k + 11 ≡ end = cc in inl (h, sym y)
       go false h true p true q (Some n) x z = let y : n + 2 ≡ end = cc in inr (record { hears = p; head = q; q = n; found = x; ends = sym y })
-      go false h true p true q None x z = let y : ◌≡◌ {A = ℕ} 0 1 = cc in absurd (omega arith)
-      go false h true p false q r x z = let y : ◌≡◌ {A = ℕ} 0 1 = cc in absurd (omega arith)
-      go false h false p c q r x z = let y : ◌≡◌ {A = ℕ} 0 1 = cc in absurd (omega arith)
+      go false h true p true q None x z = cc
+      go false h true p false q r x z = cc
+      go false h false p c q r x z = cc
 
   pub connect_room : (k end : ℕ) → connect_at d s k ≡ Some end → (k + 11 ≤ end) × (end ≤ length s)
   connect_room k end e =
@@ -184,7 +184,7 @@ module _ (d : Digester) (s : List ℕ) where
 
   through_none : (r : Option ℕ) → through_crlf r ≡ None → r ≡ None
   unfolding through_crlf
-  through_none (Some q) h = let y : ◌≡◌ {A = ℕ} 0 1 = cc in absurd (omega arith)
+  through_none (Some q) h = cc
   through_none None h = refl
 
   -- where the first that begins doesn't end, no CRLF is behind it
@@ -231,6 +231,6 @@ connect_lost d s k j h =
     (go (stands (fixed_text fixed.Connect) s (k + j)) (hears_text d && stands (fixed_text fixed.ConnectText) s (k + j)) h)
   where
     go : (a b : Bool) → (if a then Some (k + j + 11) else if b then through_crlf (find_in crlf s (k + j + 10)) else None) ≡ None → (if a then Some (j + 11) else if b then through_crlf (find_in crlf (drop k s) (j + 10)) else None) ≡ None
-    go true b z = let y : ◌≡◌ {A = ℕ} 0 1 = cc in absurd (omega arith)
+    go true b z = cc
     go false true z = ap through_crlf (find_lost crlf s (k + j + 10) k (j + 10) (omega arith) (through_none d s (find_in crlf s (k + j + 10)) z)) ∙ (unfold through_crlf in refl)
     go false false z = refl

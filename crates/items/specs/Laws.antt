@@ -10,8 +10,8 @@ use Rattle.text.specs.Bytes.{bytes}
 use Rattle.text.specs.Text.{stands, find_in}
 use Rattle.text.specs.Laws.{found_at, stands_fits}
 use Rattle.seek.specs.Laws.{byte_not}
-use Rattle.table.specs.Table.{token_of, Entry, entry_of, entries}
-use Rattle.table.specs.Laws.{NextIs, entries_past, text_length, text_part}
+use Rattle.table.specs.Table.{found, token_of, Entry, entry_of, entries}
+use Rattle.table.specs.Laws.{NextIs, walk_next, entries_past, text_length, text_part}
 use Rattle.table.specs.declared.Mark.{Mark}
 use Rattle.table.specs.declared.Mark.TheVariants as mark
 use Rattle.table.specs.declared.Record.{Record}
@@ -63,6 +63,10 @@ or_assoc None b c = refl
 -- The loops over the table: the rule on all records with the mark is the rule on those from `at` on. A record's text is lent from the table.
 abbrev pub part_in : List ℕ → Record → List ℕ
 part_in t r = take (r.place + r.len - r.place) (drop r.place t)
+
+-- what a loop over the records knows of the one that it takes, (r, k), where those that are left, x, are the ones found from `at` on; and that those behind it are, too
+pub taken : {m : Mark} {t : List ℕ} {at n : ℕ} {r : Record} {k : ℕ} {x l : List (Record × ℕ)} → x ≡ found m t at n → x ≡ (r, k) ∷ l → NextIs m t at n r k × (l ≡ found m t (r.place + r.len) (k + 1))
+taken {m} {t} {at} {n} {r} {k} {x} {l} p q = walk_next m t at n r k l (sym p ∙ q)
 
 -- an empty table has no record
 pub none_first : (m : Mark) (t s : List ℕ) (e : ℕ) → length t ≡ 0 → None ≡ first_custom (entries m t 0 0) s e

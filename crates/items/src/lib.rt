@@ -289,7 +289,7 @@ pub fn unknown() -> Hints
     }
 }
 
-// Are all five known not to answer, where so many bytes are left?
+// Are all five known not to answer, where so many bytes are left? With & it is one test in place of five.
 fn idle(hints: Hints, left: usize) -> bool
     ensures { result ≡ all_idle hints left }
 {

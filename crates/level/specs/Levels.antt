@@ -41,7 +41,7 @@ known_later s e h w k l x = λ m a b. w x m (omega arith) b
 -- What a rule that gave no answer looked for is nowhere.
 pub occurs_none : (f : Option ℕ) (x : Entry) (r : Option Occurrence) → occurs_or f x r ≡ None → (f ≡ None) × (r ≡ None)
 unfolding occurs_or
-occurs_none (Some k) x r h = let z : ◌≡◌ {A = ℕ} 0 1 = cc in absurd (omega arith)
+occurs_none (Some k) x r h = cc
 occurs_none None x r h = (refl, h)
 
 pub error_nowhere : (r : Option Occurrence) → custom_error r ≡ None → r ≡ None
@@ -95,7 +95,7 @@ found_moved t s k None = unfold shift_numeric in refl
 
 no_shift : (k : ℕ) (r : Option Digits) → shift_numeric k r ≡ None → r ≡ None
 unfolding shift_numeric
-no_shift k (Some d) h = let z : ◌≡◌ {A = ℕ} 0 1 = cc in absurd (omega arith)
+no_shift k (Some d) h = cc
 no_shift k None h = refl
 
 numeric_idle : (x : Fixed) (s : List ℕ) (k m : ℕ) → numeric_tried x (numeric_error (fixed_text x) s (k + m)) ≡ None → numeric_tried x (numeric_error (fixed_text x) (drop k s) m) ≡ None

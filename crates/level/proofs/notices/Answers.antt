@@ -1,38 +1,30 @@
 -- `notices` meets its contract: the rule on all the records is the rule on those that are left, and those before are notices unless `others` says else.
 use Rattle.std.proofs.Common.{sym, ◌∙◌, arith}
-use Rattle.table.specs.Laws.{walk_next, walk_ends}
-use Rattle.table.specs.declared.Mark.TheVariants as mark
+use Rattle.table.specs.Laws.{walk_ends}
+use Rattle.items.specs.Laws.{taken}
 use Rattle.level.specs.Laws.{notices_end, notices_hit, notices_more, only_more, only_end, stopped, went_on}
 use Rattle.level.proofs.notices.Goals as goal
 
 pub overflow_add-end : goal.overflow_add-end
-overflow_add-end c =
-    let w = walk_next mark.Notice c.args.table.now _ _ c.in-Some.r c.in-Some.k _ (sym c.loop-r.invariant.0 ∙ c.in-Some.ensures.steps) in
-    record { fits = omega (arith, w.0.inside) }
+overflow_add-end c = record { fits = omega (arith, (taken c.loop-r.invariant.0 c.in-Some.ensures.steps).0.inside) }
 
 pub slice_bounds-one_notice-end : goal.slice_bounds-one_notice-end
-slice_bounds-one_notice-end c =
-    let w = walk_next mark.Notice c.args.table.now _ _ c.in-Some.r c.in-Some.k _ (sym c.loop-r.invariant.0 ∙ c.in-Some.ensures.steps) in
-    w.0.inside
+slice_bounds-one_notice-end c = (taken c.loop-r.invariant.0 c.in-Some.ensures.steps).0.inside
 
 pub overflow_cast-k : goal.overflow_cast-k
-overflow_cast-k c =
-    let w = walk_next mark.Notice c.args.table.now _ _ c.in-Some.r c.in-Some.k _ (sym c.loop-r.invariant.0 ∙ c.in-Some.ensures.steps) in
-    record { fits = omega (arith, w.0.few) }
+overflow_cast-k c = record { fits = omega (arith, (taken c.loop-r.invariant.0 c.in-Some.ensures.steps).0.few) }
 
 pub overflow_add-n : goal.overflow_add-n
-overflow_add-n c =
-    let w = walk_next mark.Notice c.args.table.now _ _ c.in-Some.r c.in-Some.k _ (sym c.loop-r.invariant.0 ∙ c.in-Some.ensures.steps) in
-    record { fits = omega (arith, w.0.few) }
+overflow_add-n c = record { fits = omega (arith, (taken c.loop-r.invariant.0 c.in-Some.ensures.steps).0.few) }
 
 pub returns-in_err-unless-clause-is : goal.returns-in_err-unless-clause-is
 returns-in_err-unless-clause-is c =
-    let w = walk_next mark.Notice c.args.table.now _ _ c.in-Some.r c.in-Some.k _ (sym c.loop-r.invariant.0 ∙ c.in-Some.ensures.steps) in
+    let w = taken c.loop-r.invariant.0 c.in-Some.ensures.steps in
     rw c.from_residual.ensures (notices_hit _ _ _ _ _ c.loop-r.invariant.1 _ _ w.0 _ c.one_notice.ensures _ (stopped _ _ c.in_err-unless.ensures))
 
 pub loop-r-preserved : goal.loop-r-preserved
 loop-r-preserved c =
-    let w = walk_next mark.Notice c.args.table.now _ _ c.in-Some.r c.in-Some.k _ (sym c.loop-r.invariant.0 ∙ c.in-Some.ensures.steps) in
+    let w = taken c.loop-r.invariant.0 c.in-Some.ensures.steps in
     (w.1, notices_more _ _ _ _ _ c.loop-r.invariant.1 _ _ w.0 _ c.one_notice.ensures (went_on _ c.in_ok-unless.ensures), only_more _ _ _ _ c.loop-r.invariant.2 _ _ w.0)
 
 pub returns-clause-is : goal.returns-clause-is
