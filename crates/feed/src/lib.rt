@@ -5,15 +5,15 @@
 
 ghost use Rattle.std.specs.Prelude.{◌≡◌, ◌≤◌, length};
 ghost use Rattle.selector.specs.Selector.{choice};
-ghost use Rattle.turn.specs.Turn.{world};
-ghost use Rattle.ingress.specs.Ingress.{checks, refusal, ran, result_of, write_says, taking};
+ghost use Rattle.turn.specs.Turn.{lent};
+ghost use Rattle.ingress.specs.Ingress.{judged, refusal, run_says, ran, result_of, write_says, taking};
 ghost use Rattle.quiet.specs.Quiet.{still};
 ghost use Rattle.feed.specs.Feed.{fitting, renewed, settled, fed, write_in, advanced_with, written_with};
 
 use findings::{Findings, NUMBERS};
 use ingress::{AdvanceError, CheckError, RunError, WriteError};
 use selector::Selector;
-use turn::State;
+use turn::{Memories, State};
 
 // Refusals 1, 2 and 3 in this order; 3 also where the findings don't fit: they aren't about as many bytes as are held.
 fn judge(
@@ -21,36 +21,42 @@ fn judge(
     state: State,
     fits: bool,
     table: &[u8],
-    buf: usize,
-    slot_mem: usize,
-    queue_mem: usize,
+    memories: &Memories<'_>,
 ) -> Result<(), CheckError>
-    ensures { refusal result ≡ fitting (checks (choice selector table.now).rules state buf slot_mem queue_mem) fits }
+    ensures { refusal result ≡ fitting (judged (choice selector table.now) (lent state memories.now)) fits }
 {
-    match ingress::judge(selector, state, table, buf, slot_mem, queue_mem) {
-        Err(CheckError::TooLong) => Err(CheckError::TooLong),
-        Err(CheckError::BadTable(k)) => Err(CheckError::BadTable(k)),
-        Err(CheckError::BadState) => Err(CheckError::BadState),
-        Ok(()) => {
-            if !fits {
-                return Err(CheckError::BadState);
-            }
-            Ok(())
-        }
+    ingress::judge(selector, state, table, memories)?;
+    if !fits {
+        return Err(CheckError::BadState);
     }
+    Ok(())
 }
 
 // The findings after turns: those known where nothing was consumed; after a move they are started afresh over what remains.
-fn renew(numbers: &mut [u64; NUMBERS], known: Findings, before: usize, end: usize, buf: &[u8])
-    ensures { numbers.new ≡ renewed known before end buf.now }
+fn renew(
+    numbers: &mut [u64; NUMBERS],
+    known: Findings,
+    before: usize,
+    end: usize,
+    memories: &Memories<'_>,
+)
+    ensures { numbers.new ≡ renewed known before end memories.now.buf.now }
 {
     if end == before {
         findings::lay(numbers, known);
         return;
     }
-    let left = text::fitting(end, buf.len());
-    let fresh = findings::start(&buf[..left]);
-    findings::lay(numbers, fresh);
+    findings::lay(numbers, findings::start(memories.held(end)));
+}
+
+// Where the bytes held end after turns.
+fn end_after(ran: Result<State, RunError>) -> usize
+    ensures { result ≡ (run_says ran).1.end }
+{
+    match ran {
+        Ok(s) => s.end,
+        Err(e) => e.left.end,
+    }
 }
 
 // Looks at the bytes that came, and runs turns unless nothing is finished.
@@ -59,28 +65,19 @@ fn settle(
     table: &[u8],
     state: State,
     numbers: &mut [u64; NUMBERS],
-    buf: &mut [u8],
-    slot_mem: &mut [u8],
-    queue_mem: &mut [u8],
+    memories: &mut Memories<'_>,
 ) -> Result<State, RunError>
-    ensures { fed (ran result buf.new slot_mem.new queue_mem.new) numbers.new ≡ settled (choice selector table.now) (still selector table.now) numbers.old (world state buf.old slot_mem.old queue_mem.old) }
+    ensures { fed (ran result memories.new) numbers.new ≡ settled (choice selector table.now) (still selector table.now) numbers.old (lent state memories.old) }
 {
-    let end = text::fitting(state.end, buf.len());
-    let known = findings::extend(findings::of_numbers(numbers), &buf[..end]);
-    if quiet::is_still(selector, table, known, &buf[..end]) {
+    let held = memories.held(state.end);
+    let known = findings::extend(findings::of_numbers(numbers), held);
+    if quiet::is_still(selector, table, known, held) {
         findings::lay(numbers, known);
         return Ok(state);
     }
-    match ingress::run(selector, table, state, buf, slot_mem, queue_mem) {
-        Ok(s) => {
-            renew(numbers, known, state.end, s.end, buf);
-            Ok(s)
-        }
-        Err(RunError::Full(s)) => {
-            renew(numbers, known, state.end, s.end, buf);
-            Err(RunError::Full(s))
-        }
-    }
+    let ran = ingress::run(selector, table, state, memories);
+    renew(numbers, known, state.end, end_after(ran), memories);
+    ran
 }
 
 // `ingress::advance` with findings. With those that these calls gave for the bytes held it is that call (`advanced_genuine`).
@@ -90,45 +87,21 @@ pub fn advance(
     selector: Selector,
     table: &[u8],
     numbers: &mut [u64; NUMBERS],
-    buf: &mut [u8],
-    slot_mem: &mut [u8],
-    queue_mem: &mut [u8],
+    memories: &mut Memories<'_>,
 ) -> Result<State, AdvanceError>
-    ensures { fed (result_of state result buf.new slot_mem.new queue_mem.new) numbers.new ≡ advanced_with (choice selector table.now) (still selector table.now) commit numbers.old (world state buf.old slot_mem.old queue_mem.old) }
+    ensures { fed (result_of state result memories.new) numbers.new ≡ advanced_with (choice selector table.now) (still selector table.now) commit numbers.old (lent state memories.old) }
 {
-    let room = buf.len();
     let fits = numbers[0] as usize == state.end;
-    match judge(
-        selector,
-        state,
-        fits,
-        table,
-        room,
-        slot_mem.len(),
-        queue_mem.len(),
-    ) {
-        Err(CheckError::TooLong) => Err(AdvanceError::TooLong),
-        Err(CheckError::BadTable(k)) => Err(AdvanceError::BadTable(k)),
-        Err(CheckError::BadState) => Err(AdvanceError::BadState),
-        Ok(()) => {
-            let end = state.end;
-            if room - end < commit {
-                return Err(AdvanceError::NoRoom);
-            }
-            match settle(
-                selector,
-                table,
-                state.with_end(end + commit),
-                numbers,
-                buf,
-                slot_mem,
-                queue_mem,
-            ) {
-                Ok(s) => Ok(s),
-                Err(RunError::Full(s)) => Err(AdvanceError::Full(s)),
-            }
-        }
+    judge(selector, state, fits, table, memories)?;
+    let end = state.end;
+    if memories.buf.len() - end < commit {
+        return Err(AdvanceError::NoRoom);
     }
+    let held = State {
+        end: end + commit,
+        ..state
+    };
+    Ok(settle(selector, table, held, numbers, memories)?)
 }
 
 // Where the bytes held end after a write.
@@ -136,11 +109,8 @@ fn end_of(wrote: Result<(State, usize), WriteError>, state: State) -> usize
     ensures { result ≡ (write_says state wrote).1.end }
 {
     match wrote {
-        Ok((s, _)) => s.end,
-        Err(WriteError::Full(s, _)) => s.end,
-        Err(WriteError::TooLong) => state.end,
-        Err(WriteError::BadTable(_)) => state.end,
-        Err(WriteError::BadState) => state.end,
+        Ok((s, _)) | Err(WriteError::Full(s, _)) => s.end,
+        Err(_) => state.end,
     }
 }
 
@@ -151,36 +121,30 @@ fn write_in(
     selector: Selector,
     table: &[u8],
     numbers: &mut [u64; NUMBERS],
-    buf: &mut [u8],
-    slot_mem: &mut [u8],
-    queue_mem: &mut [u8],
+    memories: &mut Memories<'_>,
 ) -> Result<(State, usize), WriteError>
-    requires { state.end ≤ length buf.old }
-    ensures { fed (taking state result buf.new slot_mem.new queue_mem.new) numbers.new ≡ write_in (choice selector table.now) (still selector table.now) piece.now numbers.old (world state buf.old slot_mem.old queue_mem.old) }
+    requires { state.end ≤ length memories.old.buf.now }
+    ensures { fed (taking state result memories.new) numbers.new ≡ write_in (choice selector table.now) (still selector table.now) piece.now numbers.old (lent state memories.old) }
 {
     let end = state.end;
     let n = piece.len();
-    if buf.len() - end < n {
-        let wrote = ingress::write(state, piece, selector, table, buf, slot_mem, queue_mem);
-        let left = text::fitting(end_of(wrote, state), buf.len());
-        findings::lay(numbers, findings::start(&buf[..left]));
+    if memories.buf.len() - end < n {
+        let wrote = ingress::write(state, piece, selector, table, memories);
+        let left = memories.held(end_of(wrote, state));
+        findings::lay(numbers, findings::start(left));
         return wrote;
     }
     if n == 0 {
         return Ok((state, 0));
     }
-    moves::put(buf, end, piece);
-    match settle(
-        selector,
-        table,
-        state.with_end(end + n),
-        numbers,
-        buf,
-        slot_mem,
-        queue_mem,
-    ) {
+    moves::put(memories.buf, end, piece);
+    let held = State {
+        end: end + n,
+        ..state
+    };
+    match settle(selector, table, held, numbers, memories) {
         Ok(s) => Ok((s, n)),
-        Err(RunError::Full(s)) => Err(WriteError::Full(s, n)),
+        Err(e) => Err(WriteError::Full(e.left, n)),
     }
 }
 
@@ -191,27 +155,11 @@ pub fn write(
     selector: Selector,
     table: &[u8],
     numbers: &mut [u64; NUMBERS],
-    buf: &mut [u8],
-    slot_mem: &mut [u8],
-    queue_mem: &mut [u8],
+    memories: &mut Memories<'_>,
 ) -> Result<(State, usize), WriteError>
-    ensures { fed (taking state result buf.new slot_mem.new queue_mem.new) numbers.new ≡ written_with (choice selector table.now) (still selector table.now) piece.now numbers.old (world state buf.old slot_mem.old queue_mem.old) }
+    ensures { fed (taking state result memories.new) numbers.new ≡ written_with (choice selector table.now) (still selector table.now) piece.now numbers.old (lent state memories.old) }
 {
     let fit = numbers[0] as usize == state.end;
-    match judge(
-        selector,
-        state,
-        fit,
-        table,
-        buf.len(),
-        slot_mem.len(),
-        queue_mem.len(),
-    ) {
-        Err(CheckError::TooLong) => Err(WriteError::TooLong),
-        Err(CheckError::BadTable(k)) => Err(WriteError::BadTable(k)),
-        Err(CheckError::BadState) => Err(WriteError::BadState),
-        Ok(()) => write_in(
-            state, piece, selector, table, numbers, buf, slot_mem, queue_mem,
-        ),
-    }
+    judge(selector, state, fit, table, memories)?;
+    write_in(state, piece, selector, table, numbers, memories)
 }
