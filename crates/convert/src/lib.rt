@@ -79,10 +79,7 @@ pub fn convert(old: Queue, old_mem: &[u8], mem: &mut [u8]) -> Result<Queue, Conv
     ensures { after (outcome result) mem.new ≡ converted older ours old old_mem.now mem.old }
 {
     let cap = queue::capacity_in::<Older>(old_mem.len());
-    if !old.is_bounded(cap) {
-        return Err(ConvertError::Bad);
-    }
-    if !are_good(old, cap, old_mem) {
+    if !old.is_bounded(cap) || !are_good(old, cap, old_mem) {
         return Err(ConvertError::Bad);
     }
     if queue::capacity(mem.len()) < old.count {

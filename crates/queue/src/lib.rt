@@ -140,6 +140,7 @@ pub struct Queue {
 }
 
 // A notice in a record: its table number, and where its payload lies in the memory.
+// Place and length stay two numbers, as the C interface hands them out: a Span would be no plainer, being taken apart at once.
 #[derive(Clone, Copy)]
 pub struct Notice {
     pub number: u8,
