@@ -101,6 +101,3 @@ module _ (s : List ℕ) {M : Type 0} (put : M → ℕ → List Element → M) (m
     pub read_again : (x : Result ℕ ListError) → Whole written s before x left → Reading s before x left
     read_again (Ok j) u = u
     read_again (Err why) u = absurd (not_both s judged.0 (number_of why) (place_of why) judged.1.0 u)
-
-  pub judged_refused : (why : ListError) (memory : List ℕ) → r ≡ Err why → Reading s memory (Err why) memory
-  judged_refused why memory e = (subst (λ (q : Result ℕ ListError). Whole put s m q after) e v, refl)

@@ -5,10 +5,8 @@
 
 ghost use Rattle.std.specs.Prelude.{◌≡◌, [], ◌∷◌, ◌+◌, ◌*◌, ◌≤◌};
 ghost use Rattle.text.specs.Text.{stands, find_in};
-ghost use Rattle.lines.specs.Lines.{fixed_text};
-ghost use Rattle.parser.specs.Parser.{line_ending, is_digit, run_at, tail_at, numeric_at, custom_prompt, wrapped, breaks_off, notice_text};
+ghost use Rattle.parser.specs.Parser.{line_ending, is_digit, run_at, tail_at, custom_prompt, wrapped, breaks_off, notice_text};
 
-use lines::Fixed;
 use text::Blanks;
 
 // How long the line ending at `place` is: 2 for CRLF, 1 for LF, 0 for none.

@@ -3,7 +3,7 @@
 // Every public function is total: none has a `requires`, and a place past the end has a stated answer.
 #![tactic(auto)]
 
-ghost use Rattle.std.specs.Prelude.{◌≡◌, ◌≤◌, ◌+◌, ◌*◌, drop};
+ghost use Rattle.std.specs.Prelude.{◌≡◌, ◌*◌, drop};
 ghost use Rattle.std.proofs.lemmas.List.Edits.{sets};
 ghost use Rattle.pieces.specs.Pieces.{is_hex, is_char, heard, string_end, number_at, kind_of, numbers_of, element_at};
 
