@@ -1,17 +1,20 @@
 -- Laws of the writer: the texts one behind the other in memory of 4,112 bytes, what the tests on the answer decide, and the ways out of `say`.
-use Rattle.std.specs.Prelude.{Option, Some, None, Result, Ok, Err, ◌≡◌, refl, Bool, true, false, ◌&&◌, not, ℕ, ◌+◌, ◌-◌, ◌≤◌, ◌<◌, length, eqb, leb, ltb}
+use Rattle.std.specs.Prelude.{IsErrAnd, Option, Some, None, Result, Ok, Err, ◌≡◌, refl, Bool, true, false, ◌&&◌, ℕ, ◌+◌, ◌≤◌, ◌<◌, length, eqb, leb, ltb}
 use Rattle.std.proofs.Common.{sym, ◌∙◌, arith, length-take, length-drop}
 use Rattle.std.proofs.Math.Path.{ap}
 use mathlib.Core.List.{List, [], ◌∷◌, ◌++◌}
 use Rattle.std.proofs.Math.ListN.{length-append}
-use borrow.Author.Tests.{lt-ltb, le-ltb, ne_eqb, eq-eqb, eqb-true}
+use borrow.Author.Tests.{eqb-true}
 use Rattle.outcome.specs.Outcome.{Outcome, answered, refused}
 use Rattle.outcome.specs.Laws.{ways}
 use Rattle.text.specs.Bytes.{bytes}
 use Rattle.text.specs.Logic.{not_true_false, and_both}
-use Rattle.text.specs.Text.{stands, part_of}
+use Rattle.text.specs.Text.{part_of}
 use Rattle.text.specs.Laws.{part_is}
 use Rattle.table.specs.Table.{ruling}
+use Rattle.table.specs.Table as tables
+use Rattle.table.specs.declared.TableError.{TableError}
+use Rattle.table.specs.declared.TableError.TheVariants as faulty
 use Rattle.lines.specs.Lines.{crlf, fixed_text}
 use Rattle.lines.specs.declared.Digester.TheVariants.{Verbose}
 use Rattle.lines.specs.declared.Fixed.TheVariants as fixed
@@ -23,11 +26,14 @@ use Rattle.answers.specs.Answer.{kind_number, has_number, is_found}
 use Rattle.answers.specs.declared.Kind.{Kind}
 use Rattle.answers.specs.declared.Kind.TheVariants as kind
 use Rattle.answers.specs.declared.Answer.{Answer}
+use Rattle.answers.specs.declared.DigestError.{DigestError}
+use Rattle.answers.specs.declared.DigestError.TheVariants as digests
+use Rattle.answers.specs.Answer as answers
 use Rattle.digest.specs.Digest.{digest}
 use Rattle.digest.specs.Calls.{digest_long}
 use Rattle.writer.specs.declared.SayError.{SayError}
 use Rattle.writer.specs.declared.SayError.TheVariants as says
-use Rattle.writer.specs.Writer.{line, ok_with, coded, prompted, written, gives, same, heard_as, heard_in, reads_back, Saying, outcome, saying, laid_out, say_under, say}
+use Rattle.writer.specs.Writer.{line, ok_with, coded, prompted, written, gives, same, heard_as, heard_in, reads_back, Saying, outcome, saying, laid_out, table_error, say_under, say}
 
 -- what is inked has the memory's length
 pub ink_length : (o : List ℕ) (n : ℕ) (p o' : List ℕ) (n' : ℕ) → inked o' n' ≡ ink o n p → length o' ≡ length o
@@ -69,59 +75,6 @@ ok_alone (x ∷ p) z = absurd (omega arith)
 pub none_put : (o : List ℕ) (p : List ℕ) → [] ≡ p → inked o 0 ≡ ink o 0 p
 none_put o p e = ink_none o 0 ∙ ap (ink o 0) e
 
-pub prompt_over : (g : Option ℕ) (b : ℕ) → g ≡ Some b → 255 < b → [] ≡ prompted g
-unfolding prompted
-prompt_over g b e h = rw (e, lt-ltb 255 b h)
-
-pub prompt_is : (g : Option ℕ) (b : ℕ) → g ≡ Some b → b ≤ 255 → 13 ∷ 10 ∷ b ∷ 32 ∷ [] ≡ prompted g
-unfolding prompted
-prompt_is g b e h = rw (e, le-ltb 255 b h)
-
--- the answer's number
-module _ (g : Option ℕ) (a : Answer) (b : Bool) (e : b ≡ has_number a.kind) where
-  pub gives_none : g ≡ None → not b ≡ gives g a
-  unfolding gives
-  gives_none q = rw (q, e)
-
-  pub gives_is : (n : ℕ) → g ≡ Some n → b && eqb a.number n ≡ gives g a
-  unfolding gives
-  gives_is n q = rw (q, e)
-
--- the same bytes
-module _ (p q : List ℕ) where
-  pub not_same : (length p ≡ length q → ⊥) → false ≡ same p q
-  unfolding same
-  not_same h = rw (ne_eqb (length p) (length q) h)
-
-  pub same_if : length p ≡ length q → (b : Bool) → b ≡ stands p q 0 → b ≡ same p q
-  unfolding same
-  same_if h b e = rw (eq-eqb (length p) (length q) h) e
-
--- the tests on the answer in their order
-module _ (k : Kind) (g : Option ℕ) (p b : List ℕ) (a : Answer) where
-  pub not_found : is_found a ≡ false → false ≡ heard_as k g p b a
-  unfolding heard_as
-  not_found e = rw e
-
-  module _ (f : is_found a ≡ true) where
-    pub other_kind : (kind_number a.kind ≡ kind_number k → ⊥) → false ≡ heard_as k g p b a
-    unfolding heard_as
-    other_kind h = rw (f, ne_eqb (kind_number a.kind) (kind_number k) h)
-
-    module _ (e : kind_number a.kind ≡ kind_number k) where
-      pub other_number : gives g a ≡ false → false ≡ heard_as k g p b a
-      unfolding heard_as
-      other_number h = rw (f, eq-eqb (kind_number a.kind) (kind_number k) e, h)
-
-      module _ (n : gives g a ≡ true) where
-        pub other_payload : same p (part_of b a.payload.start a.payload.len) ≡ false → false ≡ heard_as k g p b a
-        unfolding heard_as
-        other_payload h = rw (f, eq-eqb (kind_number a.kind) (kind_number k) e, n, h)
-
-        pub whole_if : same p (part_of b a.payload.start a.payload.len) ≡ true → eqb a.consumed (length b) ≡ heard_as k g p b a
-        unfolding heard_as
-        whole_if h = rw (f, eq-eqb (kind_number a.kind) (kind_number k) e, n, h)
-
 -- what the digest answered
 module _ (k : Kind) (g : Option ℕ) (p b : List ℕ) (x : Outcome Answer) where
   pub heard_answered : (a : Answer) → answered a ≡ x → (r : Bool) → r ≡ heard_as k g p b a → r ≡ heard_in k g p b x
@@ -131,6 +84,10 @@ module _ (k : Kind) (g : Option ℕ) (p b : List ℕ) (x : Outcome Answer) where
   pub heard_refused : (m : ℕ) (v : List ℕ) → refused m v ≡ x → false ≡ heard_in k g p b x
   unfolding heard_in
   heard_refused m v e = ap (heard_in k g p b) e
+
+  pub heard_failed : (e : DigestError) → answers.outcome (Err e) ≡ x → false ≡ heard_in k g p b x
+  heard_failed digests.TooLong q = heard_refused 1 [] q
+  heard_failed (digests.BadTable n) q = heard_refused 2 (n ∷ []) q
 
 -- A payload over 4,096 bytes isn't read back: what is digested has at most so many.
 part_short : (s : List ℕ) (i n : ℕ) → length (part_of s i n) ≤ length s
@@ -177,25 +134,12 @@ heard_long t k g p b h (answered a) e =
     let z : ◌≡◌ {A = ℕ} 0 1 = cc in
     omega arith)
 
--- the ways out of `lay_out`
-module _ (b o : List ℕ) where
-  pub laid_unread : (read : Bool) → read ≡ false → saying (Err says.Unread) o ≡ laid_out read b o
-  unfolding laid_out
-  laid_unread read e = rw e
-
-  pub laid_short : (read : Bool) → read ≡ true → length o < length b → saying (Err says.Short) o ≡ laid_out read b o
-  unfolding laid_out
-  laid_short read e l = rw (e, lt-ltb (length o) (length b) l)
-
-  pub laid_is : (read : Bool) → read ≡ true → length b ≤ length o → (o' : List ℕ) → o' ≡ put o 0 b → saying (Ok (length b)) o' ≡ laid_out read b o
-  unfolding laid_out
-  laid_is read e l o' q = rw (q, e, le-ltb (length o) (length b) l)
-
 -- the ways out of `say`
 module _ (t : List ℕ) (k : Kind) (g : Option ℕ) (p o : List ℕ) where
-  pub say_bad : (n : ℕ) → refused 2 (n ∷ []) ≡ ruling t → saying (Err (says.BadTable n)) o ≡ say t k g p o
+  pub say_bad : (e : TableError) → tables.outcome (Err e) ≡ ruling t → (r : Result ℕ SayError) → IsErrAnd r (λ f. f ≡ table_error e) → saying r o ≡ say t k g p o
   unfolding say say_under
-  say_bad n e = ap (λ (x : Outcome ℕ). say_under x t k g p o) e
+  say_bad e q (Ok n) f = absurd f
+  say_bad (faulty.Faulty n) q (Err x) f = rw f (ap (λ (y : Outcome ℕ). say_under y t k g p o) q)
 
   module _ (m : ℕ) (e : answered m ≡ ruling t) where
     under : laid_out (reads_back t k g p) (written k g p) o ≡ say t k g p o

@@ -4,6 +4,8 @@ use Rattle.outcome.specs.Outcome.{Outcome, answered, refused}
 use Rattle.text.specs.Bytes.{bytes}
 use Rattle.text.specs.Text.{stands, part_of}
 use Rattle.table.specs.Table.{ruling}
+use Rattle.table.specs.declared.TableError.{TableError}
+use Rattle.table.specs.declared.TableError.TheVariants as tables
 use Rattle.lines.specs.Lines.{crlf, fixed_text}
 use Rattle.lines.specs.declared.Digester.TheVariants.{Verbose}
 use Rattle.lines.specs.declared.Fixed.TheVariants as fixed
@@ -87,6 +89,10 @@ reads_back t k n p = let b = written k n p in heard_in k n p b (digest Verbose t
 pub record Saying : Type 0 where
   pub said : Outcome ℕ
   pub output : List ℕ
+
+-- a faulty table's refusal as the call's
+abbrev pub table_error : TableError → SayError
+table_error (tables.Faulty k) = says.BadTable k
 
 -- document 01's and R-12's number and values for each case of the answer
 abbrev pub outcome : Result ℕ SayError → Outcome ℕ

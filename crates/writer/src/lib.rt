@@ -5,7 +5,7 @@
 ghost use Rattle.std.specs.Prelude.{◌≡◌, ◌≤◌, length};
 ghost use Rattle.ink.specs.Ink.{inked, ink};
 ghost use Rattle.digest.specs.Digest.{digest};
-ghost use Rattle.writer.specs.Writer.{line, ok_with, coded, prompted, written, gives, same, heard_as, heard_in, saying, laid_out, say};
+ghost use Rattle.writer.specs.Writer.{line, ok_with, coded, prompted, written, gives, same, heard_as, heard_in, saying, laid_out, table_error, say};
 
 use answers::{Answer, Kind};
 use lines::Digester;
@@ -17,6 +17,16 @@ pub enum SayError {
     BadTable(usize),
     Unread,
     Short,
+}
+
+impl From<TableError> for SayError {
+    ghost from_gives = { λ e w. w ≡ table_error e };
+
+    fn from(e: TableError) -> SayError {
+        match e {
+            TableError::Faulty(k) => SayError::BadTable(k),
+        }
+    }
 }
 
 // The longest payload that is tried, and room for it with the CRLFs around it and an OK line.
@@ -39,7 +49,7 @@ fn put_ok(own: &mut [u8; OWN], payload: &[u8]) -> usize
     requires { length payload.now ≤ 4096 }
     ensures { inked own.new result ≡ ink own.old 0 (ok_with payload.now) }
 {
-    if payload.len() == 0 {
+    if payload.is_empty() {
         return ink::words(own, 0, &lines::OK);
     }
     let from = put_line(own, payload);
@@ -60,82 +70,70 @@ fn put_coded(own: &mut [u8; OWN], head: &[u8; 13], number: Option<u32>) -> usize
 }
 
 // A prompt: CRLF, its byte, a space. A number over 255 is no byte.
+#[tactic(auto, unfolding(crate::specs::Writer::prompted), using(ink::specs::Laws::ink_none))]
 fn put_prompt(own: &mut [u8; OWN], number: Option<u32>) -> usize
     ensures { inked own.new result ≡ ink own.old 0 (prompted number) }
 {
-    let Some(b) = number else {
-        return 0;
-    };
-    if 255 < b {
-        return 0;
+    match number {
+        Some(b) if b <= 255 => ink::words(own, 0, &[b'\r', b'\n', b as u8, b' ']),
+        _ => 0,
     }
-    let prompt = [b'\r', b'\n', b as u8, b' '];
-    ink::words(own, 0, &prompt)
 }
 
 // The answer, written out; nothing of another kind, nor without its number.
+#[tactic(auto, unfolding(crate::specs::Writer::written), using(ink::specs::Laws::ink_none))]
 fn put_answer(own: &mut [u8; OWN], kind: Kind, number: Option<u32>, payload: &[u8]) -> usize
     requires { length payload.now ≤ 4096 }
     ensures { inked own.new result ≡ ink own.old 0 (written kind number payload.now) }
 {
     match kind {
-        Kind::None => 0,
+        Kind::None | Kind::Unknown | Kind::NotAllowed | Kind::Custom => 0,
         Kind::Ok => put_ok(own, payload),
         Kind::Prompt => put_prompt(own, number),
         Kind::Cme => put_coded(own, &lines::CME_ERROR, number),
         Kind::Cms => put_coded(own, &lines::CMS_ERROR, number),
-        Kind::Unknown => 0,
-        Kind::NotAllowed => 0,
         Kind::Error => ink::words(own, 0, &lines::ERROR),
         Kind::NoCarrier => ink::words(own, 0, &lines::NO_CARRIER),
         Kind::Busy => ink::words(own, 0, &lines::BUSY),
         Kind::NoAnswer => ink::words(own, 0, &lines::NO_ANSWER),
         Kind::NoDialtone => ink::words(own, 0, &lines::NO_DIALTONE),
-        Kind::Custom => 0,
         Kind::Notice => put_line(own, payload),
     }
 }
 
 // Is the answer's number the one given, or has it none, as given?
+#[tactic(auto, unfolding(crate::specs::Writer::gives))]
 fn gives(number: Option<u32>, a: Answer) -> bool
     ensures { result ≡ gives number a }
 {
-    let kind = a.kind;
-    let numbered = answers::has_number(kind);
+    let numbered = answers::has_number(a.kind);
     match number {
         None => !numbered,
-        Some(n) => numbered & (a.number == n),
+        Some(n) => numbered && a.number == n,
     }
 }
 
 // Are the two the same bytes?
+#[tactic(auto, unfolding(crate::specs::Writer::same))]
 fn same(p: &[u8], q: &[u8]) -> bool
     ensures { result ≡ same p.now q.now }
 {
-    if p.len() != q.len() {
-        return false;
-    }
-    text::matches_at(q, 0, p)
+    p.len() == q.len() && text::matches_at(q, 0, p)
 }
 
 // Is the answer a of the bytes this kind, number and payload, and are they consumed whole?
+#[tactic(auto, unfolding(crate::specs::Writer::heard_as))]
 fn heard_as(kind: Kind, number: Option<u32>, payload: &[u8], bytes: &[u8], a: Answer) -> bool
     ensures { result ≡ heard_as kind number payload.now bytes.now a }
 {
-    if !answers::is_found(a) {
-        return false;
-    }
-    let heard = a.kind;
-    if answers::kind_number(heard) != answers::kind_number(kind) {
-        return false;
-    }
-    if !gives(number, a) {
-        return false;
-    }
-    if !same(payload, digest::payload(bytes, a.payload.start, a.payload.len)) {
-        return false;
-    }
-    a.consumed == bytes.len()
+    answers::is_found(a)
+        && a.kind == kind
+        && gives(number, a)
+        && same(
+            payload,
+            digest::payload(bytes, a.payload.start, a.payload.len),
+        )
+        && a.consumed == bytes.len()
 }
 
 // Digested under the table, are the bytes heard as this kind, number and payload?
@@ -144,12 +142,12 @@ fn heard_in(table: &[u8], kind: Kind, number: Option<u32>, payload: &[u8], bytes
 {
     match digest::digest(Digester::Verbose, table, bytes) {
         Ok(a) => heard_as(kind, number, payload, bytes, a),
-        Err(DigestError::TooLong) => false,
-        Err(DigestError::BadTable(_)) => false,
+        Err(_) => false,
     }
 }
 
 // The bytes of an answer at the front of the output memory, where they are read back and fit.
+#[tactic(auto, unfolding(crate::specs::Writer::laid_out))]
 fn lay_out(read: bool, bytes: &[u8], out: &mut [u8]) -> Result<usize, SayError>
     ensures { saying result out.new ≡ laid_out read bytes.now out.old }
 {
@@ -165,12 +163,16 @@ fn lay_out(read: bool, bytes: &[u8], out: &mut [u8]) -> Result<usize, SayError>
 
 // Writes an answer as a modem would into the output memory: an Ok with a payload, CME, CMS, ERROR, the four connection results, a notice, a prompt.
 // Digesting the bytes under the same table gives the same kind, number and payload and consumes all of them; where it wouldn't, refusal 16.
-pub fn say(table: &[u8], kind: Kind, number: Option<u32>, payload: &[u8], out: &mut [u8]) -> Result<usize, SayError>
+pub fn say(
+    table: &[u8],
+    kind: Kind,
+    number: Option<u32>,
+    payload: &[u8],
+    out: &mut [u8],
+) -> Result<usize, SayError>
     ensures { saying result out.new ≡ say table.now kind number payload.now out.old }
 {
-    if let Err(TableError::Faulty(k)) = table::check(table) {
-        return Err(SayError::BadTable(k));
-    }
+    table::check(table)?;
     // A payload over 4,096 bytes can't come back.
     if LONGEST < payload.len() {
         return Err(SayError::Unread);

@@ -11,4 +11,4 @@ returns-in_default c =
 
 pub returns : goal.returns
 returns c =
-    coded_put c.args.own.now c.told-own c.args.head.now c.told-head _ _ _ c.words-headed.ensures _ _ c.words-apart.ensures _ _ c.decimal-coded.ensures _ c.words.ensures c.args.number c.in-Is.is
+    coded_put c.args.own.now c.told-own c.args.head.now c.told-head _ _ _ c.words-headed.ensures _ _ c.words-apart.ensures _ _ c.decimal-coded.ensures _ c.words.ensures c.args.number c.in-Some.is
