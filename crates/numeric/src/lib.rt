@@ -94,6 +94,7 @@ fn line_behind(s: &[u8], cr: usize, from: usize) -> Line
 }
 
 // The leftmost code, with where what stands before it begins, by a walk from line start to line start.
+// A `for` would be no plainer: a line is as long as it is, and no range has such steps.
 fn leftmost(s: &[u8]) -> Option<Line>
     ensures { result ≡ coded s.now (leftmost s.now) }
 {

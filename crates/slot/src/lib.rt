@@ -11,12 +11,14 @@ ghost use Rattle.slot.specs.Slot.{is_response, carries, new_slot, lost_one, fill
 use answers::{Answer, Kind};
 
 // What is stored: an answer's kind, or that its payload was longer than the memory (CapacityError; not for digits, R-2).
+// An Option would be no plainer: CapacityError is an answer too, and not the lack of one.
 #[derive(Clone, Copy)]
 pub enum Held {
     Heard(Kind),
     Capacity,
 }
 
+// `signalled` stands beside what is held, and no Option holds both: a reset frees and changes nothing else, and the C interface shows what a free slot holds.
 // `serial` is the number in force (R-11), and so the one that a stored answer bears: only a reset changes it, and a reset frees.
 #[derive(Clone, Copy)]
 pub struct Slot {
