@@ -93,8 +93,9 @@ pub fn number_at(s: &[u8], from: usize) -> Option<(u64, usize)>
 }
 
 // What an element is, with its number in the memory.
-#[derive(Clone, Copy)]
+#[derive(Clone, Copy, Default)]
 pub enum Kind {
+    #[default]
     Empty = 0,
     Number = 1,
     Range = 2,
@@ -104,7 +105,7 @@ pub enum Kind {
 
 // An element: its first byte behind its spaces, one past its last byte (of an empty one the byte that ends it, twice), its kind, within how many brackets
 // it stands, and the values of a range; of a number both are its value, of any other element 0.
-#[derive(Clone, Copy)]
+#[derive(Clone, Copy, Default)]
 pub struct Element {
     pub place: usize,
     pub end: usize,
@@ -153,14 +154,7 @@ pub fn element_at(elements: &[u64; NUMBERS], number: usize) -> Element
 {
     let all: &[u64] = elements;
     if MOST <= number {
-        return Element {
-            place: 0,
-            end: 0,
-            kind: Kind::Empty,
-            depth: 0,
-            low: 0,
-            high: 0,
-        };
+        return Element::default();
     }
     let at = FIELDS * number;
     Element {
