@@ -299,6 +299,6 @@ module _ (d : Digester) (ts : List Token) (s : List ℕ) (e m : ℕ) where
     pub retry_handed : (h : Hints) → Handed d ts s e h → GoneAll d ts behind × Known behind 0 h
     retry_handed h w = rw (rest s (e + 2)) (w z)
 
-    pub retry_is : seen_from m (after s (digest_in d ts) e None) ≡ seen_from (m + (e + 2)) (digest_in d ts behind)
+    pub retry_is : (n : ℕ) → n ≡ m + (e + 2) → (a : Answer) → a ≡ digest_in d ts behind → seen_from n a ≡ seen_from m (after s (digest_in d ts) e None)
     unfolding after
-    retry_is = sym (ap (λ (u : List ℕ). seen_from (m + (e + 2)) (digest_in d ts u)) (rest s (e + 2)) ∙ seen_again m e (digest_in d ts (drop (e + 2) s)) ∙ rw z)
+    retry_is n i a w = ap (λ (k : ℕ). seen_from k a) i ∙ ap (seen_from (m + (e + 2))) (w ∙ ap (digest_in d ts) (rest s (e + 2))) ∙ seen_again m e (digest_in d ts (drop (e + 2) s)) ∙ rw z
