@@ -98,6 +98,9 @@ module _ (s : List ℕ) {M : Type 0} (put : M → ℕ → List Element → M) (m
     judged : Whole put s m (Ok k) after
     judged = subst (λ (q : Result ℕ ListError). Whole put s m q after) f v
 
+    pub never_refused : (why : ListError) → Whole written s before (Err why) left → ⊥
+    never_refused why u = not_both s judged.0 (number_of why) (place_of why) judged.1.0 u
+
     pub read_again : (x : Result ℕ ListError) → Whole written s before x left → Reading s before x left
     read_again (Ok j) u = u
-    read_again (Err why) u = absurd (not_both s judged.0 (number_of why) (place_of why) judged.1.0 u)
+    read_again (Err why) u = absurd (never_refused why u)
