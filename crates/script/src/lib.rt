@@ -133,11 +133,7 @@ fn behind_first(line: &[u8]) -> &[u8] {
 }
 
 // Answers a line whose first field is a digester's word or none.
-fn chosen_case<R: Print>(
-    out: &mut Out<'_, R>,
-    line: &[u8],
-    room: &mut Room<'_>,
-) -> io::Result<()> {
+fn chosen_case<R: Print>(out: &mut Out<'_, R>, line: &[u8], room: &mut Room<'_>) -> io::Result<()> {
     let (selector, line) = notation::form::first_word(line);
     match notation::form::form_of(line) {
         Some(Form::Digest) => cases::digest_case(out, line, selector, room.table, room.buf),
@@ -148,11 +144,7 @@ fn chosen_case<R: Print>(
 }
 
 // Answers a line. A case of one call that has no digester is told by its word. A line that fills its memory is too long.
-pub fn answer<R: Print>(
-    out: &mut Out<'_, R>,
-    line: &[u8],
-    room: &mut Room<'_>,
-) -> io::Result<()> {
+pub fn answer<R: Print>(out: &mut Out<'_, R>, line: &[u8], room: &mut Room<'_>) -> io::Result<()> {
     if line.len() == LENGTH {
         return out.bad_line();
     }
