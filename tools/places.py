@@ -57,8 +57,9 @@ def flags(text):
     for at, name, params, _ in functions(text):
         for p in re.findall(r"\b(\w+): bool\b", params):
             yield at, f"fn {name}: {p}"
-    for m in re.finditer(r"^    (?:pub )?(\w+): bool,$", text, re.M):
-        yield m.start(), "field " + m.group(1)
+    for m in re.finditer(r"^(?:pub )?struct (\w+)[^{;]*\{\n(.*?)^\}", text, re.M | re.S):
+        for f in re.findall(r"^    (?:pub )?(\w+): bool,$", m.group(2), re.M):
+            yield m.start(), f"struct {m.group(1)}: {f}"
 
 
 def loops(text):

@@ -13,6 +13,7 @@ use lines::Digester;
 use table::TableError;
 
 // The digesters: one of document 01's lines, which hears the text of a CONNECT line or doesn't (R-3); the one for modems in V0 (R-1).
+// An Option would be no plainer: none of the two is the lack of the other.
 #[derive(Clone, Copy)]
 pub enum Selector {
     Verbal(Digester),

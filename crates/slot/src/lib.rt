@@ -43,7 +43,7 @@ pub enum ResetError {
     Repeated,
 }
 
-// A look at the slot: it is signalled, or it is free and answers nothing. Looking changes nothing.
+// A look at the slot: it is signalled, or it is free and answers nothing. Looking changes nothing. An Option would be no plainer: the slot is handed back in both cases.
 #[derive(Clone, Copy)]
 pub enum Looked {
     Signalled(Slot),
