@@ -5,7 +5,7 @@
 
 ghost use Rattle.std.specs.Prelude.{◌≡◌, ◌≤◌, length};
 ghost use Rattle.selector.specs.Selector.{choice};
-ghost use Rattle.turn.specs.Turn.{lent};
+ghost use Rattle.turn.specs.Turn.{lent, SamePlaces};
 ghost use Rattle.ingress.specs.Ingress.{judged, refusal, run_says, ran, result_of, write_says, taking};
 ghost use Rattle.quiet.specs.Quiet.{still};
 ghost use Rattle.feed.specs.Feed.{fitting, renewed, settled, fed, write_in, advanced_with, written_with};
@@ -67,7 +67,8 @@ fn settle(
     numbers: &mut [u64; NUMBERS],
     memories: &mut Memories<'_>,
 ) -> Result<State, RunError>
-    ensures { fed (ran result memories.new) numbers.new ≡ settled (choice selector table.now) (still selector table.now) numbers.old (lent state memories.old) }
+    ensures is { fed (ran result memories.new) numbers.new ≡ settled (choice selector table.now) (still selector table.now) numbers.old (lent state memories.old) }
+    ensures places { SamePlaces memories.old memories.new }
 {
     let held = memories.held(state.end);
     let known = findings::extend(findings::of_numbers(numbers), held);
@@ -89,7 +90,8 @@ pub fn advance(
     numbers: &mut [u64; NUMBERS],
     memories: &mut Memories<'_>,
 ) -> Result<State, AdvanceError>
-    ensures { fed (result_of state result memories.new) numbers.new ≡ advanced_with (choice selector table.now) (still selector table.now) commit numbers.old (lent state memories.old) }
+    ensures is { fed (result_of state result memories.new) numbers.new ≡ advanced_with (choice selector table.now) (still selector table.now) commit numbers.old (lent state memories.old) }
+    ensures places { SamePlaces memories.old memories.new }
 {
     let fits = numbers[0] as usize == state.end;
     judge(selector, state, fits, table, memories)?;
@@ -124,7 +126,8 @@ fn write_in(
     memories: &mut Memories<'_>,
 ) -> Result<(State, usize), WriteError>
     requires { state.end ≤ length memories.old.buf.now }
-    ensures { fed (taking state result memories.new) numbers.new ≡ write_in (choice selector table.now) (still selector table.now) piece.now numbers.old (lent state memories.old) }
+    ensures is { fed (taking state result memories.new) numbers.new ≡ write_in (choice selector table.now) (still selector table.now) piece.now numbers.old (lent state memories.old) }
+    ensures places { SamePlaces memories.old memories.new }
 {
     let end = state.end;
     let n = piece.len();
@@ -157,7 +160,8 @@ pub fn write(
     numbers: &mut [u64; NUMBERS],
     memories: &mut Memories<'_>,
 ) -> Result<(State, usize), WriteError>
-    ensures { fed (taking state result memories.new) numbers.new ≡ written_with (choice selector table.now) (still selector table.now) piece.now numbers.old (lent state memories.old) }
+    ensures is { fed (taking state result memories.new) numbers.new ≡ written_with (choice selector table.now) (still selector table.now) piece.now numbers.old (lent state memories.old) }
+    ensures places { SamePlaces memories.old memories.new }
 {
     let fit = numbers[0] as usize == state.end;
     judge(selector, state, fit, table, memories)?;

@@ -1,10 +1,9 @@
 -- The calls of document 01 as numbers: what an export returns and leaves.
-use Rattle.std.specs.Prelude.{Option, Some, None, ◌≡◌, Bool, List, [], ◌∷◌, ℕ, length, eqb, if◌then◌else◌}
+use Rattle.std.specs.Prelude.{Option, Some, None, Result, Ok, Err, ◌≡◌, Bool, List, [], ◌∷◌, ℕ, length, eqb, if◌then◌else◌}
 use Rattle.text.specs.Text.{part_of, part_at}
 use Rattle.outcome.specs.Outcome.{Outcome, answered, refused}
 use Rattle.lists.specs.Grammar as lists
-use Rattle.lists.specs.declared.Listed.{Listed}
-use Rattle.lists.specs.declared.Listed.TheVariants.{Elements, Refused}
+use Rattle.lists.specs.declared.ListError.{ListError}
 use Rattle.slot.specs.Slot.{Reading}
 use Rattle.slot.specs.Slot as slots
 use Rattle.slot.specs.declared.Slot.{Slot}
@@ -42,13 +41,13 @@ abbrev pub count_values : ℕ → List ℕ
 count_values n = n ∷ []
 
 -- a reading of R-4: how many elements, or the refusal with its place
-abbrev pub listing : Listed → Outcome ℕ
-listing (Elements n) = answered n
-listing (Refused k p) = refused k (p ∷ [])
+abbrev pub listing : Result ℕ ListError → Outcome ℕ
+listing (Ok n) = answered n
+listing (Err why) = refused (lists.number_of why) (lists.place_of why ∷ [])
 
 -- and what is left of the memory and of the lent array
 pub record Listing (s m o : List ℕ) (r : ℕ) (after left : List ℕ) : Type 0 where
-  pub listed : Listed
+  pub listed : Result ℕ ListError
   pub reads : lists.Reading s m listed after
   pub says : call r left ≡ said count_values (listing listed) o
 

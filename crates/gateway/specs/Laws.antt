@@ -14,7 +14,7 @@ use Rattle.findings.specs.declared.Findings.{Findings}
 use Rattle.quiet.specs.Quiet.{still}
 use Rattle.lists.specs.Grammar.{Reading}
 use Rattle.lists.specs.Exactly.{one_reading}
-use Rattle.lists.specs.declared.Listed.{Listed}
+use Rattle.lists.specs.declared.ListError.{ListError}
 use Rattle.slot.specs.Slot as slots
 use Rattle.slot.specs.Laws as slot_laws
 use Rattle.slot.specs.declared.Slot.{Slot}
@@ -22,11 +22,13 @@ use Rattle.slot.specs.declared.SlotError.{SlotError}
 use Rattle.slot.specs.declared.ResetError.{ResetError}
 use Rattle.queue.specs.Queue.{Got, ours}
 use Rattle.queue.specs.Queue as queues
+use Rattle.queue.specs.declared.Notice.{Notice}
 use Rattle.queue.specs.declared.Queue.{Queue}
 use Rattle.queue.specs.declared.TakeError.{TakeError}
 use Rattle.turn.specs.Turn.{world}
 use Rattle.turn.specs.Says.{held_is}
 use Rattle.ingress.specs.Ingress.{After, advance_says, advanced, result_of, write_says, written, taking}
+use Rattle.turn.specs.declared.Memories.{Memories}
 use Rattle.turn.specs.declared.State.{State}
 use Rattle.ingress.specs.declared.AdvanceError.{AdvanceError}
 use Rattle.ingress.specs.declared.WriteError.{WriteError}
@@ -38,19 +40,6 @@ use Rattle.numbers.specs.Numbers.{selector_of, word, held_number, answer_of, slo
 use Rattle.numbers.specs.Laws.{ten, slot_stays, freed_stays}
 use Rattle.gateway.specs.Gateway.{number_of, values_of, Call, call, said, listing, Listing, part_values, numbers_by, reset_said, Turn, turn, signal_said, put_said, read_values, got_values, with_got, Take, took, take_said, Whole, whole, left_said, whole_said, count_values, no_values, Feeding, feeding, feed_said, Spoken, spoken, saying_said}
 
--- an export returns its call's number, with the values at the front of the array
-pub says : {A : Type 0} (f : A → List ℕ) (o : List ℕ) (x y : Outcome A) → x ≡ y → (q : List ℕ) → q ≡ laid (values_of f x) o → call (number_of x) q ≡ said f y o
-says f o x y e q h = ap (call (number_of x)) h ∙ ap (λ (z : Outcome _). said f z o) e
-
--- a reading of R-4, by what it was
-module _ (s m o after : List ℕ) (r : Listed) (w : Reading s m r after) where
-  pub reading_says : (x : Listed) → r ≡ x → {left : List ℕ} → left ≡ laid (values_of count_values (listing x)) o → Listing s m o (number_of (listing x)) after left
-  reading_says x e f = record { listed = x; reads = subst (λ (y : Listed). Reading s m y after) e w; says = ap (call (number_of (listing x))) f }
-
--- a digest by the digester that was chosen
-pub chosen : (t s : List ℕ) (d x : Selector) → d ≡ x → (r : Outcome Answer) → r ≡ digest d t s → r ≡ digest x t s
-chosen t s d x e r q = q ∙ ap (λ (y : Selector). digest y t s) e
-
 -- where a part of the memory s begins
 module _ (s : List ℕ) (place len : ℕ) where
   pub fits_not : length s < place + len → 0 ≡ part_at s place len
@@ -61,76 +50,31 @@ module _ (s : List ℕ) (place len : ℕ) where
   unfolding part_at
   fits_there h = rw (le-leb (place + len) (length s) h)
 
--- and that part as two numbers
-pub part_is : (s o : List ℕ) (place len : ℕ) (p : List ℕ) → p ≡ part_of s place len → (a : ℕ) → a ≡ part_at s place len → laid (a ∷ length p ∷ []) o ≡ laid (part_values s place len) o
-part_is s o place len p e a g = λ i. laid (g i ∷ length (e i) ∷ []) o
-
--- what a look at a signalled slot answers, and the payload that it holds
-pub look_is : (o : List ℕ) (x : Slot) (h : ℕ) → h ≡ held_number x.held → laid (1 ∷ h ∷ x.number ∷ x.len ∷ x.serial ∷ []) o ≡ laid (read_values (record { there = true; slot = x })) o
-look_is o x h e = ap (λ (n : ℕ). laid (1 ∷ n ∷ x.number ∷ x.len ∷ x.serial ∷ []) o) e
-
+-- the payload that a slot holds, as two numbers
 pub slot_part : (v m o : List ℕ) (s : Slot) → s ≡ slot_of v → (p : List ℕ) → p ≡ part_of m 0 (slots.readable s) → laid (0 ∷ length p ∷ []) o ≡ laid (part_values m 0 (slots.readable (slot_of v))) o
 unfolding part_at
 slot_part v m o s es p e =
     (λ i. laid (ways (λ n. 0 ≡ n) (leb (0 + slots.readable s) (length m)) (λ w. refl) (λ w. refl) i ∷ length (e i) ∷ []) o)
     ∙ ap (λ (y : Slot). laid (part_values m 0 (slots.readable y)) o) es
 
--- a signal: the slot s read from the numbers v, the answer a from the array w, the call's outcome r with the memory k that it left
-pub signal_is : (v w p m : List ℕ) (s : Slot) → s ≡ slot_of v → (a : Answer) → a ≡ answer_of w → (r : Result Slot SlotError) (k : List ℕ) → slots.after (slots.outcome r) k ≡ slots.signalled s a p m → (x : Result Slot SlotError) → r ≡ x → (u : List ℕ) → u ≡ numbers_by with_slot (slots.outcome x) v → turn (number_of (slots.outcome x)) u k ≡ signal_said (slots.signalled (slot_of v) (answer_of w) p m) v
-signal_is v w p m s es a ea r k e x q u f =
-    ap (λ (z : List ℕ). turn (number_of (slots.outcome x)) z k) f
-    ∙ ap (λ (y : Result Slot SlotError). signal_said (slots.after (slots.outcome y) k) v) (sym q)
-    ∙ ap (λ (z : slots.After). signal_said z v) (e ∙ (λ i. slots.signalled (es i) (ea i) p m))
+-- from the state s read from the numbers v, by the digester of a number, with what it left in the three memories
+module _ (v o : List ℕ) (s : State) (es : s ≡ state_of v) (j : ℕ) (d : Selector) (ed : d ≡ selector_of j) (t b₀ k₀ q₀ : List ℕ) (m' : Memories) (b k q : List ℕ) (eb : b ≡ m'.buf.now) (ek : k ≡ m'.slot.now) (eq : q ≡ m'.queue.now) (x : ℕ) (u l : List ℕ) where
+  left_is : (y : Take) → took x u l ≡ y → whole x u l b k q ≡ whole y.number y.state y.out m'.buf.now m'.slot.now m'.queue.now
+  left_is y e = λ i. whole (e i).number (e i).state (e i).out (eb i) (ek i) (eq i)
 
-pub reset_is : (v m : List ℕ) (n : ℕ) (s : Slot) → s ≡ slot_of v → (r : Result Slot ResetError) → slots.resetting r ≡ slots.was_reset s n m → (x : Result Slot ResetError) → r ≡ x → (u : List ℕ) → u ≡ numbers_by with_slot (slots.resetting x) v → call (number_of (slots.resetting x)) u ≡ reset_said (slots.was_reset (slot_of v) n m) v
-reset_is v m n s es r e x q u f =
-    ap (call (number_of (slots.resetting x))) f
-    ∙ ap (λ (y : Result Slot ResetError). reset_said (slots.resetting y) v) (sym q)
-    ∙ ap (λ (z : Outcome Slot). reset_said z v) (e ∙ ap (λ (y : Slot). slots.was_reset y n m) es)
+  pub advance_is : (c : ℕ) (r : Result State AdvanceError) → result_of s r m' ≡ advanced (choice d t) c (world s b₀ k₀ q₀) → took x u l ≡ left_said no_values (advance_says (state_of v) r) v o → whole x u l b k q ≡ whole_said no_values (advanced (choice (selector_of j) t) c (world (state_of v) b₀ k₀ q₀)) v o
+  advance_is c r e g = left_is _ g ∙ ap (λ (z : After Unit). whole_said no_values z v o) (rw (es, ed) at e)
 
--- a put or a conversion: likewise, by what the call leaves of a queue, and what its answers' outcomes are
-pub queued_is : {R : Type 0} (outcome : R → Outcome Queue) (leaves : Queue → queues.After) (v : List ℕ) (s t : Queue) → s ≡ t → (r : R) (k : List ℕ) → queues.after (outcome r) k ≡ leaves s → (x : R) → r ≡ x → (u : List ℕ) → u ≡ numbers_by with_queue (outcome x) v → turn (number_of (outcome x)) u k ≡ put_said (leaves t) v
-queued_is {R} outcome leaves v s t es r k e x q u f =
-    ap (λ (z : List ℕ). turn (number_of (outcome x)) z k) f
-    ∙ ap (λ (y : R). put_said (queues.after (outcome y) k) v) (sym q)
-    ∙ ap (λ (z : queues.After). put_said z v) (e ∙ ap leaves es)
-
-pub take_is : (v o m : List ℕ) (s : Queue) → s ≡ queue_of v → (r : Result (Queue × Option Notice) TakeError) → queues.taking r ≡ queues.taken ours s m → (x : Result (Queue × Option Notice) TakeError) → r ≡ x → (u : List ℕ) → u ≡ numbers_by with_got (queues.taking x) v → (k : List ℕ) → k ≡ laid (values_of got_values (queues.taking x)) o → took (number_of (queues.taking x)) u k ≡ take_said (queues.taken ours (queue_of v) m) v o
-take_is v o m s es r e x q u f k g =
-    (λ i. took (number_of (queues.taking x)) (f i) (g i))
-    ∙ ap (λ (y : Result (Queue × Option Notice) TakeError). take_said (queues.taking y) v o) (sym q)
-    ∙ ap (λ (z : Outcome Got). take_said z v o) (e ∙ ap (λ (y : Queue). queues.taken ours y m) es)
-
--- an advance or a write: its answer r is one of the cases x, whose numbers are laid;
-pub laid_is : {A R : Type 0} (says : R → Outcome A × State) (f : A → List ℕ) (v o : List ℕ) (r x : R) → r ≡ x → (n : ℕ) (u k : List ℕ) → took n u k ≡ left_said f (says x) v o → took n u k ≡ left_said f (says r) v o
-laid_is says f v o r x q n u k e = e ∙ ap (λ (y : _). left_said f (says y) v o) (sym q)
-
--- from the state s read from the numbers v, by the digester of a number, with what it left of the three memories
-module _ (v o : List ℕ) (s : State) (es : s ≡ state_of v) (j : ℕ) (d : Selector) (ed : d ≡ selector_of j) (t b m n b' m' n' : List ℕ) (x : ℕ) (u k : List ℕ) where
-  pub advance_is : (c : ℕ) (r : Result State AdvanceError) → result_of s r b' m' n' ≡ advanced (choice d t) c (world s b m n) → took x u k ≡ left_said no_values (advance_says (state_of v) r) v o → whole x u k b' m' n' ≡ whole_said no_values (advanced (choice (selector_of j) t) c (world (state_of v) b m n)) v o
-  advance_is c r e g = ap (λ (y : Take). whole y.number y.state y.out b' m' n') g ∙ ap (λ (z : After Unit). whole_said no_values z v o) (rw (es, ed) at e)
-
-  pub write_is : (p : List ℕ) (r : Result (State × ℕ) WriteError) → taking s r b' m' n' ≡ written (choice d t) p (world s b m n) → took x u k ≡ left_said count_values (write_says (state_of v) r) v o → whole x u k b' m' n' ≡ whole_said count_values (written (choice (selector_of j) t) p (world (state_of v) b m n)) v o
-  write_is p r e g = ap (λ (y : Take). whole y.number y.state y.out b' m' n') g ∙ ap (λ (z : After ℕ). whole_said count_values z v o) (rw (es, ed) at e)
+  pub write_is : (p : List ℕ) (r : Result (State × ℕ) WriteError) → taking s r m' ≡ written (choice d t) p (world s b₀ k₀ q₀) → took x u l ≡ left_said count_values (write_says (state_of v) r) v o → whole x u l b k q ≡ whole_said count_values (written (choice (selector_of j) t) p (world (state_of v) b₀ k₀ q₀)) v o
+  write_is p r e g = left_is _ g ∙ ap (λ (z : After ℕ). whole_said count_values z v o) (rw (es, ed) at e)
 
   -- with the findings' numbers f, of which it left f' (R-14)
   module _ (f f' : List ℕ) where
-    pub feed_advance_is : (c : ℕ) (r : Result State AdvanceError) → fed (result_of s r b' m' n') f' ≡ advanced_with (choice d t) (still d t) c f (world s b m n) → took x u k ≡ left_said no_values (advance_says (state_of v) r) v o → feeding (whole x u k b' m' n') f' ≡ feed_said no_values (advanced_with (choice (selector_of j) t) (still (selector_of j) t) c f (world (state_of v) b m n)) v o
-    feed_advance_is c r e g = ap (λ (y : Take). feeding (whole y.number y.state y.out b' m' n') f') g ∙ ap (λ (z : Fed Unit). feed_said no_values z v o) (rw (es, ed) at e)
+    pub feed_advance_is : (c : ℕ) (r : Result State AdvanceError) → fed (result_of s r m') f' ≡ advanced_with (choice d t) (still d t) c f (world s b₀ k₀ q₀) → took x u l ≡ left_said no_values (advance_says (state_of v) r) v o → feeding (whole x u l b k q) f' ≡ feed_said no_values (advanced_with (choice (selector_of j) t) (still (selector_of j) t) c f (world (state_of v) b₀ k₀ q₀)) v o
+    feed_advance_is c r e g = ap (λ (y : Whole). feeding y f') (left_is _ g) ∙ ap (λ (z : Fed Unit). feed_said no_values z v o) (rw (es, ed) at e)
 
-    pub feed_write_is : (p : List ℕ) (r : Result (State × ℕ) WriteError) → fed (taking s r b' m' n') f' ≡ written_with (choice d t) (still d t) p f (world s b m n) → took x u k ≡ left_said count_values (write_says (state_of v) r) v o → feeding (whole x u k b' m' n') f' ≡ feed_said count_values (written_with (choice (selector_of j) t) (still (selector_of j) t) p f (world (state_of v) b m n)) v o
-    feed_write_is p r e g = ap (λ (y : Take). feeding (whole y.number y.state y.out b' m' n') f') g ∙ ap (λ (z : Fed ℕ). feed_said count_values z v o) (rw (es, ed) at e)
-
--- the findings of what is in the buffer b, n of its bytes, as the numbers m
-pub start_is : (v b m : List ℕ) (s : State) → s ≡ state_of v → (n : ℕ) → n ≡ min s.end (length b) → (f : Findings) → f ≡ findings_of (take n b) → m ≡ numbers_of f → m ≡ numbers_of (findings_of (take (state_of v).end b))
-start_is v b m s es n h f e g = g ∙ ap numbers_of (e ∙ ap findings_of (held_is s b [] [] n h ∙ ap (λ (x : State). take x.end b) es))
-
--- an answer that is written (R-12): the kind k by its number, the number g as given, the call's outcome r with the memory n that it left
-pub say_is : (t p m o : List ℕ) (k l : Kind) → k ≡ l → (g h : Option ℕ) → g ≡ h → (r : Result ℕ SayError) (n : List ℕ) → saying r n ≡ say t k g p m → (x : Result ℕ SayError) → r ≡ x → (u : List ℕ) → u ≡ laid (values_of count_values (writers.outcome x)) o → spoken (call (number_of (writers.outcome x)) u) n ≡ saying_said (say t l h p m) o
-say_is t p m o k l ek g h eg r n e x q u f =
-    ap (λ (z : List ℕ). spoken (call (number_of (writers.outcome x)) z) n) f
-    ∙ ap (λ (y : Result ℕ SayError). saying_said (saying y n) o) (sym q)
-    ∙ ap (λ (z : Saying). saying_said z o) (e ∙ (λ i. say t (ek i) (eg i) p m))
+    pub feed_write_is : (p : List ℕ) (r : Result (State × ℕ) WriteError) → fed (taking s r m') f' ≡ written_with (choice d t) (still d t) p f (world s b₀ k₀ q₀) → took x u l ≡ left_said count_values (write_says (state_of v) r) v o → feeding (whole x u l b k q) f' ≡ feed_said count_values (written_with (choice (selector_of j) t) (still (selector_of j) t) p f (world (state_of v) b₀ k₀ q₀)) v o
+    feed_write_is p r e g = ap (λ (y : Whole). feeding y f') (left_is _ g) ∙ ap (λ (z : Fed ℕ). feed_said count_values z v o) (rw (es, ed) at e)
 
 -- Where document 01 has a call change nothing, or one thing alone, every other number of the state stays as it stood, in plain form or not.
 module _ (a b c d e f g h i k : ℕ) (m : List ℕ) (l : e ≤ length m) where
@@ -156,7 +100,7 @@ call_one w r q o p e f = let g : call r o ≡ call q p = e ∙ sym f in (ap (λ 
 pub listing_one : (s m o : List ℕ) (r q : ℕ) (a b u v : List ℕ) → Listing s m o r a u → Listing s m o q b v → (r ≡ q) × ((a ≡ b) × (u ≡ v))
 listing_one s m o r q a b u v x y =
     let e = one_reading s m x.listed y.listed a b x.reads y.reads in
-    let f = call_one (said count_values (listing x.listed) o) r q u v x.says (y.says ∙ ap (λ (z : Listed). said count_values (listing z) o) (sym e.0)) in
+    let f = call_one (said count_values (listing x.listed) o) r q u v x.says (y.says ∙ ap (λ (z : Result ℕ ListError). said count_values (listing z) o) (sym e.0)) in
     (f.0, (e.1, f.1))
 
 pub turn_one : (w : Turn) (r q : ℕ) (v u m n : List ℕ) → turn r v m ≡ w → turn q u n ≡ w → (r ≡ q) × ((v ≡ u) × (m ≡ n))

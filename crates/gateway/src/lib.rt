@@ -20,13 +20,14 @@ ghost use Rattle.writer.specs.Writer.{say};
 ghost use Rattle.numbers.specs.Numbers.{selector_of, kind_of, answer_of, slot_of, queue_of, state_of, with_end, with_slot, with_queue, laid, answer_values};
 ghost use Rattle.gateway.specs.Gateway.{call, said, count_values, Listing, part_values, reset_said, turn, signal_said, put_said, read_values, took, take_said, left_said, whole, whole_said, no_values, feeding, feed_said, given_as, spoken, saying_said};
 
+use answers::DigestError;
 use convert::ConvertError;
 use ingress::{AdvanceError, WriteError};
-use lists::Listed;
 use numbers::{NUMBERS, OUT};
 use queue::{PutError, Queue, TakeError};
 use slot::{Looked, ResetError, Slot, SlotError};
 use table::TableError;
+use turn::{Memories, State};
 use writer::SayError;
 
 // What a look or a take answers first: whether there was something.
@@ -75,11 +76,7 @@ pub extern "C" fn wx_digest(digester: u32, table: &[u8], input: &[u8], out: &mut
 fn fitted(s: &[u8], place: usize, len: usize) -> usize
     ensures { result ≡ part_at s.now place len }
 {
-    let size = s.len();
-    if size < len {
-        return 0;
-    }
-    if size - len < place {
+    if s.len() < len || s.len() - len < place {
         return 0;
     }
     place
@@ -130,20 +127,19 @@ pub extern "C" fn wx_slot_lookup(state: &[u64; NUMBERS], mem: &[u8], out: &mut [
     ensures { call result out.new ≡ said read_values (was_read (slot_of state.now) mem.now) out.old }
 {
     match numbers::slot_of(state).lookup(mem) {
-        Looked::Signalled(x) => {
-            let held = x.held;
+        Ok(Looked::Signalled(x)) => {
             out[0] = THERE;
-            out[1] = numbers::held_number(held);
+            out[1] = numbers::held_number(x.held);
             out[2] = x.number as u64;
             out[3] = x.len as u64;
             out[4] = x.serial as u64;
             0
         }
-        Looked::Nothing(_) => {
+        Ok(Looked::Nothing(_)) => {
             out[0] = NOTHING;
             0
         }
-        Looked::BadLength => 3,
+        Err(SlotError::BadLength) => 3,
     }
 }
 
@@ -291,14 +287,17 @@ pub extern "C" fn wx_ingress_advance(
     ensures { whole result state.new out.new buf.new slot_mem.new queue_mem.new ≡ whole_said no_values (advanced (choice (selector_of digester) table.now) commit (world (state_of state.old) buf.old slot_mem.old queue_mem.old)) state.old out.old }
 {
     let chosen = numbers::selector_of(digester);
+    let mut memories = Memories {
+        buf,
+        slot: slot_mem,
+        queue: queue_mem,
+    };
     let what = ingress::advance(
         numbers::state_of(state),
         commit,
         chosen,
         table,
-        buf,
-        slot_mem,
-        queue_mem,
+        &mut memories,
     );
     lay_advanced(state, out, what)
 }
@@ -342,14 +341,17 @@ pub extern "C" fn wx_ingress_write(
     ensures { whole result state.new out.new buf.new slot_mem.new queue_mem.new ≡ whole_said count_values (written (choice (selector_of digester) table.now) piece.now (world (state_of state.old) buf.old slot_mem.old queue_mem.old)) state.old out.old }
 {
     let chosen = numbers::selector_of(digester);
+    let mut memories = Memories {
+        buf,
+        slot: slot_mem,
+        queue: queue_mem,
+    };
     let what = ingress::write(
         numbers::state_of(state),
         piece,
         chosen,
         table,
-        buf,
-        slot_mem,
-        queue_mem,
+        &mut memories,
     );
     lay_written(state, out, what)
 }
@@ -371,15 +373,18 @@ pub extern "C" fn wx_feed_advance(
     ensures { feeding (whole result state.new out.new buf.new slot_mem.new queue_mem.new) findings.new ≡ feed_said no_values (advanced_with (choice (selector_of digester) table.now) (still (selector_of digester) table.now) commit findings.old (world (state_of state.old) buf.old slot_mem.old queue_mem.old)) state.old out.old }
 {
     let chosen = numbers::selector_of(digester);
+    let mut memories = Memories {
+        buf,
+        slot: slot_mem,
+        queue: queue_mem,
+    };
     let what = feed::advance(
         numbers::state_of(state),
         commit,
         chosen,
         table,
         findings,
-        buf,
-        slot_mem,
-        queue_mem,
+        &mut memories,
     );
     lay_advanced(state, out, what)
 }
@@ -400,15 +405,18 @@ pub extern "C" fn wx_feed_write(
     ensures { feeding (whole result state.new out.new buf.new slot_mem.new queue_mem.new) findings.new ≡ feed_said count_values (written_with (choice (selector_of digester) table.now) (still (selector_of digester) table.now) piece.now findings.old (world (state_of state.old) buf.old slot_mem.old queue_mem.old)) state.old out.old }
 {
     let chosen = numbers::selector_of(digester);
+    let mut memories = Memories {
+        buf,
+        slot: slot_mem,
+        queue: queue_mem,
+    };
     let what = feed::write(
         numbers::state_of(state),
         piece,
         chosen,
         table,
         findings,
-        buf,
-        slot_mem,
-        queue_mem,
+        &mut memories,
     );
     lay_written(state, out, what)
 }
@@ -423,7 +431,7 @@ pub extern "C" fn wx_findings_start(
     ensures { findings.new ≡ numbers_of (findings_of (take (state_of state.now).end buf.now)) }
 {
     let s = numbers::state_of(state);
-    let end = text::fitting(s.end, buf.len());
+    let end = s.end.min(buf.len());
     findings::lay(findings, findings::start(&buf[..end]));
 }
 
@@ -448,25 +456,15 @@ pub extern "C" fn wx_list_read(
     ensures { Listing payload.now elements.old out.old result elements.new out.new }
 {
     match lists::read(payload, elements) {
-        Listed::Elements(n) => {
+        Ok(n) => {
             out[0] = n as u64;
             0
         }
-        Listed::Refused(k, p) => {
-            out[0] = p as u64;
-            k
+        Err(why) => {
+            out[0] = why.place() as u64;
+            why.number()
         }
     }
-}
-
-// The number that goes along with a kind, or none.
-fn number_given(numbered: bool, number: u32) -> Option<u32>
-    ensures { result ≡ given_as numbered number }
-{
-    if numbered {
-        return Some(number);
-    }
-    None
 }
 
 // Writes an answer as a modem would (R-12), of the kind of that number, with the number where one is given. Answers how many bytes stand at the output memory's front;
@@ -484,7 +482,7 @@ pub extern "C" fn wx_say(
     ensures { spoken (call result out.new) output.new ≡ saying_said (say table.now (kind_of kind) (given_as numbered number) payload.now output.old) out.old }
 {
     let asked = numbers::kind_of(kind as u64);
-    let given = number_given(numbered, number);
+    let given = numbered.then_some(number);
     match writer::say(table, asked, given, payload, output) {
         Ok(n) => {
             out[0] = n as u64;

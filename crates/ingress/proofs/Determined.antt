@@ -42,7 +42,7 @@ ran_back (Err e) = refl
 -- behind selector, table and state: the buffer, the slot's memory, the queue's memory
 pub run_one : Alike calls.run.Reads.Post (λ κs x y s t. (x ≡ y) × SameMemories s.1.1.1.0.now t.1.1.1.0.now)
 run_one κs a x y s t h g =
-    let e = determined h g in
+    let e = determined h.0 g.0 in
     (sym (ran_back x) ∙ ap (λ (z : After (Unit {0})). ran_of z.said z.left.state) e ∙ ran_back y, same_memories _ _ e)
 
 -- behind state, commit or piece, selector and table: the same

@@ -5,7 +5,7 @@
 
 ghost use Rattle.std.specs.Prelude.{◌≡◌, ◌≤◌, length, take};
 ghost use Rattle.selector.specs.Selector.{choice};
-ghost use Rattle.turn.specs.Turn.{lent};
+ghost use Rattle.turn.specs.Turn.{lent, SamePlaces};
 ghost use Rattle.ingress.specs.declared.AdvanceError.TheVariants as advances;
 ghost use Rattle.ingress.specs.declared.WriteError.TheVariants as takes;
 ghost use Rattle.ingress.specs.Ingress.{run, ran, is_sound, table_error, refusal, judged, advance_error, advanced, result_of, write_once, writing, write_on, write_error, written, taking, cleared};
@@ -28,7 +28,8 @@ pub fn run(
     state: State,
     memories: &mut Memories<'_>,
 ) -> Result<State, RunError>
-    ensures { ran result memories.new ≡ run (choice selector table.now) (lent state memories.old) }
+    ensures is { ran result memories.new ≡ run (choice selector table.now) (lent state memories.old) }
+    ensures places { SamePlaces memories.old memories.new }
 {
     let mut s = state;
     while 0 < s.end {
@@ -136,6 +137,7 @@ pub fn advance(
     ensures is { result_of state result memories.new ≡ advanced (choice selector table.now) commit (lent state memories.old) }
     ensures keeps { Keeps (choice selector table.now) (lent state memories.old) (committed_bytes (lent state memories.old) commit) (result_of state result memories.new) }
     ensures nothing_left { NothingLeft (choice selector table.now) (result_of state result memories.new) }
+    ensures places { SamePlaces memories.old memories.new }
 {
     judge(selector, state, table, memories)?;
     let end = state.end;
@@ -165,7 +167,8 @@ fn write_once(
     memories: &mut Memories<'_>,
 ) -> Result<(State, usize), CopyError>
     requires { state.end ≤ length memories.old.buf.now }
-    ensures { writing result memories.new ≡ write_once (choice selector table.now) bytes.now (lent state memories.old) }
+    ensures is { writing result memories.new ≡ write_once (choice selector table.now) bytes.now (lent state memories.old) }
+    ensures places { SamePlaces memories.old memories.new }
 {
     let end = state.end;
     let n = bytes.len().min(memories.buf.len() - end);
@@ -192,7 +195,8 @@ fn write_on(
     memories: &mut Memories<'_>,
 ) -> Result<(State, usize), CopyError>
     requires { state.end ≤ length memories.old.buf.now }
-    ensures { writing result memories.new ≡ write_on (choice selector table.now) piece.now 0 (lent state memories.old) }
+    ensures is { writing result memories.new ≡ write_on (choice selector table.now) piece.now 0 (lent state memories.old) }
+    ensures places { SamePlaces memories.old memories.new }
 {
     let mut s = state;
     let mut taken = 0;
@@ -257,6 +261,7 @@ pub fn write(
     ensures is { taking state result memories.new ≡ written (choice selector table.now) piece.now (lent state memories.old) }
     ensures keeps { Keeps (choice selector table.now) (lent state memories.old) (take (took_of (taking state result memories.new).said) piece.now) (taking state result memories.new) }
     ensures nothing_left { NothingAfter (choice selector table.now) (taking state result memories.new) }
+    ensures places { SamePlaces memories.old memories.new }
 {
     judge(selector, state, table, memories)?;
     Ok(write_on(selector, table, state, piece, memories)?)

@@ -22,7 +22,7 @@ module _ (s : State) (m : Memories) where
 -- behind selector, table and state: the buffer, the slot's memory, the queue's memory
 pub step_one : Alike calls.step.Reads.Post (λ κs x y s t. let m = s.1.1.1.0.now in let n = t.1.1.1.0.now in (x ≡ y) × ((m.buf.now ≡ n.buf.now) × ((m.slot.now ≡ n.slot.now) × (m.queue.now ≡ n.queue.now))))
 step_one κs a x y s t h g =
-    let e = determined h g in
+    let e = determined h.0 g.0 in
     let k = stepped_back a.1.1.0 s.1.1.1.0.now x in
     let l = stepped_back a.1.1.0 t.1.1.1.0.now y in (
       sym k.0 ∙ ap stepped_of e ∙ l.0,

@@ -13,8 +13,9 @@ use Rattle.answers.specs.Answer.{is_notice, carried}
 use Rattle.answers.specs.declared.Answer.{Answer}
 use Rattle.selector.specs.Selector.{Choice}
 use Rattle.queue.specs.Queue.{ours, put_into}
+use Rattle.turn.specs.declared.Memories.{Memories}
 use Rattle.turn.specs.declared.State.{State}
-use Rattle.turn.specs.Turn.{with_end, to_queue, deliver, delivery, World, world, held, says, carried_of, delivering, Step, went, stuck, onward, once}
+use Rattle.turn.specs.Turn.{SamePlaces, with_end, to_queue, deliver, delivery, World, world, held, says, carried_of, delivering, Step, went, stuck, onward, once}
 use Rattle.turn.specs.Says.{held_long, held_is, says_is, says_within, says_byte}
 
 -- A notice goes to the queue.
@@ -106,3 +107,10 @@ module _ (c : Choice) (w : World) where
   pub once_long : length (left_by_lem (once c w)).buf ≡ length w.buf
   unfolding once onward
   once_long = ways (λ s. length (left_by_lem s).buf ≡ length w.buf) (delivering c w).waits (λ q. refl) (λ q. moved_length w.buf (says c w).consumed (length (held w)))
+
+-- the memories lent once more, and on
+pub places_same : (m : Memories) → SamePlaces m m
+places_same m = (refl, (refl, refl))
+
+pub places_more : (m n k : Memories) → SamePlaces m n → SamePlaces n k → SamePlaces m k
+places_more m n k a b = (a.0 ∙ b.0, (a.1.0 ∙ b.1.0, a.1.1 ∙ b.1.1))

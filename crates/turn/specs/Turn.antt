@@ -1,5 +1,5 @@
 -- One turn of the ingress in document 01's words: digest what is in the buffer, deliver, move the rest to the front.
-use Rattle.std.specs.Prelude.{Option, Some, None, Bool, true, false, List, ℕ, ◌-◌, length, take, if◌then◌else◌}
+use Rattle.std.specs.Prelude.{◌≡◌, Option, Some, None, Bool, true, false, List, ℕ, ◌-◌, length, take, if◌then◌else◌}
 use Rattle.text.specs.Text.{part_of}
 use Rattle.moves.specs.Moves.{moved}
 use Rattle.outcome.specs.Outcome.{Outcome, answered, refused}
@@ -70,6 +70,10 @@ world s b m n = record { state = s; buf = b; slot_memory = m; queue_memory = n }
 -- a state with the memories that are lent
 abbrev pub lent : State → Memories → World
 lent s m = world s m.buf.now m.slot.now m.queue.now
+
+-- each memory is the one that was lent
+abbrev pub SamePlaces : Memories → Memories → Type 0
+SamePlaces m n = (m.buf.ghost_name ≡ n.buf.ghost_name) × ((m.slot.ghost_name ≡ n.slot.ghost_name) × (m.queue.ghost_name ≡ n.queue.ghost_name))
 
 abbrev pub with_state : World → State → World
 with_state w s = world s w.buf w.slot_memory w.queue_memory

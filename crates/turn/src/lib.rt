@@ -6,7 +6,7 @@
 ghost use Rattle.std.specs.Prelude.{◌≡◌, true, ◌<◌, take};
 ghost use Rattle.answers.specs.Answer.{is_notice};
 ghost use Rattle.selector.specs.Selector.{choice};
-ghost use Rattle.turn.specs.Turn.{deliver, delivery, lent, once, stepped};
+ghost use Rattle.turn.specs.Turn.{deliver, delivery, lent, SamePlaces, once, stepped};
 
 use answers::Answer;
 use queue::Queue;
@@ -65,7 +65,8 @@ pub fn step(
     state: State,
     memories: &mut Memories<'_>,
 ) -> Option<(State, usize)>
-    ensures { stepped state result memories.new ≡ once (choice selector table.now) (lent state memories.old) }
+    ensures is { stepped state result memories.new ≡ once (choice selector table.now) (lent state memories.old) }
+    ensures places { SamePlaces memories.old memories.new }
 {
     let buf = &mut *memories.buf;
     let slot = &mut *memories.slot;

@@ -1,14 +1,10 @@
 -- `fitted` meets its contract.
 use Rattle.gateway.specs.Laws.{fits_not, fits_there}
-use native.Mathlib.Omega.{arith}
+use Rattle.std.proofs.Common.{arith}
 use Rattle.gateway.proofs.fitted.Goals as goal
 
-pub returns-then-size-len : goal.returns-then-size-len
-returns-then-size-len c =
-    fits_not c.args.s.now c.args.place c.args.len (omega arith)
-
-pub returns-then-size-len-2 : goal.returns-then-size-len-2
-returns-then-size-len-2 c =
+pub returns-then-s-len : goal.returns-then-s-len
+returns-then-s-len c =
     fits_not c.args.s.now c.args.place c.args.len (omega arith)
 
 pub returns : goal.returns
