@@ -1,44 +1,28 @@
 -- The ways out of the exports, each with what led there.
-use Rattle.std.specs.Prelude.{Option, None, Result, ◌≡◌, refl, true, false, List, [], ◌∷◌, ℕ, ◌+◌, ◌≤◌, ◌<◌, min, length, take, leb}
-use Rattle.std.proofs.Common.{sym, ap, ◌∙◌, subst, le-leb}
+use Rattle.std.specs.Prelude.{Result, ◌≡◌, refl, false, List, [], ◌∷◌, ℕ, ◌+◌, ◌≤◌, ◌<◌, length, leb}
+use Rattle.std.proofs.Common.{sym, ap, ◌∙◌, le-leb}
 use Rattle.std.proofs.lemmas.Bool.{lt-leb}
 use Rattle.text.specs.Text.{part_of, part_at}
 use Rattle.outcome.specs.Outcome.{Outcome}
 use Rattle.outcome.specs.Laws.{ways}
-use Rattle.answers.specs.declared.Kind.{Kind}
-use Rattle.answers.specs.declared.Answer.{Answer}
-use Rattle.selector.specs.Selector.{choice, digest}
+use Rattle.selector.specs.Selector.{choice}
 use Rattle.selector.specs.declared.Selector.{Selector}
-use Rattle.findings.specs.Findings.{findings_of, numbers_of}
-use Rattle.findings.specs.declared.Findings.{Findings}
 use Rattle.quiet.specs.Quiet.{still}
-use Rattle.lists.specs.Grammar.{Reading}
 use Rattle.lists.specs.Exactly.{one_reading}
 use Rattle.lists.specs.declared.ListError.{ListError}
 use Rattle.slot.specs.Slot as slots
 use Rattle.slot.specs.Laws as slot_laws
 use Rattle.slot.specs.declared.Slot.{Slot}
-use Rattle.slot.specs.declared.SlotError.{SlotError}
-use Rattle.slot.specs.declared.ResetError.{ResetError}
-use Rattle.queue.specs.Queue.{Got, ours}
-use Rattle.queue.specs.Queue as queues
-use Rattle.queue.specs.declared.Notice.{Notice}
-use Rattle.queue.specs.declared.Queue.{Queue}
-use Rattle.queue.specs.declared.TakeError.{TakeError}
 use Rattle.turn.specs.Turn.{world}
-use Rattle.turn.specs.Says.{held_is}
 use Rattle.ingress.specs.Ingress.{After, advance_says, advanced, result_of, write_says, written, taking}
 use Rattle.turn.specs.declared.Memories.{Memories}
 use Rattle.turn.specs.declared.State.{State}
 use Rattle.ingress.specs.declared.AdvanceError.{AdvanceError}
 use Rattle.ingress.specs.declared.WriteError.{WriteError}
 use Rattle.feed.specs.Feed.{Fed, fed, advanced_with, written_with}
-use Rattle.writer.specs.Writer.{Saying, saying, say}
-use Rattle.writer.specs.Writer as writers
-use Rattle.writer.specs.declared.SayError.{SayError}
-use Rattle.numbers.specs.Numbers.{selector_of, word, held_number, answer_of, slot_of, queue_of, state_of, with_slot, with_queue, laid}
+use Rattle.numbers.specs.Numbers.{selector_of, word, answer_of, slot_of, state_of, laid}
 use Rattle.numbers.specs.Laws.{ten, slot_stays, freed_stays}
-use Rattle.gateway.specs.Gateway.{number_of, values_of, Call, call, said, listing, Listing, part_values, numbers_by, reset_said, Turn, turn, signal_said, put_said, read_values, got_values, with_got, Take, took, take_said, Whole, whole, left_said, whole_said, count_values, no_values, Feeding, feeding, feed_said, Spoken, spoken, saying_said}
+use Rattle.gateway.specs.Gateway.{Call, call, said, listing, Listing, part_values, reset_said, Turn, turn, signal_said, Take, took, Whole, whole, left_said, whole_said, count_values, no_values, Feeding, feeding, feed_said, Spoken, spoken}
 
 -- where a part of the memory s begins
 module _ (s : List ℕ) (place len : ℕ) where

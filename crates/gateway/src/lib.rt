@@ -250,7 +250,11 @@ pub extern "C" fn wx_queue_convert(
 }
 
 // What an advance leaves of the state's numbers, and its number. It is a function of its own since the three memories would be carried along each way out.
-fn lay_advanced(state: &mut [u64; NUMBERS], out: &mut [u64; OUT], what: Result<State, AdvanceError>) -> u32
+fn lay_advanced(
+    state: &mut [u64; NUMBERS],
+    out: &mut [u64; OUT],
+    what: Result<State, AdvanceError>,
+) -> u32
     ensures { took result state.new out.new ≡ left_said no_values (advance_says (state_of state.old) what) state.old out.old }
 {
     match what {
@@ -303,7 +307,11 @@ pub extern "C" fn wx_ingress_advance(
 }
 
 // The same of a write, with the bytes that it took.
-fn lay_written(state: &mut [u64; NUMBERS], out: &mut [u64; OUT], what: Result<(State, usize), WriteError>) -> u32
+fn lay_written(
+    state: &mut [u64; NUMBERS],
+    out: &mut [u64; OUT],
+    what: Result<(State, usize), WriteError>,
+) -> u32
     ensures { took result state.new out.new ≡ left_said count_values (write_says (state_of state.old) what) state.old out.old }
 {
     match what {

@@ -19,8 +19,8 @@ loop-s-smaller c =
 
 pub loop-s-preserved : goal.loop-s-preserved
 loop-s-preserved c = (
-    turn_on (choice c.args.selector c.args.table.now) _ (lent c.loop-s.s c.loop-s.memories) c.loop-s.invariant.0 (omega arith) _ _ _ c.step.ensures.is _ _ c.in-Some.is (λ z. omega arith),
-    places_more c.args.memories.now c.loop-s.memories c.step.new.memories c.loop-s.invariant.1 c.step.ensures.places,
+  turn_on (choice c.args.selector c.args.table.now) _ (lent c.loop-s.s c.loop-s.memories) c.loop-s.invariant.0 (omega arith) _ _ _ c.step.ensures.is _ _ c.in-Some.is (λ z. omega arith),
+  places_more c.args.memories.now c.loop-s.memories c.step.new.memories c.loop-s.invariant.1 c.step.ensures.places,
 )
 
 pub returns-in_default-clause-places : goal.returns-in_default-clause-places

@@ -21,8 +21,8 @@ loop-next-smaller c =
 
 pub loop-next-preserved : goal.loop-next-preserved
 loop-next-preserved c = (
-    on_again (choice c.args.selector c.args.table.now) c.args.piece.now (lent c.args.state c.args.memories.now) c.loop-next.taken (lent c.loop-next.s c.loop-next.memories) c.loop-next.invariant.0 _ (rest c.args.piece.now c.loop-next.taken) _ c.write_once.new.memories c.write_once.ensures.is _ _ c.in-Ok.is c.if-more-eq0.false,
-    places_more c.args.memories.now c.loop-next.memories c.write_once.new.memories c.loop-next.invariant.1 c.write_once.ensures.places,
+  on_again (choice c.args.selector c.args.table.now) c.args.piece.now (lent c.args.state c.args.memories.now) c.loop-next.taken (lent c.loop-next.s c.loop-next.memories) c.loop-next.invariant.0 _ (rest c.args.piece.now c.loop-next.taken) _ c.write_once.new.memories c.write_once.ensures.is _ _ c.in-Ok.is c.if-more-eq0.false,
+  places_more c.args.memories.now c.loop-next.memories c.write_once.new.memories c.loop-next.invariant.1 c.write_once.ensures.places,
 )
 
 pub overflow_add-result : goal.overflow_add-result
