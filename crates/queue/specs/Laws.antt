@@ -85,6 +85,12 @@ ours_sound = record { marked = refl; holds = λ n. refl; back = λ n h. omega ar
 pub older_sound : Sound older
 older_sound = record { marked = refl; holds = λ n. refl; back = λ n h. refl; fits = omega arith }
 
+pub ours_small : ours.size ≤ 4096
+ours_small = omega arith
+
+pub older_small : older.size ≤ 4096
+older_small = omega arith
+
 -- a record ends where the next begins, or before, and one below the capacity lies in the memory
 module _ (g : Geometry) where
   pub size_next : (a b : ℕ) → a < b → g.size * a + g.size ≤ g.size * b

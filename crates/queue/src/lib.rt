@@ -4,12 +4,19 @@
 // The queue is a struct by value beside the memory; a refusal changes neither.
 #![tactic(auto)]
 
-ghost use Rattle.std.specs.Prelude.{◌≡◌, refl, ℕ, List, ◌+◌, ◌≤◌, ◌<◌, length};
+ghost use Rattle.std.specs.Prelude.{◌≡◌, refl, ℕ, List, ◌+◌, ◌≤◌, ◌<◌, length, drop};
 ghost use Rattle.queue.specs.Queue.{Geometry, Sound, ours, older, capacity_of, start_in, in_bounds, ring_place, new_queue, lost_one, after, recorded, put_into, outcome, length_at, notice_in, taken, taking};
-ghost use Rattle.queue.specs.Laws.{ours_sound, older_sound};
+ghost use Rattle.queue.specs.Laws.{ours_sound, older_sound, ours_small, older_small};
 
 // How many records there are at most.
 const MOST: usize = 16;
+
+// What lies in the memory from `base` on; past its end nothing.
+fn behind(mem: &[u8], base: usize) -> &[u8]
+    ensures { result.now ≡ drop base mem.now }
+{
+    &mem[base.min(mem.len())..]
+}
 
 // How records lie in a memory, as `form` says it.
 pub trait Form {
@@ -32,9 +39,8 @@ pub trait Form {
 
     ghost LONGEST: { ℕ };
 
-    // The payload's length in the head at `base`.
+    // The payload's length in the head at `base`; a byte that isn't there is 0.
     fn length_at(mem: &[u8], base: usize) -> usize
-        requires { base + form.size ≤ length mem.now }
         ensures { result ≡ length_at form mem.now base };
 
     ghost record_is: { RECORD ≡ form.size };
@@ -48,6 +54,8 @@ pub trait Form {
     ghost most_is: { form.most ≡ 16 };
 
     ghost sound: { Sound form };
+
+    ghost small: { form.size ≤ 4096 };
 }
 
 // This crate's own (R-9): two bytes are the payload's length, the high one first.
@@ -79,7 +87,8 @@ impl Form for Ours {
     ghost LONGEST = { 1024 };
 
     fn length_at(mem: &[u8], base: usize) -> usize {
-        u16::from_be_bytes([mem[base + 3], mem[base + 4]]) as usize
+        let head = behind(mem, base);
+        u16::from_be_bytes([text::byte_at(head, 3), text::byte_at(head, 4)]) as usize
     }
 
     ghost record_is = { refl };
@@ -93,6 +102,8 @@ impl Form for Ours {
     ghost most_is = { refl };
 
     ghost sound = { ours_sound };
+
+    ghost small = { ours_small };
 }
 
 impl Form for Older {
@@ -115,7 +126,7 @@ impl Form for Older {
     ghost LONGEST = { 128 };
 
     fn length_at(mem: &[u8], base: usize) -> usize {
-        mem[base + 3] as usize
+        text::byte_at(behind(mem, base), 3) as usize
     }
 
     ghost record_is = { refl };
@@ -129,6 +140,8 @@ impl Form for Older {
     ghost most_is = { refl };
 
     ghost sound = { older_sound };
+
+    ghost small = { older_small };
 }
 
 // The ring: where it starts, how many records it holds, and how many notices were lost.
@@ -210,7 +223,6 @@ pub fn write_record(mem: &mut [u8], base: usize, number: u8, p: &[u8])
 // The notice in the record at `base`; none where its mark or its length is wrong.
 #[tactic(auto, unfolding(crate::specs::Queue::record_good))]
 pub fn notice_at<F: Form>(mem: &[u8], base: usize) -> Option<Notice>
-    requires { base + F.form.size ≤ length mem.now }
     ensures { result ≡ notice_in F.form mem.now base }
 {
     if !text::matches_at(mem, base, &F::MARK) {
@@ -221,7 +233,7 @@ pub fn notice_at<F: Form>(mem: &[u8], base: usize) -> Option<Notice>
         return None;
     }
     Some(Notice {
-        number: mem[base + 2],
+        number: text::byte_at(behind(mem, base), 2),
         place: base + F::HEAD,
         len,
     })

@@ -9,10 +9,6 @@ overflow_mul-base c = record { fits = omega (arith, c.requires.fitted, start_wit
 pub loop-init : goal.loop-init
 loop-init c = seen_none c.args.mem.now c.args.queue c.args.cap c.requires.fitted c.requires.bounded _ (omega arith)
 
-pub notice_at-requires : goal.notice_at-requires
-notice_at-requires c =
-    (walk_in c.args.mem.now c.args.queue c.args.cap c.requires.fitted c.requires.bounded _ _ c.loop.invariant.here (omega arith)).1
-
 pub returns-then-is_none : goal.returns-then-is_none
 returns-then-is_none c =
     seen_bad c.args.mem.now c.args.queue c.args.cap c.requires.fitted c.requires.bounded _ _ (omega arith) c.loop.invariant (good_read _ _ _ c.notice_at.ensures _ c.if-is_none.ensures)

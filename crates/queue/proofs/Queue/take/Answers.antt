@@ -8,10 +8,6 @@ pub overflow_mul-self : goal.overflow_mul-self
 overflow_mul-self c =
     record { fits = omega (arith, record_room ours c.args.self (length c.args.mem.now) _ c.capacity-cap.ensures (sym c.is_bounded.ensures ∙ c.if-not-is_bounded.false) c.if-self-eq0.false) }
 
-pub notice_at-requires : goal.notice_at-requires
-notice_at-requires c =
-    record_room ours c.args.self (length c.args.mem.now) _ c.capacity-cap.ensures (sym c.is_bounded.ensures ∙ c.if-not-is_bounded.false) c.if-self-eq0.false
-
 pub ring-requires : goal.ring-requires
 ring-requires c =
     let b = sym c.is_bounded.ensures ∙ c.if-not-is_bounded.false in
