@@ -26,7 +26,7 @@ pub struct Occurrence {
     pub place: usize,
 }
 
-// The rules of which only the first occurrence counts.
+// The rules of which only the first occurrence counts. They are an enum, and not a closure each, since what is known of the hints is said over them (`Known`).
 #[derive(Clone, Copy)]
 pub enum First {
     Greater,
@@ -132,6 +132,7 @@ fn prompt_at(s: &[u8], place: usize, byte: u8) -> Option<Answer>
 }
 
 // Rule 5: a numeric error, its head at its first place; with its digits as they came (R-2).
+// Its kind comes along with the head: each caller knows both, so that neither is looked up.
 #[tactic(auto, unfolding(crate::specs::Rules::numeric_tried), using(crate::specs::Laws::numeric_behind, text::specs::Laws::stands_fits, lines::specs::Laws::fixed_some))]
 fn numeric_at(s: &[u8], place: usize, kind: Kind, head: Fixed) -> Option<Answer>
     requires { (kind ≡ kind_of head) × (stands (fixed_text head) s.now place ≡ true) }

@@ -60,7 +60,7 @@ fn one_notice(s: &[u8], e: usize, ending: usize, x: &[u8], n: u32) -> Option<Ans
     }
 }
 
-// Rule 2: notices, in table order. The walk sees on its way whether there are other records.
+// Rule 2: notices, in table order. The walk sees on its way whether there are other records: where the last notice ends, and its number, tell whether one lies between.
 fn notices(table: &[u8], s: &[u8], e: usize) -> ControlFlow<Answer, bool>
     requires { e ≤ length s.now }
     ensures is { noticed_tried result ≡ notices (entries mark.Notice table.now 0 0) s.now e }
@@ -170,7 +170,7 @@ fn successes(
     }
 }
 
-// Rule 5: a fixed line, by its first place.
+// Rule 5: a fixed line, by its first place. Its kind comes along with it: the caller knows both, so that neither is looked up.
 #[tactic(auto, unfolding(items::specs::Rules::line_tried), using(places::specs::Laws::line_inside))]
 fn line_tried(s: &[u8], e: usize, lines: Lines, kind: Kind, line: Fixed) -> Option<Answer>
     requires { kind ≡ kind_of line }
