@@ -10,6 +10,10 @@ use Rattle.turn.specs.Turn.{Step, went, stuck, stepped}
 use Rattle.turn.specs.Laws.{left_by_lem}
 use Rattle.turn.proofs as calls
 
+-- The bytes held; where they lie is the caller's buffer.
+pub held_one : Alike calls.Memories.held.Reads.Post (λ κs x y s t. x.now ≡ y.now)
+held_one κs a x y s t = determined
+
 abbrev stepped_of : Step → Option (State × ℕ)
 stepped_of (went w n) = Some (w.state, n)
 stepped_of (stuck w) = None
