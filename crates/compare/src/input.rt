@@ -63,6 +63,5 @@ impl<S: Read> Input<S> {
 
 // Is the line a comment, or blank? One that fills the memory is too long, and may go on with anything.
 pub fn is_idle(line: &[u8]) -> bool {
-    line.starts_with(b"#")
-        || line.len() != LENGTH && text::skip(Blanks::Run, line, 0) == line.len()
+    line.starts_with(b"#") || line.len() != LENGTH && text::skip(Blanks::Run, line, 0) == line.len()
 }
