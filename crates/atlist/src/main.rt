@@ -19,7 +19,7 @@ const COLUMNS: usize = 76;
 
 const BEFORE: usize = 38;
 
-// What is to be printed: the first `at` bytes of the memory.
+// What is to be printed: the first `at` bytes of the memory, which is fixed, since there is no heap.
 #[derive(Drop)]
 struct Page {
     mem: [u8; ROOM],

@@ -9,6 +9,7 @@ use std::io;
 use std::io::Read;
 
 // Reads until buf is full or the input ends, and answers how many bytes it put at the front of buf.
+// A read fills as many places as it likes, so no range runs over them.
 pub fn read_full<R: Read>(from: &mut R, buf: &mut [u8]) -> io::Result<usize>
     ensures in_bounds { ReadsAtMost result buf.new }
     ensures bytes { IfOk result (λ n. Consumes (R.remaining from.old) (R.remaining from.new) (take n buf.new)) }

@@ -6,7 +6,7 @@ use answers::Kind;
 use fields::{LENGTH, Memory};
 use std::io;
 
-// What is gathered and not yet written: the first `at` bytes of the memory.
+// What is gathered and not yet written: the first `at` bytes of the memory, which is fixed, since there is no heap.
 #[derive(Drop)]
 pub struct Out<'a, R> {
     rt: &'a R,
