@@ -200,6 +200,7 @@ fn write_on(
 {
     let mut s = state;
     let mut taken = 0;
+    // no `for`: a turn takes as much as fits
     loop {
         match write_once(selector, table, s, &piece[taken..], memories) {
             Ok((next, more)) => {
