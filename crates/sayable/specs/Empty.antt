@@ -31,7 +31,7 @@ pub record HeardBack (k : Kind) (g : Option ℕ) (p : List ℕ) : Type 0 where
   pub found : is_found (heard_of k g p) ≡ true
   pub kind : (heard_of k g p).kind ≡ k
   pub number : gives g (heard_of k g p) ≡ true
-  pub payload : p ≡ part_of (written k g p) (heard_of k g p).place (heard_of k g p).len
+  pub payload : p ≡ part_of (written k g p) (heard_of k g p).payload.start (heard_of k g p).payload.len
   pub whole : (heard_of k g p).consumed ≡ length (written k g p)
 
 -- where nothing is skipped, what rules 2 to 5 answer is what is heard

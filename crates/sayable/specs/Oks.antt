@@ -1,6 +1,6 @@
 -- An Ok under the empty table is read back exactly with a payload as `Payload` says (`ok_back`, `payload_back`).
 -- Rests on the first OK line's deciding: what stands before it, trimmed, is the payload, and its end the consumed count.
-use Rattle.std.specs.Prelude.{Option, Some, None, Ok, ◌≡◌, refl, Bool, true, false, ℕ, zero, suc, ◌+◌, ◌-◌, ◌≤◌, ◌<◌, drop}
+use Rattle.std.specs.Prelude.{Option, Some, None, ◌≡◌, refl, Bool, true, false, ℕ, zero, suc, ◌+◌, ◌-◌, ◌≤◌, ◌<◌, drop}
 use Rattle.std.proofs.Math.Path.{sym, ap}
 use Rattle.std.proofs.Common.{◌∙◌, ⊎_elim, length-drop, take_at, length-take-le, get_or-take, get_or-drop}
 use mathlib.Core.List.{List, [], ◌∷◌, ◌++◌, append_assoc}

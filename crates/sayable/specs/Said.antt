@@ -34,7 +34,7 @@ pub record Back (t : List ℕ) (k : Kind) (g : Option ℕ) (p b : List ℕ) : Ty
   pub found : is_found answer ≡ true
   pub kind : answer.kind ≡ k
   pub number : number_of answer ≡ given g
-  pub payload : part_of b answer.place answer.len ≡ p
+  pub payload : part_of b answer.payload.start answer.payload.len ≡ p
   pub whole : answer.consumed ≡ length b
 
 -- the same bytes

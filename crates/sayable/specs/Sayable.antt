@@ -1,6 +1,6 @@
 -- What can be said under the empty table (R-12), in closed form: every code and fixed line; the prompts 62 and 64; an Ok, with a payload as `Payload` says.
 -- `Theorem` proves that this is exactly what, written out, is read back as the same kind, number and payload and consumed whole.
-use Rattle.std.specs.Prelude.{Option, Some, None, Ok, ◌≡◌, true, false, List, [], ℕ, ◌+◌, ◌-◌, ◌≤◌, ◌<◌, length, get_or}
+use Rattle.std.specs.Prelude.{Option, Some, None, ◌≡◌, true, false, List, [], ℕ, ◌+◌, ◌-◌, ◌≤◌, ◌<◌, length, get_or}
 use Rattle.text.specs.Text.{is_blank, stands}
 use Rattle.text.specs.declared.Blanks.TheVariants as blanks
 use Rattle.lines.specs.Lines.{fixed_text}

@@ -1,6 +1,6 @@
 -- Under no records whatever the digester says can be said, and has no payload, unless it is None, an Ok, unknown or not allowed (`digest_told`).
 -- Rests on the rules of items one by one, and on the retry's answer being of the same kind, number and payload's length.
-use Rattle.std.specs.Prelude.{Option, Some, None, Ok, ◌≡◌, refl, Bool, true, false, ◌&&◌, List, [], ℕ, ◌+◌, ◌≤◌, ◌<◌, length, drop, leb, ltb, if◌then◌else◌}
+use Rattle.std.specs.Prelude.{Option, Some, None, ◌≡◌, refl, Bool, true, false, ◌&&◌, List, [], ℕ, ◌+◌, ◌≤◌, ◌<◌, length, drop, leb, ltb, if◌then◌else◌}
 use Rattle.std.proofs.Math.Path.{subst}
 use Rattle.std.proofs.Common.{arith, leb-true}
 use Rattle.outcome.specs.Laws.{ways}
@@ -12,6 +12,7 @@ use Rattle.lines.specs.Lines.{fixed_text}
 use Rattle.lines.specs.declared.Digester.{Digester}
 use Rattle.lines.specs.declared.Fixed.{Fixed}
 use Rattle.lines.specs.declared.Fixed.TheVariants as fixed
+use Rattle.parser.specs.declared.Digits.{Digits}
 use Rattle.parser.specs.Parser.{is_digit, value, run_at, digits_at, line_ending, ended_run, at_found, numeric_error, prompt_from}
 use Rattle.answers.specs.declared.Kind.{Kind}
 use Rattle.answers.specs.declared.Kind.TheVariants as kind
