@@ -116,7 +116,7 @@ module _ (d : Digester) (t : List ℕ) (w v : World) (b : List ℕ) (g : Good (c
   waits_same : Waits (choice (Verbal d) t) w → Waits (choice (Verbal d) t) v
   waits_same y =
       let x = says (choice (Verbal d) t) w in
-      let p : payload_of (held v) (says (choice (Verbal d) t) v) ≡ payload_of (held w) x = ap (payload_of (held v)) same_says ∙ part_same x.place x.len inside.payload in
+      let p : payload_of (held v) (says (choice (Verbal d) t) v) ≡ payload_of (held w) x = ap (payload_of (held v)) same_says ∙ part_same x.payload.start x.payload.len inside.payload in
       record {
         passed = h;
         notice = ap (λ (z : Answer). is_notice z.kind) same_says ∙ y.notice;

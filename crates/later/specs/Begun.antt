@@ -149,7 +149,7 @@ module _ (d : Digester) (ts : List Token) (good : Texts ts) where
 
   again_further : (e : ℕ) (r : Answer) → Further (again e r)
   unfolding again shift
-  again_further e r = ways Further (is_found r) (λ q z y. omega (arith, placed_some r.len (r.place + (e + 2)) y)) (λ q z. absurd (false_true z refl))
+  again_further e r = ways Further (is_found r) (λ q z y. omega (arith, placed_some r.payload.len (r.payload.start + (e + 2)) y)) (λ q z. absurd (false_true z refl))
 
   further : (s : List ℕ) → Further (digest_in d ts s)
   unfolding after
@@ -165,23 +165,23 @@ module _ (d : Digester) (ts : List Token) (good : Texts ts) where
     unfolding tried or_else
     no_notice = rw h (others_below 0 s (skipped s) d ts)
 
-    shift_elsewhere : (r : Answer) → Further r → is_notice r.kind ≡ true → (n : ℕ) → r.len ≡ n → placed n (r.place + (skipped s + 2)) ≡ skipped s + 2 → ⊥
+    shift_elsewhere : (r : Answer) → Further r → is_notice r.kind ≡ true → (n : ℕ) → r.payload.len ≡ n → placed n (r.payload.start + (skipped s + 2)) ≡ skipped s + 2 → ⊥
     shift_elsewhere r f z zero l p = omega arith
     shift_elsewhere r f z (suc n) l p = omega (arith, f z (λ y. omega arith))
 
-    again_elsewhere : (r : Answer) → Further r → is_notice (again (skipped s) r).kind ≡ true → (again (skipped s) r).place ≡ skipped s + 2 → ⊥
+    again_elsewhere : (r : Answer) → Further r → is_notice (again (skipped s) r).kind ≡ true → (again (skipped s) r).payload.start ≡ skipped s + 2 → ⊥
     unfolding again shift
     again_elsewhere r f = go (is_found r)
       where
-        go : (b : Bool) → is_notice (if b then shift (skipped s + 2) r else nothing (skipped s)).kind ≡ true → (if b then shift (skipped s + 2) r else nothing (skipped s)).place ≡ skipped s + 2 → ⊥
-        go true z p = shift_elsewhere r f z r.len refl p
+        go : (b : Bool) → is_notice (if b then shift (skipped s + 2) r else nothing (skipped s)).kind ≡ true → (if b then shift (skipped s + 2) r else nothing (skipped s)).payload.start ≡ skipped s + 2 → ⊥
+        go true z p = shift_elsewhere r f z r.payload.len refl p
         go false z p = false_true z refl
 
-    elsewhere : is_notice (digest_in d ts s).kind ≡ true → (digest_in d ts s).place ≡ skipped s + 2 → ⊥
+    elsewhere : is_notice (digest_in d ts s).kind ≡ true → (digest_in d ts s).payload.start ≡ skipped s + 2 → ⊥
     unfolding after
     elsewhere = rw (digest_step d ts s) (go (tried d ts s (skipped s)) no_notice)
       where
-        go : (r : Option Answer) → TriedHas (Below 0) r → is_notice (after s (digest_in d ts) (skipped s) r).kind ≡ true → (after s (digest_in d ts) (skipped s) r).place ≡ skipped s + 2 → ⊥
+        go : (r : Option Answer) → TriedHas (Below 0) r → is_notice (after s (digest_in d ts) (skipped s) r).kind ≡ true → (after s (digest_in d ts) (skipped s) r).payload.start ≡ skipped s + 2 → ⊥
         go (Some a) w = λ z p. omega (arith, w z)
         go None w =
             ways (λ (a : Answer). is_notice a.kind ≡ true → a.payload.start ≡ skipped s + 2 → ⊥) (retries s (skipped s))

@@ -2,7 +2,7 @@
 -- there are no others (`final_settled`). By the input alone: with no `CS` record, where an OK line stands, the answer is one of the two (`line_settled`); where an ended
 -- notice stands at the first line start, it is that (`first_notice`).
 use Rattle.std.proofs.Math.Path.{◌≡◌, refl, ap}
-use Rattle.std.proofs.Common.{Option, Some, None, Ok, sym, ◌∙◌, ⊎_elim, arith, length-append}
+use Rattle.std.proofs.Common.{Option, Some, None, sym, ◌∙◌, ⊎_elim, arith, length-append}
 use Rattle.std.proofs.Math.Bool.{true, false}
 use Rattle.std.specs.Prelude.{Bool, ℕ, ◌+◌, ◌-◌, ◌≤◌, length, drop, ltb, if◌then◌else◌}
 use mathlib.Core.List.{List, [], ◌++◌, append-nil}
