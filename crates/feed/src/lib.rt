@@ -1,6 +1,7 @@
 // The ingress for whoever hands over few bytes at a time (R-14): the findings so far are kept beside the buffer, and each byte is looked at once for the fixed lines.
 // Where they tell that a digest would find nothing and consume nothing, nothing is digested; else it is the ingress's own.
 // Findings are sixteen numbers that the caller lends, any sixteen. No public function has a `requires`.
+// The ingress's own calls stay beside these: whoever hands over whole answers keeps no findings, and `advanced_genuine` says of both that they are one.
 #![tactic(auto)]
 
 ghost use Rattle.std.specs.Prelude.{◌≡◌, ◌≤◌, length};

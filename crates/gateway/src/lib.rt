@@ -1,7 +1,7 @@
 // Document 01's calls, R-4's reader and R-12's writer, for C and Rust: numbers and byte slices go in, the refusal's number comes out (0: not refused).
 // What a call answers stands at the front of a lent array of nine numbers, whose other numbers stay as they were.
 // Each export promises that it equals the call behind it; none has a condition on its arguments. It changes no number of the state but
-// those that the call gives another meaning.
+// those that the call gives another meaning. C has a name for each call, so exports that differ only in the call behind them stand side by side.
 #![tactic(auto)]
 
 ghost use Rattle.std.specs.Prelude.{◌≡◌, get_or, take};

@@ -220,7 +220,8 @@ fn write_on(
     }
 }
 
-// Why a write is refused: 1 to 3 leave all as it stood, 5 with the state that is left and the bytes taken.
+// Why a write is refused: 1 to 3 leave all as it stood, 5 with the state that is left and the bytes taken. What it shares with an advance is a CheckError;
+// flat, a caller matches one enum.
 #[derive(Clone, Copy)]
 pub enum WriteError {
     TooLong,
