@@ -133,14 +133,10 @@
  * All this is of one answer alone. ERROR and an Ok behind it in one piece are heard as an Ok (docs/WAITING.md has which answers nothing behind them changes).
  * bindings/c/say.c is a program that prints them.
  *
- * The stack: a digest recurses once for each CRLF at the front of what is left. It took 136 bytes of stack for each byte of the input, or of the bytes in the
- * buffer, where that is all CRLFs: 545 KiB for WX_LONGEST. No proof covers it: where the stack is too short, as for 2,048 CRLFs (4,096 bytes) on a thread with
- * 512 KiB, the program ends by SIGSEGV. Give a thread 160 bytes for each byte of the buffer, 640 KiB for WX_LONGEST (the tests run that), or lend a shorter buffer.
- * Where nothing recurses a digest took 1.2 KB, and a call with findings 2.2: give a thread 8 KB at least.
- * wx_say digests the bytes that it writes, in 4 KB of its own: it took as much more than their digest, 549 KiB for a notice of 4,092 bytes that are all CRLFs. Give a
- * thread 12 KB at least, and 640 KiB where any payload may be handed in.
- * WX_NUMERIC doesn't recurse: its stack is the same for every input, and small. wx_list_read recurses once for each element, of which there are at most WX_ELEMENTS: it
- * took 160 bytes for each, and 41 KB at most, whatever the payload.
+ * The stack, as it was measured on x86-64; no proof covers it, and where it is too short the program ends by SIGSEGV. A digest goes from level to level of the retry in
+ * a loop: it took 1.4 KB at most, on whatever input, and an advance or a write 2.2 KB, with findings or without. wx_say digests the bytes that it writes, in 4 KB of its
+ * own: 4.9 KB. WX_NUMERIC takes less than either. wx_list_read recurses once for each element, of which there are at most WX_ELEMENTS: it took 192 bytes for each, and 49
+ * KB at most, whatever the payload. Give a thread 8 KB, 12 KB where it writes answers, and 64 KB where it reads lists.
  *
  * Work, as docs/BENCHMARKS.md has it, which was counted with an older kit: a digest's grows with its input, and no faster: twice the input takes at most 2.2 times
  * the instructions (at most some 1.2 million for 4,096 bytes). An advance or write digests again all that is in the buffer, so that a stream handed over in pieces
