@@ -17,6 +17,13 @@ use Rattle.table.specs.declared.Record.{Record}
 use Rattle.parser.specs.Parser.{is_digit}
 use Rattle.pieces.specs.Pieces.{is_hex}
 use Rattle.places.specs.declared.Places.{Places}
+use Rattle.lines.specs.Lines.{connect_place}
+use Rattle.lines.specs.declared.Digester.{Digester}
+use Rattle.places.specs.Places.{line_in, FirstLines}
+use Rattle.places.specs.Laws.{connect_first}
+use Rattle.places.specs.declared.Lines.{Lines}
+use Rattle.items.specs.Rules.{first_connect}
+use Rattle.items.specs.Connect.{Least, least_connect, begun_fits}
 use Rattle.answers.specs.declared.Answer.{Answer}
 use Rattle.answers.specs.Answer.{is_notice}
 use Rattle.items.specs.Hints.{first_from, prompt_bytes, numerics, hinted, onward, firsts, all_idle}
@@ -71,6 +78,19 @@ all_idle_lem s e p h n l b q z =
 module _ (m : Mark) (t : List ℕ) (at n : ℕ) (q : Option (Record × ℕ)) (p : q ≡ next_of m t at n) (r : Record) (k : ℕ) (e : q ≡ Some (r, k)) where
   pub first_and_rest : entries m t at n ≡ entry_of (token_of t r) k ∷ entries m t (r.place + r.len) (k + 1)
   first_and_rest = (next_first m t at n q p r k e).is
+
+-- level: CONNECT's first place is at or after e, and its head fits
+module _ (s : List ℕ) (e : ℕ) (d : Digester) (x : Lines) (w : FirstLines s e x) (r : Option ℕ) (q : r ≡ connect_place d (line_in s e x)) where
+  first_is : r ≡ first_connect d s e
+  unfolding first_connect
+  first_is = q ∙ connect_first d s e x w
+
+  module _ (k : ℕ) (z : r ≡ Some k) where
+    least : Least d s e k
+    least = rw (sym first_is ∙ z) at (least_connect d s e)
+
+    pub connect_inside : (e ≤ k) × (k + 10 ≤ length s)
+    connect_inside = (least.after, begun_fits d s k least.here)
 
 -- turn: where an answer that is no notice goes
 module _ (s : State) (a : Answer) (p m n : List ℕ) (h : is_notice a.kind ≡ false) (r : Result Slot SlotError) (k : List ℕ) (e : slots.after (slots.outcome r) k ≡ signalled s.slot a p m) where
