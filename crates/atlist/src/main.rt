@@ -2,6 +2,7 @@
 // It promises only that it doesn't trip. What a payload holds is `lists::read`'s promise; how it is shown is held to tests/atlist. bin/atlist makes the status.
 #![tactic(auto)]
 
+use ink::Page;
 use lists::ListError;
 use pieces::{Element, Kind, NUMBERS};
 use std::io;
@@ -11,7 +12,7 @@ const LONGEST: usize = 65536;
 
 const INPUT: usize = 65539;
 
-// The memory that a report needs at most: the texts of strings are part of the payload, and without them an element's line has fewer than 64 bytes.
+// The memory that a report needs at most, which is fixed, since there is no heap: the texts of strings are part of the payload, and without them an element's line has fewer than 64 bytes.
 const ROOM: usize = 81920;
 
 // How many columns of a payload are shown at most, the mark's with them; and how many of those before the mark, where the payload goes on far enough behind it.
@@ -19,77 +20,64 @@ const COLUMNS: usize = 76;
 
 const BEFORE: usize = 38;
 
-// What is to be printed: the first `at` bytes of the memory, which is fixed, since there is no heap.
-#[derive(Drop)]
-struct Page {
-    mem: [u8; ROOM],
-    at: usize,
+// A number behind a text.
+fn behind(page: &mut Page<'_>, t: &[u8], n: u64) {
+    page.words(t);
+    page.decimal(n);
 }
 
-impl Page {
-    fn words(&mut self, t: &[u8]) {
-        self.at = ink::words(&mut self.mem, self.at, t);
-    }
-
-    // A number behind a text.
-    fn behind(&mut self, t: &[u8], n: u64) {
-        self.words(t);
-        self.at = ink::decimal(&mut self.mem, self.at, n);
-    }
-
-    // The value of a number or a range; the text of a string, as it stands between the quotes: escapes are left, and of an empty string nothing is shown.
-    fn value(&mut self, payload: &[u8], e: Element) {
-        match e.kind {
-            Kind::Number => self.behind(b" ", e.low),
-            Kind::Range => {
-                self.behind(b" ", e.low);
-                self.behind(b"-", e.high);
-            }
-            Kind::String => {
-                let quoted = text::part(payload, e.place, e.end.saturating_sub(e.place));
-                if let [_, inner @ .., _] = quoted
-                    && !inner.is_empty()
-                {
-                    self.words(b" ");
-                    self.words(inner);
-                }
-            }
-            Kind::Empty | Kind::List => {}
+// The value of a number or a range; the text of a string, as it stands between the quotes: escapes are left, and of an empty string nothing is shown.
+fn value(page: &mut Page<'_>, payload: &[u8], e: Element) {
+    match e.kind {
+        Kind::Number => behind(page, b" ", e.low),
+        Kind::Range => {
+            behind(page, b" ", e.low);
+            behind(page, b"-", e.high);
         }
-    }
-
-    // The line of an element.
-    fn line(&mut self, payload: &[u8], e: Element) {
-        self.behind(b"", e.place as u64);
-        self.behind(b" ", e.depth as u64);
-        self.words(name(e.kind));
-        self.value(payload, e);
-        self.words(b"\n");
-    }
-
-    // The payload, of a long one the part around the place, and under it the mark, which for the payload's end stands behind the last byte.
-    fn marked(&mut self, payload: &[u8], place: usize) {
-        let len = payload.len();
-        let from = place
-            .saturating_sub(BEFORE)
-            .min(len.saturating_sub(COLUMNS - 1));
-        let part = text::part(payload, from, len.saturating_sub(from).min(COLUMNS));
-        for b in part {
-            self.words(&[column(*b)]);
+        Kind::String => {
+            let quoted = text::part(payload, e.place, e.end.saturating_sub(e.place));
+            if let [_, inner @ .., _] = quoted
+                && !inner.is_empty()
+            {
+                page.words(b" ");
+                page.words(inner);
+            }
         }
-        self.words(b"\n");
-        let blanks = [b' '; COLUMNS];
-        self.words(text::part(&blanks, 0, place.saturating_sub(from)));
-        self.words(b"^\n");
+        Kind::Empty | Kind::List => {}
     }
+}
 
-    // A refusal: its number, its place, what it means, and the place marked.
-    fn refusal(&mut self, payload: &[u8], e: ListError) {
-        self.behind(b"refused ", e.number() as u64);
-        self.behind(b" at ", e.place() as u64);
-        self.words(meaning(e));
-        self.marked(payload, e.place());
+// The line of an element.
+fn line(page: &mut Page<'_>, payload: &[u8], e: Element) {
+    page.decimal(e.place as u64);
+    behind(page, b" ", e.depth as u64);
+    page.words(name(e.kind));
+    value(page, payload, e);
+    page.words(b"\n");
+}
+
+// The payload, of a long one the part around the place, and under it the mark, which for the payload's end stands behind the last byte.
+fn marked(page: &mut Page<'_>, payload: &[u8], place: usize) {
+    let len = payload.len();
+    let from = place
+        .saturating_sub(BEFORE)
+        .min(len.saturating_sub(COLUMNS - 1));
+    let part = text::part(payload, from, len.saturating_sub(from).min(COLUMNS));
+    for b in part {
+        page.words(&[column(*b)]);
     }
+    page.words(b"\n");
+    let blanks = [b' '; COLUMNS];
+    page.words(text::part(&blanks, 0, place.saturating_sub(from)));
+    page.words(b"^\n");
+}
+
+// A refusal: its number, its place, what it means, and the place marked.
+fn refusal(page: &mut Page<'_>, payload: &[u8], e: ListError) {
+    behind(page, b"refused ", e.number() as u64);
+    behind(page, b" at ", e.place() as u64);
+    page.words(meaning(e));
+    marked(page, payload, e.place());
 }
 
 // The input without the one line ending, LF or CRLF, that it may end in.
@@ -127,7 +115,7 @@ fn column(b: u8) -> u8 {
 }
 
 // What is printed of a payload.
-fn report(page: &mut Page, payload: &[u8]) {
+fn report(page: &mut Page<'_>, payload: &[u8]) {
     if LONGEST < payload.len() {
         page.words(b"too long\n");
         return;
@@ -136,22 +124,23 @@ fn report(page: &mut Page, payload: &[u8]) {
     match lists::read(payload, &mut elements) {
         Ok(count) => {
             for i in 0..count {
-                page.line(payload, pieces::element_at(&elements, i));
+                line(page, payload, pieces::element_at(&elements, i));
             }
-            page.behind(b"elements ", count as u64);
+            behind(page, b"elements ", count as u64);
             page.words(b"\n");
         }
-        Err(e) => page.refusal(payload, e),
+        Err(e) => refusal(page, payload, e),
     }
 }
 
 fn main(rt: HostRuntime) -> io::Result<()> {
     let mut input = [0; INPUT];
     let n = intake::read_full(&mut rt.stdin(), &mut input)?;
+    let mut mem = [0; ROOM];
     let mut page = Page {
-        mem: [0; ROOM],
+        out: &mut mem,
         at: 0,
     };
     report(&mut page, payload_of(&input[..n]));
-    rt.write_all(text::part(&page.mem, 0, page.at))
+    rt.write_all(page.text())
 }

@@ -29,6 +29,15 @@ module _ (o : List ℕ) (n : ℕ) (p : List ℕ) where
 pub ink_one : (x : Ink) (o o' : List ℕ) (n n' : ℕ) → inked o n ≡ x → inked o' n' ≡ x → (n ≡ n') × (o ≡ o')
 ink_one x o o' n n' e f = (ap (λ (y : Ink). y.at) (e ∙ sym f), ap (λ (y : Ink). y.out) (e ∙ sym f))
 
+-- what is inked has the memory's length
+pub ink_length : (o : List ℕ) (n : ℕ) (p o' : List ℕ) (n' : ℕ) → inked o' n' ≡ ink o n p → length o' ≡ length o
+unfolding ink
+ink_length o n p o' n' e = ap (λ (x : Ink). length x.out) e ∙ ways (λ (x : Ink). length x.out ≡ length o) (ltb (length o) (n + length p)) (λ q. refl) (λ q. put_length o n p)
+
+-- memory that a page held, handed back
+pub handed_back : (o o' : List ℕ) (n : ℕ) (x : Ink) → o' ≡ o → inked o n ≡ x → inked o' n ≡ x
+handed_back o o' n x e f = ap (λ (y : List ℕ). inked y n) e ∙ f
+
 -- no text
 put_nil : (o : List ℕ) (n : ℕ) → n ≤ length o → o ≡ put o n []
 put_nil o n h =

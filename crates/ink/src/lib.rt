@@ -1,25 +1,12 @@
 // Texts put into lent memory one behind the other: as they stand, in decimal, in hexadecimal. Every byte is promised.
-// Each call takes the memory and where the text begins, and answers where it ends. Where it doesn't fit nothing changes, and it ends where it begins.
-// The memory and the place stay two parameters: what each call promises, and what those promise that call it, is said of the two.
+// A page is the memory and where the text in it ends. Where a text doesn't fit nothing changes, and the page ends where it ended.
 #![tactic(auto)]
 
-ghost use Rattle.std.specs.Prelude.{◌≡◌, ◌≤◌, ◌<◌, drop};
+ghost use Rattle.std.specs.Prelude.{◌≡◌, ◌≤◌, ◌<◌, take, drop};
 ghost use Rattle.ink.specs.Ink.{inked, ink, decimal, hex_digit, hex};
 
 // The hexadecimal digits, in upper case.
 const DIGITS: &[u8; 16] = b"0123456789ABCDEF";
-
-// A text as it stands.
-#[tactic(auto, using(crate::specs::Laws::ink_over, crate::specs::Laws::ink_is))]
-pub fn words(out: &mut [u8], at: usize, text: &[u8]) -> usize
-    ensures { inked out.new result ≡ ink out.old at text.now }
-{
-    if out.len() < at || out.len() - at < text.len() {
-        return at;
-    }
-    moves::put(out, at, text);
-    at + text.len()
-}
 
 // A number's decimal digits, the last one first: they stand in d from the answer on.
 #[tactic(auto, using(crate::specs::Laws::digits_start, crate::specs::Laws::digit_last, crate::specs::Laws::digit_more, crate::specs::Laws::digits_end))]
@@ -37,16 +24,6 @@ fn digits(n: u64, d: &mut [u8; 20]) -> usize
     0
 }
 
-// A number in decimal.
-#[tactic(auto, using(crate::specs::Laws::digits_text))]
-pub fn decimal(out: &mut [u8], at: usize, n: u64) -> usize
-    ensures { inked out.new result ≡ ink out.old at (decimal n) }
-{
-    let mut d = [0; 20];
-    let k = digits(n, &mut d);
-    words(out, at, &d[k..])
-}
-
 // One hexadecimal digit.
 fn hex_digit(n: u8) -> u8
     requires { n < 16 }
@@ -55,18 +32,58 @@ fn hex_digit(n: u8) -> u8
     DIGITS[n as usize]
 }
 
-// Bytes in hexadecimal, two digits each.
-#[tactic(auto, using(crate::specs::Laws::hex_over, crate::specs::Laws::hex_start))]
-pub fn hex(out: &mut [u8], at: usize, p: &[u8]) -> usize
-    ensures { inked out.new result ≡ ink out.old at (hex p.now) }
-{
-    if out.len() < at || (out.len() - at) / 2 < p.len() {
-        return at;
+// Lent memory, and where the text in it ends.
+#[derive(Drop)]
+pub struct Page<'a> {
+    pub out: &'a mut [u8],
+    pub at: usize,
+}
+
+impl Page<'_> {
+    // The bytes before the end. An end past the memory counts as the memory's.
+    pub fn text(&self) -> &[u8]
+        ensures { result.now ≡ take self.now.at self.now.out.now }
+    {
+        &self.out[..self.at.min(self.out.len())]
     }
-    let mut n = at;
-    for b in p {
-        let pair = [hex_digit(*b / 16), hex_digit(*b % 16)];
-        n = words(out, n, &pair);
+
+    // A text as it stands.
+    #[tactic(auto, using(crate::specs::Laws::ink_over, crate::specs::Laws::ink_is))]
+    pub fn words(&mut self, text: &[u8])
+        ensures is { inked self.new.out.now self.new.at ≡ ink self.old.out.now self.old.at text.now }
+        ensures place { self.new.out.ghost_name ≡ self.old.out.ghost_name }
+    {
+        let room = self.out.len();
+        if room < self.at || room - self.at < text.len() {
+            return;
+        }
+        moves::put(self.out, self.at, text);
+        self.at += text.len();
     }
-    n
+
+    // A number in decimal.
+    #[tactic(auto, using(crate::specs::Laws::digits_text))]
+    pub fn decimal(&mut self, n: u64)
+        ensures is { inked self.new.out.now self.new.at ≡ ink self.old.out.now self.old.at (decimal n) }
+        ensures place { self.new.out.ghost_name ≡ self.old.out.ghost_name }
+    {
+        let mut d = [0; 20];
+        let k = digits(n, &mut d);
+        self.words(&d[k..]);
+    }
+
+    // Bytes in hexadecimal, two digits each.
+    #[tactic(auto, using(crate::specs::Laws::hex_over, crate::specs::Laws::hex_start))]
+    pub fn hex(&mut self, p: &[u8])
+        ensures is { inked self.new.out.now self.new.at ≡ ink self.old.out.now self.old.at (hex p.now) }
+        ensures place { self.new.out.ghost_name ≡ self.old.out.ghost_name }
+    {
+        let room = self.out.len();
+        if room < self.at || (room - self.at) / 2 < p.len() {
+            return;
+        }
+        for b in p {
+            self.words(&[hex_digit(*b / 16), hex_digit(*b % 16)]);
+        }
+    }
 }

@@ -1,6 +1,7 @@
 // The ops of a script, read.
 use answers::Kind;
 use fields::Memory;
+use ink::Page;
 
 // An op, with its bytes, which were read into the piece's memory.
 #[derive(Clone, Copy)]
@@ -39,8 +40,10 @@ fn op_of_code<'a>(s: &[u8], piece: &'a mut Memory) -> Option<Op<'a>> {
         }
         None => {
             let n = fields::number(s, 65535)?;
-            let len = ink::decimal(piece, 0, n as u64);
-            Some(Op::Signal(Kind::Cme, n, text::part(piece, 0, len)))
+            let mut page = Page { out: piece, at: 0 };
+            page.decimal(n as u64);
+            let Page { out, at } = page;
+            Some(Op::Signal(Kind::Cme, n, text::part(out, 0, at)))
         }
     }
 }

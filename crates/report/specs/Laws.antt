@@ -10,7 +10,7 @@ use Rattle.text.specs.Text.{part_of}
 use Rattle.text.specs.Laws.{part_is, part_none}
 use Rattle.text.specs.declared.Span.{Span}
 use Rattle.ink.specs.Ink.{Ink, inked, ink, decimal, hex}
-use Rattle.ink.specs.Laws.{ink_none, ink_at, then_ink, decimal_length, hex_length}
+use Rattle.ink.specs.Laws.{ink_none, ink_at, ink_length, then_ink, decimal_length, hex_length}
 use Rattle.answers.specs.declared.Kind.{Kind}
 use Rattle.answers.specs.declared.Kind.TheVariants as kind
 use Rattle.answers.specs.declared.Answer.{Answer}
@@ -19,7 +19,6 @@ use Rattle.answers.specs.Laws.{carried_within}
 use Rattle.steps.specs.declared.Step.{Step}
 use Rattle.steps.specs.Steps.{steps_from, steps, first_of, eaten}
 use Rattle.steps.specs.Laws.{step_lies, Begins, Run, steps_run, steps_more, at_end, at_step, step_within, eaten_within}
-use Rattle.report.specs.declared.Drawn.{Drawn}
 use Rattle.report.specs.Report.{spaced, number_text, payload_text, number_or, value_of, line_of, lines, text_of, Drawing, drawn, draw, is, short, report}
 
 -- how long the texts are
@@ -212,6 +211,10 @@ module _ (s o₀ : List ℕ) (from : ℕ) (o : List ℕ) (at n : ℕ) (g : Linin
             long = l ∙ g.long;
           }
 
+-- what is drawn has the memory's length
+pub draw_length : (o : List ℕ) (n : ℕ) (s o' : List ℕ) (n' left : ℕ) → drawn o' n' left ≡ draw o n s → length o' ≡ length o
+draw_length o n s o' n' left e = ink_length o n (lines s (steps [] s)) o' n' (ap (λ (x : Drawing). x.ink) e)
+
 -- the ways out of a report
 module _ (s o : List ℕ) where
   pub report_short : length o < 229376 → short o ≡ report s o
@@ -231,16 +234,16 @@ module _ (s o : List ℕ) where
       pub lines_room : n₁ + 55 * length s ≤ length o₁
       lines_room = omega (arith, ink_at o 0 (bytes "records 0\n") (omega arith) o₁ n₁ e₁)
 
-      module _ (k : length (lines s (steps [] s)) ≤ 55 * length s) (d : Drawn) (o₂ : List ℕ) (e₂ : drawn d o₂ ≡ draw o₁ n₁ s) (l₂ : length o₂ ≡ length o₁) where
-        drawn_at : inked o₂ d.at ≡ ink o 0 (bytes "records 0\n" ++ lines s (steps [] s))
-        drawn_at = then_ink o 0 (bytes "records 0\n") (lines s (steps [] s)) o₁ n₁ (inked o₂ d.at) e₁ (ap (λ (x : Drawing). x.ink) e₂) (omega arith)
+      module _ (k : length (lines s (steps [] s)) ≤ 55 * length s) (o₂ : List ℕ) (n₂ d : ℕ) (e₂ : drawn o₂ n₂ d ≡ draw o₁ n₁ s) (l₂ : length o₂ ≡ length o₁) where
+        drawn_at : inked o₂ n₂ ≡ ink o 0 (bytes "records 0\n" ++ lines s (steps [] s))
+        drawn_at = then_ink o 0 (bytes "records 0\n") (lines s (steps [] s)) o₁ n₁ (inked o₂ n₂) e₁ (ap (λ (x : Drawing). x.ink) e₂) (omega arith)
 
         front : length (bytes "records 0\n" ++ lines s (steps [] s)) ≤ 10 + 55 * length s
         front = rw length-append (omega arith)
 
-        module _ (o₃ : List ℕ) (n₃ : ℕ) (e₃ : inked o₃ n₃ ≡ ink o₂ d.at (bytes "left")) (l₃ : length o₃ ≡ length o₂) where
+        module _ (o₃ : List ℕ) (n₃ : ℕ) (e₃ : inked o₃ n₃ ≡ ink o₂ n₂ (bytes "left")) (l₃ : length o₃ ≡ length o₂) where
           worded : inked o₃ n₃ ≡ ink o 0 (bytes "records 0\n" ++ lines s (steps [] s) ++ bytes "left")
-          worded = then_ink o 0 (bytes "records 0\n" ++ lines s (steps [] s)) (bytes "left") o₂ d.at (inked o₃ n₃) drawn_at e₃ (omega (arith, front))
+          worded = then_ink o 0 (bytes "records 0\n" ++ lines s (steps [] s)) (bytes "left") o₂ n₂ (inked o₃ n₃) drawn_at e₃ (omega (arith, front))
 
           word_front : length (bytes "records 0\n" ++ lines s (steps [] s) ++ bytes "left") ≤ 14 + 55 * length s
           word_front = rw length-append (omega (arith, front))
@@ -248,7 +251,7 @@ module _ (s o : List ℕ) where
           pub left_room : n₃ + 21 ≤ length o₃
           left_room = omega (arith, ink_at o 0 (bytes "records 0\n" ++ lines s (steps [] s) ++ bytes "left") (omega (arith, word_front)) o₃ n₃ worded, word_front)
 
-          module _ (o₄ : List ℕ) (n₄ : ℕ) (e₄ : inked o₄ n₄ ≡ ink o₃ n₃ (number_text d.left)) (l₄ : length o₄ ≡ length o₃) where
+          module _ (o₄ : List ℕ) (n₄ : ℕ) (e₄ : inked o₄ n₄ ≡ ink o₃ n₃ (number_text d)) (l₄ : length o₄ ≡ length o₃) where
             counted : inked o₄ n₄ ≡ ink o 0 (bytes "records 0\n" ++ lines s (steps [] s) ++ bytes "left" ++ number_text (length s - eaten (steps [] s)))
             counted =
                 then_ink o 0 (bytes "records 0\n" ++ lines s (steps [] s) ++ bytes "left") (number_text (length s - eaten (steps [] s))) o₃ n₃ (inked o₄ n₄) worded (e₄ ∙ ap (λ (x : Drawing). ink o₃ n₃ (number_text x.left)) e₂)

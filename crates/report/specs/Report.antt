@@ -8,7 +8,6 @@ use Rattle.answers.specs.declared.Answer.{Answer}
 use Rattle.answers.specs.Answer.{Number, none, number, number_of, is_found, is_numeric, carried, name_of}
 use Rattle.steps.specs.declared.Step.{Step}
 use Rattle.steps.specs.Steps.{steps, eaten}
-use Rattle.report.specs.declared.Drawn.{Drawn}
 use Rattle.report.specs.declared.ReportError.{ReportError}
 use Rattle.report.specs.declared.ReportError.TheVariants as says
 
@@ -54,8 +53,8 @@ pub record Drawing : Type 0 where
   pub ink : Ink
   pub left : ℕ
 
-abbrev pub drawn : Drawn → List ℕ → Drawing
-drawn r o = record { ink = inked o r.at; left = r.left }
+abbrev pub drawn : List ℕ → ℕ → ℕ → Drawing
+drawn o n left = record { ink = inked o n; left = left }
 
 abbrev pub draw : List ℕ → ℕ → List ℕ → Drawing
 draw o n s = record { ink = ink o n (lines s (steps [] s)); left = length s - eaten (steps [] s) }

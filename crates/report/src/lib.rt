@@ -8,90 +8,86 @@ ghost use Rattle.ink.specs.Ink.{inked, ink};
 ghost use Rattle.report.specs.Report.{spaced, payload_text, number_text, value_of, line_of, drawn, draw, reported, report};
 
 use answers::{Answer, Kind};
+use ink::Page;
 
 // A text, a space before it.
-fn spaced(out: &mut [u8], at: usize, text: &[u8]) -> usize
-    requires { at + (1 + length text.now) ≤ length out.old }
-    ensures { inked out.new result ≡ ink out.old at (spaced text.now) }
+fn spaced(page: &mut Page<'_>, text: &[u8])
+    requires { page.old.at + (1 + length text.now) ≤ length page.old.out.now }
+    ensures is { inked page.new.out.now page.new.at ≡ ink page.old.out.now page.old.at (spaced text.now) }
+    ensures place { page.new.out.ghost_name ≡ page.old.out.ghost_name }
 {
-    let from = ink::words(out, at, b" ");
-    ink::words(out, from, text)
+    page.words(b" ");
+    page.words(text);
 }
 
 // A number in decimal, a space before it.
-fn number(out: &mut [u8], at: usize, n: u64) -> usize
-    requires { at + 21 ≤ length out.old }
-    ensures { inked out.new result ≡ ink out.old at (number_text n) }
+fn number(page: &mut Page<'_>, n: u64)
+    requires { page.old.at + 21 ≤ length page.old.out.now }
+    ensures is { inked page.new.out.now page.new.at ≡ ink page.old.out.now page.old.at (number_text n) }
+    ensures place { page.new.out.ghost_name ≡ page.old.out.ghost_name }
 {
-    let from = ink::words(out, at, b" ");
-    ink::decimal(out, from, n)
+    page.words(b" ");
+    page.decimal(n);
 }
 
 // A payload that isn't empty in hexadecimal, a space before it.
-fn payload(out: &mut [u8], at: usize, p: &[u8]) -> usize
-    requires { at + (1 + 2 * length p.now) ≤ length out.old }
-    ensures { inked out.new result ≡ ink out.old at (payload_text p.now) }
+fn payload(page: &mut Page<'_>, p: &[u8])
+    requires { page.old.at + (1 + 2 * length p.now) ≤ length page.old.out.now }
+    ensures is { inked page.new.out.now page.new.at ≡ ink page.old.out.now page.old.at (payload_text p.now) }
+    ensures place { page.new.out.ghost_name ≡ page.old.out.ghost_name }
 {
     if p.is_empty() {
-        return at;
+        return;
     }
-    let from = ink::words(out, at, b" ");
-    ink::hex(out, from, p)
+    page.words(b" ");
+    page.hex(p);
 }
 
 // Of a numeric error the digits as they came (R-2); else the number where the kind has one, else the payload.
-fn value(out: &mut [u8], at: usize, kind: Kind, n: u32, p: &[u8]) -> usize
-    requires { at + (21 + 2 * length p.now) ≤ length out.old }
-    ensures { inked out.new result ≡ ink out.old at (value_of kind (numbered kind n) p.now) }
+fn value(page: &mut Page<'_>, kind: Kind, n: u32, p: &[u8])
+    requires { page.old.at + (21 + 2 * length p.now) ≤ length page.old.out.now }
+    ensures is { inked page.new.out.now page.new.at ≡ ink page.old.out.now page.old.at (value_of kind (numbered kind n) p.now) }
+    ensures place { page.new.out.ghost_name ≡ page.old.out.ghost_name }
 {
     if answers::is_numeric(kind) {
-        return spaced(out, at, p);
+        spaced(page, p);
+    } else if answers::has_number(kind) {
+        number(page, n as u64);
+    } else {
+        payload(page, p);
     }
-    if answers::has_number(kind) {
-        return number(out, at, n as u64);
-    }
-    payload(out, at, p)
 }
 
 // The line of an answer on s; None prints nothing.
-fn line(out: &mut [u8], at: usize, s: &[u8], a: Answer) -> usize
-    requires { at + (53 + 2 * (carried a).len) ≤ length out.old }
-    ensures { inked out.new result ≡ ink out.old at (line_of a s.now) }
+fn line(page: &mut Page<'_>, s: &[u8], a: Answer)
+    requires { page.old.at + (53 + 2 * (carried a).len) ≤ length page.old.out.now }
+    ensures is { inked page.new.out.now page.new.at ≡ ink page.old.out.now page.old.at (line_of a s.now) }
+    ensures place { page.new.out.ghost_name ≡ page.old.out.ghost_name }
 {
     if !answers::is_found(a) {
-        return at;
+        return;
     }
     let part = answers::carried(a);
     let p = digest::payload(s, part.start, part.len);
-    let counted = ink::decimal(out, at, a.consumed as u64);
-    let named = spaced(out, counted, answers::name(a.kind));
-    let valued = value(out, named, a.kind, a.number, p);
-    ink::words(out, valued, b"\n")
+    page.decimal(a.consumed as u64);
+    spaced(page, answers::name(a.kind));
+    value(page, a.kind, a.number, p);
+    page.words(b"\n");
 }
 
-// Where the lines end, and the bytes left.
-#[derive(Clone, Copy)]
-pub struct Drawn {
-    pub at: usize,
-    pub left: usize,
-}
-
-// The lines of s's steps under the empty table.
-fn draw(out: &mut [u8], from: usize, s: &[u8]) -> Drawn
-    requires { from + 55 * length s.now ≤ length out.old }
-    ensures { drawn result out.new ≡ draw out.old from s.now }
+// The lines of s's steps under the empty table; the answer is the bytes left.
+fn draw(page: &mut Page<'_>, s: &[u8]) -> usize
+    requires { page.old.at + 55 * length s.now ≤ length page.old.out.now }
+    ensures is { drawn page.new.out.now page.new.at result ≡ draw page.old.out.now page.old.at s.now }
+    ensures place { page.new.out.ghost_name ≡ page.old.out.ghost_name }
 {
     let none = &s[..0];
     let mut at = 0;
-    let mut n = from;
     while let Some(step) = steps::next(none, s, at) {
-        n = line(out, n, &s[at..], step.answer);
+        line(page, &s[at..], step.answer);
         at += step.answer.consumed;
     }
-    Drawn {
-        at: n,
-        left: s.len() - at,
-    }
+    s.len() - at
 }
 
 // The memory that a report needs at most.
@@ -110,12 +106,15 @@ pub fn report(input: &[u8], out: &mut [u8]) -> Result<usize, ReportError>
     if out.len() < ROOM {
         return Err(ReportError::Short);
     }
+    let mut page = Page { out, at: 0 };
     if digest::LONGEST < input.len() {
-        return Ok(ink::words(out, 0, b"refused 1\n"));
+        page.words(b"refused 1\n");
+        return Ok(page.at);
     }
-    let from = ink::words(out, 0, b"records 0\n");
-    let d = draw(out, from, input);
-    let worded = ink::words(out, d.at, b"left");
-    let counted = number(out, worded, d.left as u64);
-    Ok(ink::words(out, counted, b"\n"))
+    page.words(b"records 0\n");
+    let left = draw(&mut page, input);
+    page.words(b"left");
+    number(&mut page, left as u64);
+    page.words(b"\n");
+    Ok(page.at)
 }

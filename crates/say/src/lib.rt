@@ -4,47 +4,50 @@
 
 use answers::Kind;
 use fields::{LENGTH, Memory};
+use ink::Page;
 use std::io;
 
-// What is gathered and not yet written: the first `at` bytes of the memory, which is fixed, since there is no heap.
+// What is gathered and not yet written is on a page of the memory, which is fixed, since there is no heap.
 #[derive(Drop)]
 pub struct Out<'a, R> {
     rt: &'a R,
-    mem: &'a mut Memory,
-    at: usize,
+    page: Page<'a>,
 }
 
 impl<'a, R: Print> Out<'a, R> {
     pub fn new(rt: &'a R, mem: &'a mut Memory) -> Out<'a, R> {
-        Out { rt, mem, at: 0 }
+        Out {
+            rt,
+            page: Page { out: mem, at: 0 },
+        }
     }
 
     // Writes what is gathered.
     pub fn flush(&mut self) -> io::Result<()> {
-        self.rt.write_all(text::part(self.mem, 0, self.at))?;
-        self.at = 0;
+        self.rt.write_all(self.page.text())?;
+        self.page.at = 0;
         Ok(())
     }
 
-    // Where n more bytes go: behind those gathered, or at the front once those are written.
-    fn room(&mut self, n: usize) -> io::Result<usize> {
-        if LENGTH < self.at.saturating_add(n) {
+    // Makes room for n more bytes: where there is none behind those gathered, these are written.
+    fn make_room(&mut self, n: usize) -> io::Result<()> {
+        if LENGTH < self.page.at.saturating_add(n) {
             self.flush()?;
         }
-        Ok(self.at)
+        Ok(())
     }
 
     // A text, which is shorter than the memory.
     pub fn words(&mut self, t: &[u8]) -> io::Result<()> {
-        let from = self.room(t.len())?;
-        self.at = ink::words(self.mem, from, t);
+        self.make_room(t.len())?;
+        self.page.words(t);
         Ok(())
     }
 
     // A number in decimal.
     pub fn number(&mut self, n: u64) -> io::Result<()> {
-        let from = self.room(20)?;
-        self.at = ink::decimal(self.mem, from, n);
+        self.make_room(20)?;
+        self.page.decimal(n);
         Ok(())
     }
 
@@ -54,8 +57,8 @@ impl<'a, R: Print> Out<'a, R> {
             return self.words(b"-");
         }
         for b in p {
-            let from = self.room(2)?;
-            self.at = ink::hex(self.mem, from, &[*b]);
+            self.make_room(2)?;
+            self.page.hex(&[*b]);
         }
         Ok(())
     }

@@ -3,14 +3,13 @@ use Rattle.std.specs.Prelude.{IsErrAnd, Option, Some, None, Result, Ok, Err, ◌
 use Rattle.std.proofs.Common.{sym, ◌∙◌, arith, length-take, length-drop}
 use Rattle.std.proofs.Math.Path.{ap}
 use mathlib.Core.List.{List, [], ◌∷◌, ◌++◌}
-use Rattle.std.proofs.Math.ListN.{length-append}
+use Rattle.std.proofs.Math.ListN.{take, length-append}
 use borrow.Author.Tests.{eqb-true}
 use Rattle.outcome.specs.Outcome.{Outcome, answered, refused}
 use Rattle.outcome.specs.Laws.{ways}
 use Rattle.text.specs.Bytes.{bytes}
 use Rattle.text.specs.Logic.{not_true_false, and_both}
 use Rattle.text.specs.Text.{part_of}
-use Rattle.text.specs.Laws.{part_is}
 use Rattle.table.specs.Table.{ruling}
 use Rattle.table.specs.Table as tables
 use Rattle.table.specs.declared.TableError.{TableError}
@@ -19,7 +18,7 @@ use Rattle.lines.specs.Lines.{crlf, fixed_text}
 use Rattle.lines.specs.declared.Digester.TheVariants.{Verbose}
 use Rattle.lines.specs.declared.Fixed.TheVariants as fixed
 use Rattle.moves.specs.Moves.{put}
-use Rattle.moves.specs.Laws.{put_there, put_length}
+use Rattle.moves.specs.Laws.{put_there}
 use Rattle.ink.specs.Ink.{Ink, inked, ink, decimal}
 use Rattle.ink.specs.Laws.{ink_is, ink_none, then_ink, decimal_length}
 use Rattle.answers.specs.Answer.{kind_number, has_number, is_found}
@@ -35,45 +34,39 @@ use Rattle.writer.specs.declared.SayError.{SayError}
 use Rattle.writer.specs.declared.SayError.TheVariants as says
 use Rattle.writer.specs.Writer.{line, ok_with, coded, prompted, written, gives, same, heard_as, heard_in, reads_back, Saying, outcome, saying, laid_out, table_error, say_under, say}
 
--- what is inked has the memory's length
-pub ink_length : (o : List ℕ) (n : ℕ) (p o' : List ℕ) (n' : ℕ) → inked o' n' ≡ ink o n p → length o' ≡ length o
-unfolding ink
-ink_length o n p o' n' e = ap (λ (x : Ink). length x.out) e ∙ ways (λ (x : Ink). length x.out ≡ length o) (ltb (length o) (n + length p)) (λ q. refl) (λ q. put_length o n p)
-
 -- texts, one behind the other
-module _ (o : List ℕ) (l : length o ≡ 4112) where
-  pub line_put : (p : List ℕ) → length p ≤ 4096 → (o₁ : List ℕ) (n₁ : ℕ) → inked o₁ n₁ ≡ ink o 0 crlf → (o₂ : List ℕ) (n₂ : ℕ) → inked o₂ n₂ ≡ ink o₁ n₁ p → (r : Ink) → r ≡ ink o₂ n₂ crlf → r ≡ ink o 0 (line p)
+module _ (o : List ℕ) (n : ℕ) where
+  pub line_put : (p : List ℕ) → n + (4 + length p) ≤ length o → (o₁ : List ℕ) (n₁ : ℕ) → inked o₁ n₁ ≡ ink o n crlf → (o₂ : List ℕ) (n₂ : ℕ) → inked o₂ n₂ ≡ ink o₁ n₁ p → (r : Ink) → r ≡ ink o₂ n₂ crlf → r ≡ ink o n (line p)
   unfolding line
   line_put p h o₁ n₁ e₁ o₂ n₂ e₂ r e₃ =
-      then_ink o 0 (crlf ++ p) crlf o₂ n₂ r (then_ink o 0 crlf p o₁ n₁ (inked o₂ n₂) e₁ e₂ (omega arith)) e₃ (omega (arith, length-append crlf p))
+      then_ink o n (crlf ++ p) crlf o₂ n₂ r (then_ink o n crlf p o₁ n₁ (inked o₂ n₂) e₁ e₂ (omega arith)) e₃ (omega (arith, length-append crlf p))
 
-  pub coded_put : (h : List ℕ) → length h ≡ 13 → (n : ℕ) (o₁ : List ℕ) (n₁ : ℕ) → inked o₁ n₁ ≡ ink o 0 h → (o₂ : List ℕ) (n₂ : ℕ) → inked o₂ n₂ ≡ ink o₁ n₁ (bytes " ") → (o₃ : List ℕ) (n₃ : ℕ) → inked o₃ n₃ ≡ ink o₂ n₂ (decimal n) → (r : Ink) → r ≡ ink o₃ n₃ crlf → (g : Option ℕ) → g ≡ Some n → r ≡ ink o 0 (coded h g)
+  pub coded_put : n + 36 ≤ length o → (h : List ℕ) → length h ≡ 13 → (m : ℕ) (o₁ : List ℕ) (n₁ : ℕ) → inked o₁ n₁ ≡ ink o n h → (o₂ : List ℕ) (n₂ : ℕ) → inked o₂ n₂ ≡ ink o₁ n₁ (bytes " ") → (o₃ : List ℕ) (n₃ : ℕ) → inked o₃ n₃ ≡ ink o₂ n₂ (decimal m) → (r : Ink) → r ≡ ink o₃ n₃ crlf → (g : Option ℕ) → g ≡ Some m → r ≡ ink o n (coded h g)
   unfolding coded
-  coded_put h k n o₁ n₁ e₁ o₂ n₂ e₂ o₃ n₃ e₃ r e₄ g q =
-      let d = decimal_length n in
+  coded_put l h k m o₁ n₁ e₁ o₂ n₂ e₂ o₃ n₃ e₃ r e₄ g q =
+      let d = decimal_length m in
       let a = length-append h (bytes " ") in
-      let b = length-append (h ++ bytes " ") (decimal n) in
-      then_ink o 0 (h ++ bytes " " ++ decimal n) crlf o₃ n₃ r
-      (then_ink o 0 (h ++ bytes " ") (decimal n) o₂ n₂ (inked o₃ n₃) (then_ink o 0 h (bytes " ") o₁ n₁ (inked o₂ n₂) e₁ e₂ (omega arith)) e₃ (omega arith))
+      let b = length-append (h ++ bytes " ") (decimal m) in
+      then_ink o n (h ++ bytes " " ++ decimal m) crlf o₃ n₃ r
+      (then_ink o n (h ++ bytes " ") (decimal m) o₂ n₂ (inked o₃ n₃) (then_ink o n h (bytes " ") o₁ n₁ (inked o₂ n₂) e₁ e₂ (omega arith)) e₃ (omega arith))
       e₄
       (omega arith)
-      ∙ ap (λ (x : Option ℕ). ink o 0 (coded h x)) (sym q)
+      ∙ ap (λ (x : Option ℕ). ink o n (coded h x)) (sym q)
 
-pub ok_put : (o p : List ℕ) → length p ≤ 4096 → (length p ≡ 0 → ⊥) → (o₁ : List ℕ) (n₁ : ℕ) → length o₁ ≡ 4112 → inked o₁ n₁ ≡ ink o 0 (line p) → (r : Ink) → r ≡ ink o₁ n₁ (fixed_text fixed.Ok) → r ≡ ink o 0 (ok_with p)
-unfolding line ok_with
-ok_put o [] h z o₁ n₁ l e₁ r e₂ = absurd (z refl)
-ok_put o (x ∷ p) h z o₁ n₁ l e₁ r e₂ =
-    let k = ink_length o 0 (line (x ∷ p)) o₁ n₁ e₁ in
-    then_ink o 0 (line (x ∷ p)) (fixed_text fixed.Ok) o₁ n₁ r e₁ e₂ (omega (arith, length-append (crlf ++ (x ∷ p)) crlf, length-append crlf (x ∷ p)))
+  pub ok_put : (p : List ℕ) → n + (10 + length p) ≤ length o → (length p ≡ 0 → ⊥) → (o₁ : List ℕ) (n₁ : ℕ) → inked o₁ n₁ ≡ ink o n (line p) → (r : Ink) → r ≡ ink o₁ n₁ (fixed_text fixed.Ok) → r ≡ ink o n (ok_with p)
+  unfolding line ok_with
+  ok_put [] h z o₁ n₁ e₁ r e₂ = absurd (z refl)
+  ok_put (x ∷ p) h z o₁ n₁ e₁ r e₂ =
+      then_ink o n (line (x ∷ p)) (fixed_text fixed.Ok) o₁ n₁ r e₁ e₂ (omega (arith, length-append (crlf ++ (x ∷ p)) crlf, length-append crlf (x ∷ p)))
+
+  -- what isn't written leaves the memory as it was
+  pub none_put : (p : List ℕ) → [] ≡ p → inked o n ≡ ink o n p
+  none_put p e = ink_none o n ∙ ap (ink o n) e
 
 pub ok_alone : (p : List ℕ) → length p ≡ 0 → fixed_text fixed.Ok ≡ ok_with p
 unfolding ok_with
 ok_alone [] z = refl
 ok_alone (x ∷ p) z = absurd (omega arith)
-
--- what isn't written leaves the memory as it was
-pub none_put : (o : List ℕ) (p : List ℕ) → [] ≡ p → inked o 0 ≡ ink o 0 p
-none_put o p e = ink_none o 0 ∙ ap (ink o 0) e
 
 -- what the digest answered
 module _ (k : Kind) (g : Option ℕ) (p b : List ℕ) (x : Outcome Answer) where
@@ -191,15 +184,14 @@ written_length kind.NoDialtone g p h = omega arith
 written_length kind.Custom g p h = omega arith
 written_length kind.Notice g p h = omega (arith, line_length p)
 
-pub written_part : (k : Kind) (g : Option ℕ) (p : List ℕ) → length p ≤ 4096 → (o o' : List ℕ) (n : ℕ) → length o ≡ 4112 → inked o' n ≡ ink o 0 (written k g p) → part_of o' 0 n ≡ written k g p
+pub written_part : (k : Kind) (g : Option ℕ) (p : List ℕ) → length p ≤ 4096 → (o o' : List ℕ) (n : ℕ) → length o ≡ 4112 → inked o' n ≡ ink o 0 (written k g p) → take n o' ≡ written k g p
 written_part k g p h o o' n l e =
     let b = written k g p in
     let f : 0 + length b ≤ length o = omega (arith, written_length k g p h) in
     let w : inked o' n ≡ inked (put o 0 b) (0 + length b) = e ∙ sym (ink_is o 0 b f) in
     let m : n ≡ length b = omega (arith, ap (λ (x : Ink). x.at) w) in
     let q : o' ≡ put o 0 b = ap (λ (x : Ink). x.out) w in
-    let l' : 0 + length b ≤ length (put o 0 b) = omega (arith, put_length o 0 b) in
-    (λ i. part_of (q i) 0 (m i)) ∙ sym (part_is (put o 0 b) 0 (length b) l') ∙ put_there o 0 b f
+    (λ i. take (m i) (q i)) ∙ put_there o 0 b f
 
 -- what a call says and leaves is one thing
 pub outcome_one : (r q : Result ℕ SayError) → outcome r ≡ outcome q → r ≡ q

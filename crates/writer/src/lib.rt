@@ -2,12 +2,13 @@
 // The bytes are written into memory of the call's own and digested there, so that a refusal leaves the caller's as it was.
 #![tactic(auto)]
 
-ghost use Rattle.std.specs.Prelude.{◌≡◌, ◌≤◌, length};
+ghost use Rattle.std.specs.Prelude.{◌≡◌, ◌≤◌, ◌+◌, length};
 ghost use Rattle.ink.specs.Ink.{inked, ink};
 ghost use Rattle.digest.specs.Digest.{digest};
 ghost use Rattle.writer.specs.Writer.{line, ok_with, coded, prompted, written, gives, same, heard_as, heard_in, saying, laid_out, table_error, say};
 
 use answers::{Answer, Kind};
+use ink::Page;
 use lines::Digester;
 use table::TableError;
 
@@ -35,69 +36,75 @@ const LONGEST: usize = answers::LONGEST;
 const OWN: usize = 4112;
 
 // A line between CRLF and CRLF.
-fn put_line(own: &mut [u8; OWN], payload: &[u8]) -> usize
-    requires { length payload.now ≤ 4096 }
-    ensures { inked own.new result ≡ ink own.old 0 (line payload.now) }
+fn put_line(page: &mut Page<'_>, payload: &[u8])
+    requires { page.old.at + (4 + length payload.now) ≤ length page.old.out.now }
+    ensures is { inked page.new.out.now page.new.at ≡ ink page.old.out.now page.old.at (line payload.now) }
+    ensures place { page.new.out.ghost_name ≡ page.old.out.ghost_name }
 {
-    let opened = ink::words(own, 0, &lines::CRLF);
-    let filled = ink::words(own, opened, payload);
-    ink::words(own, filled, &lines::CRLF)
+    page.words(&lines::CRLF);
+    page.words(payload);
+    page.words(&lines::CRLF);
 }
 
 // An Ok: its payload as a line, unless it is empty, then the OK line.
-fn put_ok(own: &mut [u8; OWN], payload: &[u8]) -> usize
-    requires { length payload.now ≤ 4096 }
-    ensures { inked own.new result ≡ ink own.old 0 (ok_with payload.now) }
+fn put_ok(page: &mut Page<'_>, payload: &[u8])
+    requires { page.old.at + (10 + length payload.now) ≤ length page.old.out.now }
+    ensures is { inked page.new.out.now page.new.at ≡ ink page.old.out.now page.old.at (ok_with payload.now) }
+    ensures place { page.new.out.ghost_name ≡ page.old.out.ghost_name }
 {
-    if payload.is_empty() {
-        return ink::words(own, 0, &lines::OK);
+    if !payload.is_empty() {
+        put_line(page, payload);
     }
-    let from = put_line(own, payload);
-    ink::words(own, from, &lines::OK)
+    page.words(&lines::OK);
 }
 
 // A numeric error: its head, one space, the code without leading zeros, CRLF.
-fn put_coded(own: &mut [u8; OWN], head: &[u8; 13], number: Option<u32>) -> usize
-    ensures { inked own.new result ≡ ink own.old 0 (coded head.now number) }
+fn put_coded(page: &mut Page<'_>, head: &[u8; 13], number: Option<u32>)
+    requires { page.old.at + 36 ≤ length page.old.out.now }
+    ensures is { inked page.new.out.now page.new.at ≡ ink page.old.out.now page.old.at (coded head.now number) }
+    ensures place { page.new.out.ghost_name ≡ page.old.out.ghost_name }
 {
     let Some(n) = number else {
-        return 0;
+        return;
     };
-    let headed = ink::words(own, 0, head);
-    let apart = ink::words(own, headed, b" ");
-    let coded = ink::decimal(own, apart, n as u64);
-    ink::words(own, coded, &lines::CRLF)
+    page.words(head);
+    page.words(b" ");
+    page.decimal(n as u64);
+    page.words(&lines::CRLF);
 }
 
 // A prompt: CRLF, its byte, a space. A number over 255 is no byte.
 #[tactic(auto, unfolding(crate::specs::Writer::prompted), using(ink::specs::Laws::ink_none))]
-fn put_prompt(own: &mut [u8; OWN], number: Option<u32>) -> usize
-    ensures { inked own.new result ≡ ink own.old 0 (prompted number) }
+fn put_prompt(page: &mut Page<'_>, number: Option<u32>)
+    ensures is { inked page.new.out.now page.new.at ≡ ink page.old.out.now page.old.at (prompted number) }
+    ensures place { page.new.out.ghost_name ≡ page.old.out.ghost_name }
 {
     match number {
-        Some(b) if b <= 255 => ink::words(own, 0, &[b'\r', b'\n', b as u8, b' ']),
-        _ => 0,
+        Some(b) if b <= 255 => page.words(&[b'\r', b'\n', b as u8, b' ']),
+        _ => {}
     }
 }
 
 // The answer, written out; nothing of another kind, nor without its number.
 #[tactic(auto, unfolding(crate::specs::Writer::written), using(ink::specs::Laws::ink_none))]
-fn put_answer(own: &mut [u8; OWN], kind: Kind, number: Option<u32>, payload: &[u8]) -> usize
-    requires { length payload.now ≤ 4096 }
-    ensures { inked own.new result ≡ ink own.old 0 (written kind number payload.now) }
+fn put_answer(page: &mut Page<'_>, kind: Kind, number: Option<u32>, payload: &[u8])
+    requires code { page.old.at + 36 ≤ length page.old.out.now }
+    requires lines { page.old.at + (10 + length payload.now) ≤ length page.old.out.now }
+    ensures is { inked page.new.out.now page.new.at ≡ ink page.old.out.now page.old.at (written kind number payload.now) }
+    ensures place { page.new.out.ghost_name ≡ page.old.out.ghost_name }
 {
     match kind {
-        Kind::None | Kind::Unknown | Kind::NotAllowed | Kind::Custom => 0,
-        Kind::Ok => put_ok(own, payload),
-        Kind::Prompt => put_prompt(own, number),
-        Kind::Cme => put_coded(own, &lines::CME_ERROR, number),
-        Kind::Cms => put_coded(own, &lines::CMS_ERROR, number),
-        Kind::Error => ink::words(own, 0, &lines::ERROR),
-        Kind::NoCarrier => ink::words(own, 0, &lines::NO_CARRIER),
-        Kind::Busy => ink::words(own, 0, &lines::BUSY),
-        Kind::NoAnswer => ink::words(own, 0, &lines::NO_ANSWER),
-        Kind::NoDialtone => ink::words(own, 0, &lines::NO_DIALTONE),
-        Kind::Notice => put_line(own, payload),
+        Kind::None | Kind::Unknown | Kind::NotAllowed | Kind::Custom => {}
+        Kind::Ok => put_ok(page, payload),
+        Kind::Prompt => put_prompt(page, number),
+        Kind::Cme => put_coded(page, &lines::CME_ERROR, number),
+        Kind::Cms => put_coded(page, &lines::CMS_ERROR, number),
+        Kind::Error => page.words(&lines::ERROR),
+        Kind::NoCarrier => page.words(&lines::NO_CARRIER),
+        Kind::Busy => page.words(&lines::BUSY),
+        Kind::NoAnswer => page.words(&lines::NO_ANSWER),
+        Kind::NoDialtone => page.words(&lines::NO_DIALTONE),
+        Kind::Notice => put_line(page, payload),
     }
 }
 
@@ -178,8 +185,12 @@ pub fn say(
         return Err(SayError::Unread);
     }
     let mut own = [0u8; OWN];
-    let n = put_answer(&mut own, kind, number, payload);
-    let bytes = text::part(&own, 0, n);
+    let mut page = Page {
+        out: &mut own,
+        at: 0,
+    };
+    put_answer(&mut page, kind, number, payload);
+    let bytes = page.text();
     let read = heard_in(table, kind, number, payload, bytes);
     lay_out(read, bytes, out)
 }

@@ -5,6 +5,6 @@ use Rattle.ink.specs.Laws.{then_ink, decimal_length}
 use native.Mathlib.Omega.{arith}
 use Rattle.report.proofs.number.Goals as goal
 
-pub returns : goal.returns
-returns c =
-    then_ink c.args.out.now c.args.at (bytes " ") (decimal c.args.n) _ _ _ c.words-from.ensures c.decimal.ensures (omega (arith, c.requires, decimal_length c.args.n))
+pub returns-clause-is : goal.returns-clause-is
+returns-clause-is c =
+    then_ink c.args.page.now.out.now c.args.page.now.at (bytes " ") (decimal c.args.n) _ _ _ c.words.ensures.is c.decimal.ensures.is (omega (arith, c.requires, decimal_length c.args.n))

@@ -4,6 +4,6 @@ use Rattle.text.specs.Bytes.{bytes}
 use Rattle.ink.specs.Laws.{then_ink}
 use Rattle.report.proofs.spaced.Goals as goal
 
-pub returns : goal.returns
-returns c =
-    then_ink c.args.out.now c.args.at (bytes " ") c.args.text.now _ _ _ c.words-from.ensures c.words.ensures (omega (arith, c.requires))
+pub returns-clause-is : goal.returns-clause-is
+returns-clause-is c =
+    then_ink c.args.page.now.out.now c.args.page.now.at (bytes " ") c.args.text.now _ _ _ c.words.ensures.is c.words-2.ensures.is (omega (arith, c.requires))

@@ -4,11 +4,11 @@ use Rattle.writer.specs.Writer.{coded}
 use Rattle.writer.specs.Laws.{none_put, coded_put}
 use Rattle.writer.proofs.put_coded.Goals as goal
 
-pub returns-in_default : goal.returns-in_default
+pub returns-in_default-clause-is : goal.returns-in_default-clause-is
 unfolding coded
-returns-in_default c =
-    none_put c.args.own.now _ (ap (coded c.args.head.now) (sym c.in_default.is))
+returns-in_default-clause-is c =
+    none_put _ _ _ (ap (coded c.args.head.now) (sym c.in_default.is))
 
-pub returns : goal.returns
-returns c =
-    coded_put c.args.own.now c.told-own c.args.head.now c.told-head _ _ _ c.words-headed.ensures _ _ c.words-apart.ensures _ _ c.decimal-coded.ensures _ c.words.ensures c.args.number c.in-Some.is
+pub returns-clause-is : goal.returns-clause-is
+returns-clause-is c =
+    coded_put _ _ c.requires c.args.head.now c.told-head _ _ _ c.words.ensures.is _ _ c.words-2.ensures.is _ _ c.decimal.ensures.is _ c.words-3.ensures.is c.args.number c.in-Some.is

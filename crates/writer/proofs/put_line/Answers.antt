@@ -2,6 +2,6 @@
 use Rattle.writer.specs.Laws.{line_put}
 use Rattle.writer.proofs.put_line.Goals as goal
 
-pub returns : goal.returns
-returns c =
-    line_put c.args.own.now c.words-arg-1.given.0.1 c.args.payload.now c.requires _ _ c.words-opened.ensures _ _ c.words-filled.ensures _ c.words.ensures
+pub returns-clause-is : goal.returns-clause-is
+returns-clause-is c =
+    line_put _ _ c.args.payload.now c.requires _ _ c.words.ensures.is _ _ c.words-2.ensures.is _ c.words-3.ensures.is
