@@ -67,6 +67,7 @@ enum Stage {
 }
 
 // A script on its way: how far it has come, its table, the memory of a payload, and the answers written one behind the other.
+// There is no heap, so that lengths stand beside memories of a fixed size.
 #[derive(Drop)]
 struct Script {
     stage: Stage,

@@ -5,6 +5,7 @@ use std::io::Read;
 use text::Blanks;
 
 // Where the reading stands: the bytes of the chunk from `from` up to `to` wait, and `len` bytes of a line are gathered.
+// There is no heap, so that the places stand beside memories of a fixed size.
 #[derive(Drop)]
 pub struct Input<S> {
     source: S,

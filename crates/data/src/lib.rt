@@ -16,7 +16,7 @@ fn byte_of(pair: &[u8]) -> Option<u8> {
     u8::try_from(high * 16 + low).ok()
 }
 
-// Bytes in hex, put at the front of the memory; how many they are, if they fit.
+// Bytes in hex, put at the front of the memory; how many they are, if they fit. Two digits are one byte, so n is no place in s.
 pub fn plain(s: &[u8], mem: &mut [u8]) -> Option<usize>
     ensures { IfSome result (λ n. n ≤ length mem.new) }
 {

@@ -72,7 +72,7 @@ pub extern "C" fn wx_digest(digester: u32, table: &[u8], input: &[u8], out: &mut
     }
 }
 
-// Where a part of a memory begins: at its place, or at the front where it doesn't fit.
+// Where a part of a memory begins: at its place, or at the front where it doesn't fit. `text::part` gives the part; C takes its place.
 fn fitted(s: &[u8], place: usize, len: usize) -> usize
     ensures { result ≡ part_at s.now place len }
 {

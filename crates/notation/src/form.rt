@@ -14,7 +14,7 @@ pub fn first_word(line: &[u8]) -> (Selector, &[u8]) {
     (Selector::Verbal(Digester::Verbose), rest)
 }
 
-// A written state. The slot holds an Ok.
+// A written state, number by number as the notation has it. The slot holds an Ok.
 #[derive(Clone, Copy)]
 pub struct Start {
     pub end: usize,

@@ -50,6 +50,7 @@ pub fn number(s: &[u8]) -> Option<u32> {
 }
 
 // A text from behind its opening quote on, put at the front of the memory, as a part of it. Nothing may stand behind its closing quote.
+// n counts what was put, which no range over s does: an escape is two bytes.
 fn quoted<'a>(s: &[u8], mem: &'a mut Memory) -> Result<&'a [u8], Misspelt> {
     let mut n = 0;
     let mut bytes = s.iter();
