@@ -26,7 +26,14 @@ fn judge(
 ) -> Result<(), CheckError>
     ensures { refusal result ≡ fitting (judged (choice selector table.now) (lent state memories.now)) fits }
 {
-    ingress::judge(selector, state, table, memories)?;
+    ingress::judge(
+        selector,
+        state,
+        table,
+        memories.buf.len(),
+        memories.slot.len(),
+        memories.queue.len(),
+    )?;
     if !fits {
         return Err(CheckError::BadState);
     }

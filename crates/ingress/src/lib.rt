@@ -8,7 +8,7 @@ ghost use Rattle.selector.specs.Selector.{choice};
 ghost use Rattle.turn.specs.Turn.{lent, SamePlaces};
 ghost use Rattle.ingress.specs.declared.AdvanceError.TheVariants as advances;
 ghost use Rattle.ingress.specs.declared.WriteError.TheVariants as takes;
-ghost use Rattle.ingress.specs.Ingress.{run, ran, is_sound, table_error, refusal, judged, advance_error, advanced, result_of, write_once, writing, write_on, write_error, written, taking, cleared};
+ghost use Rattle.ingress.specs.Ingress.{run, ran, is_sound, table_error, refusal, checks, advance_error, advanced, result_of, write_once, writing, write_on, write_error, written, taking, cleared};
 ghost use Rattle.ingress.specs.Story.{Keeps, committed_bytes, NothingLeft, NothingAfter, took_of};
 
 use selector::Selector;
@@ -70,26 +70,23 @@ impl From<TableError> for CheckError {
     }
 }
 
-// Refusals 1, 2 and 3 in this order, by what the digester says of the table.
+// Refusals 1, 2 and 3 in this order, by what the digester says of the table, for memories of these lengths.
 #[tactic(auto, unfolding(crate::specs::Ingress::checks, crate::specs::Ingress::under_table))]
 pub fn judge(
     selector: Selector,
     state: State,
     table: &[u8],
-    memories: &Memories<'_>,
+    buf: usize,
+    slot: usize,
+    queue: usize,
 ) -> Result<(), CheckError>
-    ensures { refusal result ≡ judged (choice selector table.now) (lent state memories.now) }
+    ensures { refusal result ≡ checks (choice selector table.now).rules state buf slot queue }
 {
-    if digest::LONGEST < memories.buf.len() {
+    if digest::LONGEST < buf {
         return Err(CheckError::TooLong);
     }
     selector::check(selector, table)?;
-    if !is_sound(
-        state,
-        memories.buf.len(),
-        memories.slot.len(),
-        memories.queue.len(),
-    ) {
+    if !is_sound(state, buf, slot, queue) {
         return Err(CheckError::BadState);
     }
     Ok(())
@@ -139,7 +136,14 @@ pub fn advance(
     ensures nothing_left { NothingLeft (choice selector table.now) (result_of state result memories.new) }
     ensures places { SamePlaces memories.old memories.new }
 {
-    judge(selector, state, table, memories)?;
+    judge(
+        selector,
+        state,
+        table,
+        memories.buf.len(),
+        memories.slot.len(),
+        memories.queue.len(),
+    )?;
     let end = state.end;
     if memories.buf.len() - end < commit {
         return Err(AdvanceError::NoRoom);
@@ -265,7 +269,14 @@ pub fn write(
     ensures nothing_left { NothingAfter (choice selector table.now) (taking state result memories.new) }
     ensures places { SamePlaces memories.old memories.new }
 {
-    judge(selector, state, table, memories)?;
+    judge(
+        selector,
+        state,
+        table,
+        memories.buf.len(),
+        memories.slot.len(),
+        memories.queue.len(),
+    )?;
     Ok(write_on(selector, table, state, piece, memories)?)
 }
 
