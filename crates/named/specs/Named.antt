@@ -3,8 +3,8 @@ use Rattle.std.specs.Prelude.{Option, Some, Result, ◌≡◌, Bool, true, false
 use Rattle.std.specs.declared.ops.ControlFlow.TheVariants.{Continue}
 use Rattle.std.proofs.Math.Path.{sym, ap}
 use Rattle.std.proofs.Common.{◌∙◌, ⊎_elim, arith}
-use borrow.Author.Tests.{lt-ltb, le-ltb, eqb-false}
-use Rattle.outcome.specs.Outcome.{answered, refused}
+use borrow.Author.Tests.{lt-leb, lt-ltb, le-ltb, eqb-false}
+use Rattle.outcome.specs.Outcome.{Outcome, answered, refused}
 use Rattle.text.specs.Bytes.{bytes}
 use Rattle.text.specs.Logic.{and_both, order}
 use Rattle.text.specs.Text.{find_in}
@@ -26,10 +26,13 @@ use Rattle.items.specs.Rules.{first_connect}
 use Rattle.items.specs.Connect.{Least, least_connect, begun_fits}
 use Rattle.answers.specs.declared.Answer.{Answer}
 use Rattle.answers.specs.Answer.{is_notice}
-use Rattle.items.specs.Hints.{first_from, prompt_bytes, numerics, hinted, onward, firsts, all_idle}
+use Rattle.items.specs.Hints.{first_place, found_hint, first_from, prompt_bytes, numerics, hinted, onward, firsts, all_idle}
 use Rattle.items.specs.declared.First.{First}
 use Rattle.items.specs.declared.First.TheVariants as first
 use Rattle.items.specs.declared.Hints.{Hints}
+use Rattle.numeric.specs.Heard.{HeardIn}
+use Rattle.numeric.specs.Numeric.{digest}
+use Rattle.numeric.specs.Calls.{digest_hears}
 use Rattle.slot.specs.Slot.{signalled}
 use Rattle.slot.specs.Slot as slots
 use Rattle.slot.specs.declared.Slot.{Slot}
@@ -74,6 +77,11 @@ all_idle_lem s e p h n l b q z =
     let on : (x : First) (d : ℕ) → leb d n ≡ true → first_from x s e p d ≡ Continue d = λ x d w. covered x s e p d n l w in
     rw (on first.Greater h.greater i.0, on first.Sign h.sign j.0, on first.Cme h.cme k.0, on first.Cms h.cms o.0, on first.Modem h.modem o.1)
 
+-- items: what a rule gives from e on, by its first place, where its hint doesn't cover e
+pub at_found_lem : (x : First) (s : List ℕ) (e : ℕ) (p : Places) (d n : ℕ) → n ≡ length s - e → n < d → (r : Option ℕ) → r ≡ first_place x s e p → found_hint x s r ≡ first_from x s e p d
+unfolding first_from
+at_found_lem x s e p d n z h r q = ap (found_hint x s) q ∙ rw (lt-leb d (length s - e) (omega arith))
+
 -- items: the records with a mark, from one that is found on
 module _ (m : Mark) (t : List ℕ) (at n : ℕ) (q : Option (Record × ℕ)) (p : q ≡ next_of m t at n) (r : Record) (k : ℕ) (e : q ≡ Some (r, k)) where
   pub first_and_rest : entries m t at n ≡ entry_of (token_of t r) k ∷ entries m t (r.place + r.len) (k + 1)
@@ -91,6 +99,10 @@ module _ (s : List ℕ) (e : ℕ) (d : Digester) (x : Lines) (w : FirstLines s e
 
     pub connect_inside : (e ≤ k) × (k + 10 ≤ length s)
     connect_inside = (least.after, begun_fits d s k least.here)
+
+-- numeric: demand 3's first half holds of whatever equals the digest
+pub hears : (t s : List ℕ) (r : Outcome Answer) → r ≡ digest t s → (r ≡ digest t s) × HeardIn s r
+hears t s r e = (e, rw e (digest_hears t s))
 
 -- turn: where an answer that is no notice goes
 module _ (s : State) (a : Answer) (p m n : List ℕ) (h : is_notice a.kind ≡ false) (r : Result Slot SlotError) (k : List ℕ) (e : slots.after (slots.outcome r) k ≡ signalled s.slot a p m) where
