@@ -1,7 +1,7 @@
 -- One law after the other, by the crate whose definitions it is about.
-use Rattle.std.specs.Prelude.{Option, Some, Result, ◌≡◌, Bool, true, false, ◌||◌, List, [], ◌∷◌, ℕ, ◌+◌, ◌-◌, ◌*◌, ◌≤◌, ◌<◌, length, get_or, eqb, leb}
-use Rattle.std.specs.declared.ops.ControlFlow.TheVariants.{Continue}
-use Rattle.std.proofs.Math.Path.{sym, ap}
+use Rattle.std.specs.Prelude.{Option, Some, None, Result, ◌≡◌, Bool, true, false, ◌||◌, List, [], ◌∷◌, ℕ, ◌+◌, ◌-◌, ◌*◌, ◌≤◌, ◌<◌, length, get_or, eqb, leb}
+use Rattle.std.specs.declared.ops.ControlFlow.TheVariants.{Break, Continue}
+use Rattle.std.proofs.Math.Path.{refl, sym, ap}
 use Rattle.std.proofs.Common.{◌∙◌, ⊎_elim, arith}
 use borrow.Author.Tests.{lt-leb, lt-ltb, le-ltb, eqb-false}
 use Rattle.outcome.specs.Outcome.{Outcome, answered, refused}
@@ -33,14 +33,16 @@ use Rattle.items.specs.declared.Hints.{Hints}
 use Rattle.numeric.specs.Heard.{HeardIn}
 use Rattle.numeric.specs.Numeric.{digest}
 use Rattle.numeric.specs.Calls.{digest_hears}
+use Rattle.level.specs.Level.{unless}
 use Rattle.slot.specs.Slot.{signalled}
 use Rattle.slot.specs.Slot as slots
 use Rattle.slot.specs.declared.Slot.{Slot}
 use Rattle.slot.specs.declared.SlotError.{SlotError}
-use Rattle.queue.specs.Queue.{ours, older, capacity_of, start_in, in_bounds, after, held_from, waiting}
+use Rattle.queue.specs.Queue.{ours, older, capacity_of, start_in, in_bounds, record_good, after, held_from, waiting}
 use Rattle.queue.specs.Laws.{bounds_count}
 use Rattle.queue.specs.declared.Queue.{Queue}
 use Rattle.convert.specs.Convert.{held_good, laid, converted}
+use Rattle.convert.specs.Laws.{Copied, good_here}
 use Rattle.turn.specs.declared.State.{State}
 use Rattle.turn.specs.Turn.{to_slot, deliver}
 
@@ -87,6 +89,15 @@ module _ (m : Mark) (t : List ℕ) (at n : ℕ) (q : Option (Record × ℕ)) (p 
   pub first_and_rest : entries m t at n ≡ entry_of (token_of t r) k ∷ entries m t (r.place + r.len) (k + 1)
   first_and_rest = (next_first m t at n q p r k e).is
 
+-- level: what `unless` handed on of a rule
+pub stopped : (t : Option Answer) (a : Answer) → Break a ≡ unless t → t ≡ Some a
+stopped (Some b) a h = cc
+stopped None a h = cc
+
+pub went_on : (t : Option Answer) → Continue tt ≡ unless t → t ≡ None
+went_on (Some b) h = cc
+went_on None h = refl
+
 -- level: CONNECT's first place is at or after e, and its head fits
 module _ (s : List ℕ) (e : ℕ) (d : Digester) (x : Lines) (w : FirstLines s e x) (r : Option ℕ) (q : r ≡ connect_place d (line_in s e x)) where
   first_is : r ≡ first_connect d s e
@@ -109,6 +120,11 @@ module _ (s : State) (a : Answer) (p m n : List ℕ) (h : is_notice a.kind ≡ f
   pub to_slot_lem : (x : Result Slot SlotError) → r ≡ x → to_slot s n (slots.after (slots.outcome x) k) ≡ deliver s a p m n
   unfolding deliver
   to_slot_lem x q = ap (λ (y : Result Slot SlotError). to_slot s n (slots.after (slots.outcome y) k)) (sym q) ∙ ap (to_slot s n) e ∙ rw h
+
+-- convert: a record that is still to be copied is good
+pub copied_good : (m : List ℕ) (x : Queue) (cap : ℕ) → cap ≡ capacity_of older (length m) → in_bounds cap x ≡ true → (base seen : ℕ) → seen < x.count → (k now : List ℕ) (to : ℕ) → Copied m k x.start x.count cap base seen to now → record_good older m base ≡ true
+copied_good m x cap c b base seen some k now to s =
+    (and_both (record_good older m base) (held_good older m cap x.start (seen + 1) (x.count - (seen + 1))) (sym (good_here m x cap c b base seen s.here some) ∙ s.good)).0
 
 -- convert: its ways out
 module _ (x : Queue) (m k : List ℕ) (cap : ℕ) (c : cap ≡ capacity_of older (length m)) where
