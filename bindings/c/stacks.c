@@ -77,7 +77,7 @@ static void on(size_t size, void (*call)(void), uint32_t expected, const char *w
     must(munmap(pages, page + size) == 0 && close(zeros) == 0, "a stack could not be given back");
 }
 
-/* The list is the text over and over, in so many elements, and an empty one. */
+/* Makes the list the text so many times: as many elements, and an empty one behind the last comma. */
 static void lists_of(const char *text, size_t n)
 {
     list_len = n * strlen(text);
@@ -108,5 +108,6 @@ int main(void)
     on(LIST, read_list, WX_DONE, "a list of ranges");
     lists_of("\"a\",", WX_ELEMENTS);
     on(LIST, read_list, WX_TOO_MANY, "a list that is too long");
+    puts("stacks: each call did with the stack that walumbeex.h says");
     return 0;
 }
