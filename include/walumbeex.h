@@ -135,8 +135,8 @@
  *
  * The stack, as it was measured on x86-64; no proof covers it, and where it is too short the program ends by SIGSEGV. A digest goes from level to level of the retry in
  * a loop: it took 1.4 KB at most, on whatever input, and an advance or a write 2.2 KB, with findings or without. wx_say digests the bytes that it writes, in 4 KB of its
- * own: 4.9 KB. WX_NUMERIC takes less than either. wx_list_read recurses once for each element, of which there are at most WX_ELEMENTS: it took 192 bytes for each, and 49
- * KB at most, whatever the payload. Give a thread 8 KB, 12 KB where it writes answers, and 64 KB where it reads lists.
+ * own: 5.3 KB. WX_NUMERIC takes less than either. wx_list_read recurses once for each element, of which there are at most WX_ELEMENTS: it took 144 bytes for each, and 37
+ * KB at most, whatever the payload. Give a thread 8 KB, 12 KB where it writes answers, and 64 KB where it reads lists (the tests run that).
  *
  * Work, as docs/BENCHMARKS.md has it, which was counted with an older kit: a digest's grows with its input, and no faster: twice the input takes at most 2.2 times
  * the instructions (at most some 1.2 million for 4,096 bytes). An advance or write digests again all that is in the buffer, so that a stream handed over in pieces

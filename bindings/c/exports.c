@@ -272,7 +272,7 @@ static void digest_numeric_refusals(void)
     }
 }
 
-/* The deepest retry; the test gives it the stack that the header says. */
+/* The deepest retry; stacks.c gives it the stack that the header says. */
 static void deepest(uint32_t digester)
 {
     static uint8_t crlfs[WX_LONGEST];
@@ -1422,7 +1422,7 @@ static void feed_refusals(void)
     STATE("the rest of the line", 0, 1, WX_NO_CARRIER, 0, 0, 0, 0, 0, 0, 0);
 }
 
-/* The deepest retry through a write with findings, which digests all under a table; with the stack that the header says. */
+/* The deepest retry through a write with findings, which digests all under a table. */
 static void feed_deepest(void)
 {
     static const uint8_t table[] = TABLE;
@@ -1776,7 +1776,7 @@ static void say_lengths(void)
     say_into(WX_LONGEST, &s, WX_NOT_READ_BACK, "", 0);
 }
 
-/* The deepest retry, of a notice that is all CRLFs; with the stack that the header says. */
+/* The deepest retry, of a notice that is all CRLFs. */
 static void say_deepest(void)
 {
     static char crlfs[WX_LONGEST - 4];

@@ -139,9 +139,6 @@ module _ (m : List ℕ) (x : Queue) (cap : ℕ) (c : cap ≡ capacity_of older (
     pub seen_one : Seen m start count cap base seen → record_good older m base ≡ true → (next : ℕ) → next ≡ (if ltb (base + 132) (132 * cap) then base + 132 else 0) → Seen m start count cap next (seen + 1)
     seen_one s g next e = record { here = walk_on base seen s.here some next e; rest = s.rest ∙ good_here base seen s.here some ∙ rw g }
 
-    pub copied_good : (k now : List ℕ) (to : ℕ) → Copied m k start count cap base seen to now → record_good older m base ≡ true
-    copied_good k now to s = (and_both (record_good older m base) (held_good older m cap start (seen + 1) (count - (seen + 1))) (sym (good_here base seen s.here some) ∙ s.good)).0
-
     pub copied_one : (k now : List ℕ) (to : ℕ) → Copied m k start count cap base seen to now → (d : List ℕ) → d ≡ recorded ours (get_or m (base + 2) 0) (part_of m (base + 4) (length_at older m base)) to now → (next : ℕ) → next ≡ (if ltb (base + 132) (132 * cap) then base + 132 else 0) → Copied m k start count cap next (seen + 1) (to + 1029) d
     unfolding laid
     copied_one k now to s d v next e =

@@ -2,7 +2,7 @@
 // A page is the memory and where the text in it ends. Where a text doesn't fit nothing changes, and the page ends where it ended.
 #![tactic(auto)]
 
-ghost use Rattle.std.specs.Prelude.{◌≡◌, ◌≤◌, ◌<◌, take, drop};
+ghost use Rattle.std.specs.Prelude.{◌≡◌, ◌≤◌, ◌<◌, length, take, drop};
 ghost use Rattle.ink.specs.Ink.{inked, ink, decimal, hex_digit, hex};
 
 // The hexadecimal digits, in upper case.
@@ -52,6 +52,7 @@ impl Page<'_> {
     pub fn words(&mut self, text: &[u8])
         ensures is { inked self.new.out.now self.new.at ≡ ink self.old.out.now self.old.at text.now }
         ensures place { self.new.out.ghost_name ≡ self.old.out.ghost_name }
+        ensures long { length self.new.out.now ≡ length self.old.out.now }
     {
         let room = self.out.len();
         if room < self.at || room - self.at < text.len() {
@@ -66,6 +67,7 @@ impl Page<'_> {
     pub fn decimal(&mut self, n: u64)
         ensures is { inked self.new.out.now self.new.at ≡ ink self.old.out.now self.old.at (decimal n) }
         ensures place { self.new.out.ghost_name ≡ self.old.out.ghost_name }
+        ensures long { length self.new.out.now ≡ length self.old.out.now }
     {
         let mut d = [0; 20];
         let k = digits(n, &mut d);
@@ -77,6 +79,7 @@ impl Page<'_> {
     pub fn hex(&mut self, p: &[u8])
         ensures is { inked self.new.out.now self.new.at ≡ ink self.old.out.now self.old.at (hex p.now) }
         ensures place { self.new.out.ghost_name ≡ self.old.out.ghost_name }
+        ensures long { length self.new.out.now ≡ length self.old.out.now }
     {
         let room = self.out.len();
         if room < self.at || (room - self.at) / 2 < p.len() {

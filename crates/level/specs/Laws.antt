@@ -5,7 +5,6 @@ use Rattle.std.proofs.Common.{◌∙◌, ltb-false}
 use mathlib.Core.List.{List, []}
 use native.Mathlib.Omega.{arith}
 use Rattle.std.proofs.Math.ListN.{length}
-use Rattle.std.specs.declared.ops.ControlFlow.TheVariants.{Break, Continue}
 use Rattle.text.specs.Text.{is_blank, past, trimmed_part, stands, find_in}
 use Rattle.text.specs.Laws.{found_at, past_bounds, stands_fits}
 use Rattle.text.specs.declared.Blanks.TheVariants as blanks
@@ -32,16 +31,7 @@ use Rattle.answers.specs.Laws.{text_empty}
 use Rattle.items.specs.Rules.{or_else, found_or, skipped, heard, notices, success, line_success, through_crlf, connect_at, first_connect, connected, connect_success, line_tried}
 use Rattle.items.specs.Laws.{part_in}
 use Rattle.items.specs.Connect.{Least, least_connect, connect_bare, begun_fits, connect_begun}
-use Rattle.level.specs.Level.{unless, Unless, SameCustoms}
-
--- what `unless` handed on of a rule
-pub stopped : (t : Option Answer) (a : Answer) → Break a ≡ unless t → t ≡ Some a
-stopped (Some b) a h = cc
-stopped None a h = cc
-
-pub went_on : (t : Option Answer) → Continue tt ≡ unless t → t ≡ None
-went_on (Some b) h = cc
-went_on None h = refl
+use Rattle.level.specs.Level.{Unless, SameCustoms}
 
 -- rule 1 stays within s
 found_or_le : (s : List ℕ) (a : ℕ) (r : Option ℕ) → find_in crlf s a ≡ r → a ≤ length s → found_or r a ≤ length s

@@ -1,4 +1,4 @@
--- The rules of a level in their order, with the hints from the levels above. No promise of a public call of 01 cites it; that it says what rules 1 to 5 say is `level_says`.
+-- The rules of a level in their order, with the hints from the levels above. No promise of a public call of 01 cites it; that it says what rules 1 to 5 say is `level_says`, and of a level below `level_below_says`.
 use Rattle.std.specs.Prelude.{Option, Some, None, ◌≡◌, Bool, true, false, List, [], ℕ, ◌≤◌, length}
 use Rattle.std.specs.declared.ops.ControlFlow.{ControlFlow}
 use Rattle.std.specs.declared.ops.ControlFlow.TheVariants.{Break, Continue}

@@ -1,4 +1,4 @@
--- The levels of the retry: hints and what is gone hold in the suffix that the retry takes (`handed`), and a level says what rules 1 to 5 say (`level_says`).
+-- The levels of the retry: hints and what is gone hold in the suffix that the retry takes (`handed`), and a level says what rules 1 to 5 say (`level_says`, `level_below_says`).
 -- The one real proof is `custom_whole`: a custom prompt that ends a suffix ends the whole.
 use Rattle.std.specs.Prelude.{Option, Some, None, ◌≡◌, Bool, true, false, ℕ, ◌+◌, ◌-◌, ◌≤◌, ◌<◌, length, get_or, take, drop, leb}
 use Rattle.std.proofs.Math.Path.{refl}

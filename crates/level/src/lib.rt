@@ -72,7 +72,10 @@ fn notices(table: &[u8], s: &[u8], e: usize) -> ControlFlow<Answer, bool>
     let mut others = false;
     for (r, k) in table::records(table, Mark::Notice) {
         let end = r.place + r.len;
-        unless(one_notice(s, e, ending, &table[r.place..end], k as u32))?;
+        // no `unless`: it would carry the place of an answer from record to record
+        if let Some(a) = one_notice(s, e, ending, &table[r.place..end], k as u32) {
+            return ControlFlow::Break(a);
+        }
         others |= n < k;
         at = end;
         n = k + 1;

@@ -156,6 +156,8 @@ fn number_at(s: &[u8], at: usize, depth: usize, n: usize) -> Result<Element, Lis
 }
 
 // What stands at `at`, where neither a space nor an opening bracket does: a number or a range, a string, or an empty element.
+// It is compiled into both readings: called, it hands an element over by memory, for each element twice, and the recursion makes room for that.
+#[inline(always)]
 #[tactic(auto, using(crate::specs::Calls::told_byte, crate::specs::Calls::told_digit, crate::specs::Calls::bare))]
 fn plain_at(s: &[u8], at: usize, depth: usize, n: usize) -> Result<Element, ListError>
     requires { (at ≤ length s.now) × ((get_or s.now at 0 ≡ 32 → ⊥) × (get_or s.now at 0 ≡ 40 → ⊥)) }

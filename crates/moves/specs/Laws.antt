@@ -134,8 +134,11 @@ moved_still b e = go (leb e (length b)) refl
     go false q = sym (moved_past b 0 e (omega arith) (leb-false e (length b) q))
 
 -- one turn: what is copied so far, with one byte more
+pub paste_more : (d : List ℕ) (at : ℕ) (l : List ℕ) (j x : ℕ) → x ≡ get_or l j 0 → at + j < length d → j < length l → set (paste d at l j) (at + j) x ≡ paste d at l (j + 1)
+paste_more d at l j x e h g = rw (e, add-one) (paste-suc d at l j 0 h g)
+
 pub front_more : (d l : List ℕ) (j x : ℕ) → x ≡ get_or l j 0 → j < length d → j < length l → set (paste d 0 l j) j x ≡ paste d 0 l (j + 1)
-front_more d l j x e h g = let i : j ≡ 0 + j = omega arith in ap (λ (k : ℕ). set (paste d 0 l j) k x) i ∙ rw (e, add-one) (paste-suc d 0 l j 0 (omega arith) g)
+front_more d l j x e h g = let i : j ≡ 0 + j = omega arith in ap (λ (k : ℕ). set (paste d 0 l j) k x) i ∙ paste_more d 0 l j x e (omega arith) g
 
 -- a byte that no turn has reached is what it was
 pub paste_later : (d l : List ℕ) (j k : ℕ) → j ≤ length l → j ≤ k → get_or (paste d 0 l j) k 0 ≡ get_or d k 0

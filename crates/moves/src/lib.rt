@@ -11,7 +11,10 @@ pub fn put(mem: &mut [u8], at: usize, p: &[u8])
     ensures { mem.new ≡ put mem.old at p.now }
 {
     if at <= mem.len() && p.len() <= mem.len() - at {
-        mem[at..at + p.len()].copy_from_slice(p);
+        // byte by byte: for `copy_from_slice` an archive would need the C library's memmove
+        for i in 0..p.len() {
+            mem[at + i] = p[i];
+        }
     }
 }
 

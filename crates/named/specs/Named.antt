@@ -1,10 +1,10 @@
 -- One law after the other, by the crate whose definitions it is about.
-use Rattle.std.specs.Prelude.{Option, Some, Result, ◌≡◌, Bool, true, false, ◌||◌, List, [], ◌∷◌, ℕ, ◌+◌, ◌-◌, ◌*◌, ◌≤◌, ◌<◌, length, get_or, eqb, leb}
-use Rattle.std.specs.declared.ops.ControlFlow.TheVariants.{Continue}
-use Rattle.std.proofs.Math.Path.{sym, ap}
+use Rattle.std.specs.Prelude.{Option, Some, None, Result, ◌≡◌, Bool, true, false, ◌||◌, List, [], ◌∷◌, ℕ, ◌+◌, ◌-◌, ◌*◌, ◌≤◌, ◌<◌, length, get_or, eqb, leb}
+use Rattle.std.specs.declared.ops.ControlFlow.TheVariants.{Break, Continue}
+use Rattle.std.proofs.Math.Path.{refl, sym, ap}
 use Rattle.std.proofs.Common.{◌∙◌, ⊎_elim, arith}
-use borrow.Author.Tests.{lt-ltb, le-ltb, eqb-false}
-use Rattle.outcome.specs.Outcome.{answered, refused}
+use borrow.Author.Tests.{lt-leb, lt-ltb, le-ltb, eqb-false}
+use Rattle.outcome.specs.Outcome.{Outcome, answered, refused}
 use Rattle.text.specs.Bytes.{bytes}
 use Rattle.text.specs.Logic.{and_both, order}
 use Rattle.text.specs.Text.{find_in}
@@ -26,18 +26,23 @@ use Rattle.items.specs.Rules.{first_connect}
 use Rattle.items.specs.Connect.{Least, least_connect, begun_fits}
 use Rattle.answers.specs.declared.Answer.{Answer}
 use Rattle.answers.specs.Answer.{is_notice}
-use Rattle.items.specs.Hints.{first_from, prompt_bytes, numerics, hinted, onward, firsts, all_idle}
+use Rattle.items.specs.Hints.{first_place, found_hint, first_from, prompt_bytes, numerics, hinted, onward, firsts, all_idle}
 use Rattle.items.specs.declared.First.{First}
 use Rattle.items.specs.declared.First.TheVariants as first
 use Rattle.items.specs.declared.Hints.{Hints}
+use Rattle.numeric.specs.Heard.{HeardIn}
+use Rattle.numeric.specs.Numeric.{digest}
+use Rattle.numeric.specs.Calls.{digest_hears}
+use Rattle.level.specs.Level.{unless}
 use Rattle.slot.specs.Slot.{signalled}
 use Rattle.slot.specs.Slot as slots
 use Rattle.slot.specs.declared.Slot.{Slot}
 use Rattle.slot.specs.declared.SlotError.{SlotError}
-use Rattle.queue.specs.Queue.{ours, older, capacity_of, start_in, in_bounds, after, held_from, waiting}
+use Rattle.queue.specs.Queue.{ours, older, capacity_of, start_in, in_bounds, record_good, after, held_from, waiting}
 use Rattle.queue.specs.Laws.{bounds_count}
 use Rattle.queue.specs.declared.Queue.{Queue}
 use Rattle.convert.specs.Convert.{held_good, laid, converted}
+use Rattle.convert.specs.Laws.{Copied, good_here}
 use Rattle.turn.specs.declared.State.{State}
 use Rattle.turn.specs.Turn.{to_slot, deliver}
 
@@ -74,10 +79,24 @@ all_idle_lem s e p h n l b q z =
     let on : (x : First) (d : ℕ) → leb d n ≡ true → first_from x s e p d ≡ Continue d = λ x d w. covered x s e p d n l w in
     rw (on first.Greater h.greater i.0, on first.Sign h.sign j.0, on first.Cme h.cme k.0, on first.Cms h.cms o.0, on first.Modem h.modem o.1)
 
+-- items: what a rule gives from e on, by its first place, where its hint doesn't cover e
+pub at_found_lem : (x : First) (s : List ℕ) (e : ℕ) (p : Places) (d n : ℕ) → n ≡ length s - e → n < d → (r : Option ℕ) → r ≡ first_place x s e p → found_hint x s r ≡ first_from x s e p d
+unfolding first_from
+at_found_lem x s e p d n z h r q = ap (found_hint x s) q ∙ rw (lt-leb d (length s - e) (omega arith))
+
 -- items: the records with a mark, from one that is found on
 module _ (m : Mark) (t : List ℕ) (at n : ℕ) (q : Option (Record × ℕ)) (p : q ≡ next_of m t at n) (r : Record) (k : ℕ) (e : q ≡ Some (r, k)) where
   pub first_and_rest : entries m t at n ≡ entry_of (token_of t r) k ∷ entries m t (r.place + r.len) (k + 1)
   first_and_rest = (next_first m t at n q p r k e).is
+
+-- level: what `unless` handed on of a rule
+pub stopped : (t : Option Answer) (a : Answer) → Break a ≡ unless t → t ≡ Some a
+stopped (Some b) a h = cc
+stopped None a h = cc
+
+pub went_on : (t : Option Answer) → Continue tt ≡ unless t → t ≡ None
+went_on (Some b) h = cc
+went_on None h = refl
 
 -- level: CONNECT's first place is at or after e, and its head fits
 module _ (s : List ℕ) (e : ℕ) (d : Digester) (x : Lines) (w : FirstLines s e x) (r : Option ℕ) (q : r ≡ connect_place d (line_in s e x)) where
@@ -92,11 +111,20 @@ module _ (s : List ℕ) (e : ℕ) (d : Digester) (x : Lines) (w : FirstLines s e
     pub connect_inside : (e ≤ k) × (k + 10 ≤ length s)
     connect_inside = (least.after, begun_fits d s k least.here)
 
+-- numeric: demand 3's first half holds of whatever equals the digest
+pub hears : (t s : List ℕ) (r : Outcome Answer) → r ≡ digest t s → (r ≡ digest t s) × HeardIn s r
+hears t s r e = (e, rw e (digest_hears t s))
+
 -- turn: where an answer that is no notice goes
 module _ (s : State) (a : Answer) (p m n : List ℕ) (h : is_notice a.kind ≡ false) (r : Result Slot SlotError) (k : List ℕ) (e : slots.after (slots.outcome r) k ≡ signalled s.slot a p m) where
   pub to_slot_lem : (x : Result Slot SlotError) → r ≡ x → to_slot s n (slots.after (slots.outcome x) k) ≡ deliver s a p m n
   unfolding deliver
   to_slot_lem x q = ap (λ (y : Result Slot SlotError). to_slot s n (slots.after (slots.outcome y) k)) (sym q) ∙ ap (to_slot s n) e ∙ rw h
+
+-- convert: a record that is still to be copied is good
+pub copied_good : (m : List ℕ) (x : Queue) (cap : ℕ) → cap ≡ capacity_of older (length m) → in_bounds cap x ≡ true → (base seen : ℕ) → seen < x.count → (k now : List ℕ) (to : ℕ) → Copied m k x.start x.count cap base seen to now → record_good older m base ≡ true
+copied_good m x cap c b base seen some k now to s =
+    (and_both (record_good older m base) (held_good older m cap x.start (seen + 1) (x.count - (seen + 1))) (sym (good_here m x cap c b base seen s.here some) ∙ s.good)).0
 
 -- convert: its ways out
 module _ (x : Queue) (m k : List ℕ) (cap : ℕ) (c : cap ≡ capacity_of older (length m)) where

@@ -69,13 +69,20 @@ fn all_plain(t: &[u8]) -> bool
     requires { (1 ≤ length t.now) × (length t.now ≤ 32) }
     ensures { result ≡ all_plain t.now }
 {
-    match t.len() {
-        16.. => ends_plain::<16>(t),
-        8.. => ends_plain::<8>(t),
-        4.. => ends_plain::<4>(t),
-        2.. => ends_plain::<2>(t),
-        _ => ends_plain::<1>(t),
+    let n = t.len();
+    if 16 <= n {
+        return ends_plain::<16>(t);
     }
+    if 8 <= n {
+        return ends_plain::<8>(t);
+    }
+    if 4 <= n {
+        return ends_plain::<4>(t);
+    }
+    if 2 <= n {
+        return ends_plain::<2>(t);
+    }
+    ends_plain::<1>(t)
 }
 
 // A text has 1 to 32 bytes, each 0x20 to 0x7E, the first and the last no space.
@@ -127,18 +134,21 @@ fn record_at(t: &[u8], at: usize) -> Read
     ensures { result ≡ record_at t.now at }
 {
     if t.len() <= at {
-        Read::End
-    } else if text::matches_at(t, at, b"UR") {
-        text_at(t, at + 2, Mark::Notice, 0)
-    } else if text::matches_at(t, at, b"CS") {
-        text_at(t, at + 2, Mark::Success, 0)
-    } else if text::matches_at(t, at, b"CE") {
-        text_at(t, at + 2, Mark::Error, 0)
-    } else if text::matches_at(t, at, b"CP") {
-        prompt_at(t, at + 2)
-    } else {
-        Read::Faulty
+        return Read::End;
     }
+    if text::matches_at(t, at, b"UR") {
+        return text_at(t, at + 2, Mark::Notice, 0);
+    }
+    if text::matches_at(t, at, b"CS") {
+        return text_at(t, at + 2, Mark::Success, 0);
+    }
+    if text::matches_at(t, at, b"CE") {
+        return text_at(t, at + 2, Mark::Error, 0);
+    }
+    if text::matches_at(t, at, b"CP") {
+        return prompt_at(t, at + 2);
+    }
+    Read::Faulty
 }
 
 // The record that begins at `at`, faulty also where its text breaks a rule.

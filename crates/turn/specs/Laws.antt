@@ -110,7 +110,10 @@ module _ (c : Choice) (w : World) where
 
 -- the memories lent once more, and on
 pub places_same : (m : Memories) → SamePlaces m m
-places_same m = (refl, (refl, refl))
+places_same m = ((refl, (refl, refl)), (refl, (refl, refl)))
 
 pub places_more : (m n k : Memories) → SamePlaces m n → SamePlaces n k → SamePlaces m k
-places_more m n k a b = (a.0 ∙ b.0, (a.1.0 ∙ b.1.0, a.1.1 ∙ b.1.1))
+places_more m n k a b = (
+  (a.0.0 ∙ b.0.0, (a.0.1.0 ∙ b.0.1.0, a.0.1.1 ∙ b.0.1.1)),
+  (a.1.0 ∙ b.1.0, (a.1.1.0 ∙ b.1.1.0, a.1.1.1 ∙ b.1.1.1)),
+)

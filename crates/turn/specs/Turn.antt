@@ -71,9 +71,11 @@ world s b m n = record { state = s; buf = b; slot_memory = m; queue_memory = n }
 abbrev pub lent : State → Memories → World
 lent s m = world s m.buf.now m.slot.now m.queue.now
 
--- each memory is the one that was lent
+-- each memory is the one that was lent, and as long
 abbrev pub SamePlaces : Memories → Memories → Type 0
-SamePlaces m n = (m.buf.ghost_name ≡ n.buf.ghost_name) × ((m.slot.ghost_name ≡ n.slot.ghost_name) × (m.queue.ghost_name ≡ n.queue.ghost_name))
+SamePlaces m n =
+    ((m.buf.ghost_name ≡ n.buf.ghost_name) × ((m.slot.ghost_name ≡ n.slot.ghost_name) × (m.queue.ghost_name ≡ n.queue.ghost_name)))
+    × ((length m.buf.now ≡ length n.buf.now) × ((length m.slot.now ≡ length n.slot.now) × (length m.queue.now ≡ length n.queue.now)))
 
 abbrev pub with_state : World → State → World
 with_state w s = world s w.buf w.slot_memory w.queue_memory

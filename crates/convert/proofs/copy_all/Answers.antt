@@ -1,7 +1,7 @@
 -- `copy_all` meets its contract: round the ring, what is still to be written is what was to be written.
 use Rattle.std.proofs.Common.{refl, ◌∙◌, arith}
 use Rattle.queue.specs.Laws.{bounds_count}
-use Rattle.convert.specs.Laws.{copied_none, copied_good, copied_one, copied_all, start_within, walk_in}
+use Rattle.convert.specs.Laws.{copied_none, copied_one, copied_all, start_within, walk_in}
 use Rattle.convert.proofs.copy_all.Goals as goal
 
 pub overflow_mul-from : goal.overflow_mul-from
@@ -14,10 +14,7 @@ loop-init c =
 
 pub copy-requires : goal.copy-requires
 copy-requires c =
-    record {
-      fitted = (walk_in c.args.old_mem.now c.args.old c.args.cap c.requires.fitted c.requires.bounded _ _ c.loop.invariant.1.here (omega arith)).1;
-      good = copied_good c.args.old_mem.now c.args.old c.args.cap c.requires.fitted c.requires.bounded _ _ (omega arith) _ _ _ c.loop.invariant.1;
-    }
+    (walk_in c.args.old_mem.now c.args.old c.args.cap c.requires.fitted c.requires.bounded _ _ c.loop.invariant.1.here (omega arith)).1
 
 pub next_base-from-requires : goal.next_base-from-requires
 next_base-from-requires c =
