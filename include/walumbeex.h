@@ -134,7 +134,7 @@
  * bindings/c/say.c is a program that prints them.
  *
  * The stack, as it was measured on x86-64; no proof covers it, and where it is too short the program ends by SIGSEGV. A digest goes from level to level of the retry in
- * a loop: it took 1.4 KB at most, on whatever input, and an advance or a write 2.2 KB, with findings or without. wx_say digests the bytes that it writes, in 4 KB of its
+ * a loop: on all that was tried it took 1.7 KB at most, an advance or a write 2.5 KB, and one with findings 3.5 KB. wx_say digests the bytes that it writes, in 4 KB of its
  * own: 5.3 KB. WX_NUMERIC takes less than either. wx_list_read recurses once for each element, of which there are at most WX_ELEMENTS: it took 144 bytes for each, and 37
  * KB at most, whatever the payload. Give a thread 8 KB, 12 KB where it writes answers, and 64 KB where it reads lists (the tests run that).
  *

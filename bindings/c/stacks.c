@@ -1,7 +1,7 @@
 /* stacks: each call does with the stack that include/walumbeex.h says.
  *
  * A call runs on a stack of its own, as long as the header has a caller give a thread. In front of it lies a page that can't be touched, so that a call that takes more
- * ends the program. The inputs are those that take most: the deepest retry, a notice that is all CRLFs, and lists of as many elements as there may be, and of one more.
+ * ends the program. The inputs are those that go deepest: the deepest retry, a notice that is all CRLFs, and lists of as many elements as there may be, and of one more.
  * Status 0: each ran, and answered as it should; 1: a line on standard error says which answered otherwise, or that no such stack could be had. */
 #include "walumbeex.h"
 
